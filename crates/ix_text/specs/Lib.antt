@@ -1,0 +1,7 @@
+pub mod ByteOrder
+pub mod CollectionText
+pub mod Collections
+pub mod StopText
+pub mod Terms
+pub mod TokenLists
+pub mod Windows
