@@ -13,3 +13,7 @@ pub fn stub(x: usize) -> usize
 {
     x
 }
+
+mod sink;
+
+pub use sink::{WriteRefused, flush, put_all};
