@@ -1,6 +1,8 @@
 pub mod ByteOrder
+pub mod CollectionErrors
 pub mod CollectionText
 pub mod Collections
+pub mod Docs
 pub mod StopText
 pub mod Terms
 pub mod TokenLists
