@@ -2,14 +2,8 @@
 //! collection texts and trigrams.
 #![tactic(auto)]
 
-ghost use Rattle.std.specs.Prelude.{◌≡◌};
-ghost use Rattle.ix_text.specs.CollectionText.{IsCollectionText};
-ghost use Rattle.ix_text.specs.Collections.{Collection, IsLawful};
-ghost use Rattle.ix_text.specs.StopText.{IsStopText};
+pub mod memory;
+pub mod stop;
 
-/// A place-holder until the first call stands.
-pub fn stub(x: usize) -> usize
-    ensures { result ≡ x }
-{
-    x
-}
+pub use memory::Memory;
+pub use stop::StopList;
