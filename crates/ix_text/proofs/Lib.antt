@@ -1,1 +1,2 @@
 pub mod StopSetLemmas
+pub mod TermLemmas

@@ -4,6 +4,8 @@
 
 pub mod memory;
 pub mod stop;
+pub mod term;
 
 pub use memory::Memory;
 pub use stop::StopList;
+pub use term::{equal_terms_match, term_of};
