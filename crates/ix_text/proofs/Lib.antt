@@ -1,2 +1,3 @@
 pub mod StopSetLemmas
 pub mod TermLemmas
+pub mod TokenLemmas

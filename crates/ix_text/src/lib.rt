@@ -5,7 +5,9 @@
 pub mod memory;
 pub mod stop;
 pub mod term;
+pub mod token;
 
 pub use memory::Memory;
 pub use stop::StopList;
 pub use term::{equal_terms_match, term_of};
+pub use token::tokens;
