@@ -7,9 +7,14 @@ mod memory;
 mod sink;
 mod stop;
 mod term;
+pub mod memory;
+pub mod stop;
+pub mod term;
+pub mod token;
 
 pub use collection::{Collection, CollectionError, Doc};
 pub use memory::Memory;
 pub use sink::{WriteRefused, flush, put_all};
 pub use stop::StopList;
 pub use term::{equal_terms_match, term_of};
+pub use token::tokens;
