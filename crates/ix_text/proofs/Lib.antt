@@ -2,3 +2,4 @@ pub mod SinkLemmas
 pub mod StopSetLemmas
 pub mod TermLemmas
 pub mod TokenLemmas
+pub mod CollectionLemmas

@@ -1,5 +1,6 @@
 pub mod ByteOrder
 pub mod CollectionErrors
+pub mod CollectionFaults
 pub mod CollectionText
 pub mod Collections
 pub mod Sinks
