@@ -20,7 +20,9 @@ pub fn decode(bytes: &[u8]) -> Result<(u32, usize), VbError>
 
     // The same in words for callers.
     ensures refused { IsErr result ↔ ((n count : ℕ) → ¬ StartsWithCode bytes.now n count) }
-    ensures front { IfOk result (λ r. (bytes.now ≡ code_of r.0 ++ drop r.1 bytes.now) × (r.1 ≡ length (code_of r.0))) }
+    ensures front { IfOk result (λ r. bytes.now ≡ code_of r.0 ++ drop r.1 bytes.now) }
+    ensures count { IfOk result (λ r. r.1 ≡ length (code_of r.0)) }
+    ensures size { IfOk result (λ r. (0 < r.1) × (r.1 ≤ 5) × (r.1 ≤ length bytes.now)) }
     ensures written { (n : ℕ) (rest : List ℕ) → n < 2 ^ 32 → bytes.now ≡ code_of n ++ rest → result ≡ Ok (n, length (code_of n)) }
 {
     read(bytes)

@@ -74,6 +74,7 @@ fn push_digit(digits: &mut ArrayVec<u8, 5>, number: u32)
 pub fn encode(n: u32) -> Code
     ensures is_code { IsCode n result }
     ensures value { result ≡ code_of n }
+    ensures size { (0 < length result) × (length result ≤ 5) }
 {
     let mut bytes = ArrayVec::new();
     push_digit(&mut bytes, n >> 28);
@@ -88,7 +89,7 @@ pub fn encode(n: u32) -> Code
 #[inline]
 pub fn code_len(n: u32) -> usize
     ensures value { result ≡ length (code_of n) }
-    ensures fits { result ≤ 5 }
+    ensures size { (0 < result) × (result ≤ 5) }
 {
     match n {
         0..=0x7f => 1,
