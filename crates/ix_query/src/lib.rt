@@ -1,0 +1,9 @@
+//! The query language: which texts are queries, the tree that each of them stands for, and what a
+//! tree means. A text is cut into lexemes, and these are read by the grammar.
+#![tactic(auto)]
+
+mod error;
+mod lexeme;
+
+pub use error::QueryError;
+pub use lexeme::{Lexeme, Sign};
