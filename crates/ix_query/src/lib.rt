@@ -6,4 +6,4 @@ mod error;
 mod lexeme;
 
 pub use error::QueryError;
-pub use lexeme::{Lexeme, Sign};
+pub use lexeme::{Lexeme, Sign, lexemes};
