@@ -1,4 +1,12 @@
 //! The query language: which texts are queries, the tree that each of them stands for, and what a
+//! tree means. A text is cut into lexemes, and these are read by the grammar.
+#![tactic(auto)]
+
+mod error;
+mod lexeme;
+
+pub use error::QueryError;
+pub use lexeme::{Lexeme, Sign, lexemes};
 //! tree means. `Query::parse` reads a text, and answers its tree or the first fault in it.
 #![tactic(auto)]
 
