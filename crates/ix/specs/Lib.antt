@@ -1,0 +1,5 @@
+pub mod Commands
+pub mod Building
+pub mod Entered
+pub mod LineErrors
+pub mod Lines
