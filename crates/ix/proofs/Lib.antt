@@ -1,4 +1,4 @@
-pub mod Lists
+pub mod EachLemmas
 pub mod Walks
 pub mod Uses
 pub mod NoFault

@@ -12,7 +12,7 @@ use Rattle.ix.specs.Entered.{Entered}
 use Rattle.ix.specs.LineErrors.{SortsError}
 use Rattle.ix.specs.Lines.{IsMatched, Refuses}
 use Rattle.ix.specs.declared.command_line.error.LineError.{LineError}
-use Rattle.ix.proofs.Lists.{both}
+use Rattle.ix.proofs.EachLemmas.{both}
 use Rattle.ix.proofs.NoFault.{entered_unless_fault, is_usual_app}
 
 is_free : is_simple_and_free ix_app ≡ true
@@ -26,8 +26,7 @@ ix_usual = refl
 -- matches with no fault
 pub matched : (a : App) (words : List Text) (m : ArgMatches) → a ≡ ix_app → (is_simple_and_free a ≡ true → fault_of a words ≡ []) → HasMatchesOf a words m → IsMatched words m
 matched a words m is faultless matches =
-    let free : is_simple_and_free a ≡ true = ap is_simple_and_free is ∙ is_free in
-    (
+    let free : is_simple_and_free a ≡ true = ap is_simple_and_free is ∙ is_free in (
       sym (ap (λ b. fault_of b words) is) ∙ faultless free,
       (matches (both (is_simple a) _ free).0).1 ∙ ap (λ b. subcommand_of b words) is,
     )

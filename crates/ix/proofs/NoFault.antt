@@ -12,7 +12,7 @@ use Rattle.clap.specs.Takes.{is_given}
 use Rattle.clap.specs.declared.builder.value_parser.Reading.{Reading}
 use Rattle.clap.proofs.SimpleLemmas.{is_nil}
 use Rattle.ix.specs.Entered.{Each, Entered, FitsShape, RowFits}
-use Rattle.ix.proofs.Lists.{FindsItself, both, each_as, each_both, finds_itself, found, from_all, neither, unlike}
+use Rattle.ix.proofs.EachLemmas.{FindsItself, both, each_as, each_both, finds_itself, found, from_all, neither, unlike}
 use Rattle.ix.proofs.Walks.{KeepsRows, settled_keeps, walk_keeps}
 use Rattle.ix.proofs.Uses.{has_values, uses_fit}
 

@@ -8,7 +8,7 @@ use Rattle.clap.specs.Simple.{App, Shape, label_of}
 use Rattle.clap.specs.Walk.{Row, Rule, Text, answers_to, arg_by_id, first_of}
 use Rattle.clap.specs.Takes.{is_given}
 use Rattle.ix.specs.Entered.{Each, Entered, FitsShape, RowFits, ValuesFit}
-use Rattle.ix.proofs.Lists.{found}
+use Rattle.ix.proofs.EachLemmas.{found}
 use Rattle.ix.proofs.Uses.{same_bytes}
 
 -- the argument with this id has to be there

@@ -14,7 +14,7 @@ use Rattle.clap.specs.declared.builder.value_parser.ValueParser.{ValueParser}
 use Rattle.clap.specs.declared.parser.matches.ValueSource.TheVariants.{CommandLine}
 use Rattle.clap.specs.declared.builder.value_parser.Reading.{Reading}
 use Rattle.ix.specs.Entered.{Each, RowFits, ValuesFit}
-use Rattle.ix.proofs.Lists.{each_append, neither, nor}
+use Rattle.ix.proofs.EachLemmas.{each_append, neither, nor}
 use Rattle.ix.proofs.Walks.{KeepsRows}
 
 pub same_bytes : (a b : Text) → bytes_eq a b ≡ true → a ≡ b
@@ -48,8 +48,7 @@ module _ (c : List Rule) (a : Rule) (self : arg_by_id c a.id ≡ Some a) where
   more_fit values r pass same fits =
       let own : arg_by_id c r.id ≡ Some a = ap (arg_by_id c) (same_bytes r.id a.id same) ∙ self in
       let old = subst (λ (o : Option Rule). IsSomeAnd o (λ b. ValuesFit b r)) own fits in
-      let more : Row = record r { values = r.values ++ values; source = Some (stronger r.source CommandLine) } in
-      (
+      let more : Row = record r { values = r.values ++ values; source = Some (stronger r.source CommandLine) } in (
         own_row more own (record {
           some = omega (arith, length-append r.values values, old.some);
           pass = values_append a.ignore_case (parser_of_value a.parser) r.values values old.pass pass;

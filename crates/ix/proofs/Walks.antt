@@ -11,7 +11,7 @@ use Rattle.clap.specs.Walk.{Held, Names, Outcome, Row, Rule, Step, Text, Waiting
 use Rattle.clap.specs.Faults.{bundle_fault, bundle_step_fault, flag_word_fault, flags_fault, long_fault, option_fault, other_fault, positional_fault, react_fault, settle_fault, short_fault, step_fault, stray_fault, turn_fault, use_fault, walk_fault, word_fault}
 use Rattle.clap.specs.declared.error.kind.ErrorKind.TheVariants as kind
 use Rattle.ix.specs.Entered.{Each}
-use Rattle.ix.proofs.Lists.{found, neither}
+use Rattle.ix.proofs.EachLemmas.{found, neither}
 
 -- a use of the argument that is no fault keeps F of the rows
 abbrev pub KeepsRows : (List Row → Type 0) → Bool → Rule → Type 0

@@ -3,3 +3,4 @@ pub mod Building
 pub mod Entered
 pub mod LineErrors
 pub mod Lines
+pub mod WorkedLines

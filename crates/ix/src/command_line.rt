@@ -8,11 +8,15 @@ ghost use Rattle.ix.specs.Lines.{Holds, IsMatched, Reads, Refuses, texts_of};
 mod commands;
 mod error;
 mod fields;
+#[cfg(test)]
+mod tests;
+mod worked;
 
 use clap::ArgMatches;
 pub use error::LineError;
 use fields::{operand, option};
 use std::alloc::Global;
+pub use worked::worked_lines;
 
 /// What the words ask for: a command with its options and operands. Each text is one of the words,
 /// or the part of one after `=`.

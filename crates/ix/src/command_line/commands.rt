@@ -26,14 +26,13 @@ fn ask<'a>(alloc: Global) -> Result<Command<'a>, AllocError>
 {
     Command::new(alloc, "ask")
         .about("Prints the name of each document that answers a query")
-        .arg(option(
+        .arg(option(alloc, "stop", "FILE", "The file of stop words, one a line"))?
+        .arg(operand(
             alloc,
-            "stop",
-            "FILE",
-            "The words to leave out, separated by white space",
+            "COLLECTION",
+            "The file of documents, each a line with a name, a tab and a text",
         ))?
-        .arg(operand(alloc, "COLLECTION", "The file of documents"))?
-        .arg(operand(alloc, "QUERY", "The query, as one word"))
+        .arg(operand(alloc, "QUERY", "The query, as one argument"))
 }
 
 // `--name VALUE` or `--name=VALUE`, at most once.

@@ -11,7 +11,7 @@ use thiserror::Error;
 #[derive(Debug, Drop, Error)]
 pub enum LineError {
     /// `clap` refuses the words, or they ask for help.
-    #[error("Clap({})", .0.kind())]
+    #[error("Clap({:?})", .0.kind())]
     Clap(clap::Error),
     /// Memory ran out.
     #[error("Memory")]

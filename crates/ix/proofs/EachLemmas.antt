@@ -54,11 +54,10 @@ pub finds_itself : {X : Type 0} (like : X → X → Bool) (xs : List X) → unli
 finds_itself like [] e = tt
 finds_itself {X} like (x ∷ xs) e =
     let parts = both _ _ e in
-    let rest = both _ _ parts.1 in
-    (
+    let rest = both _ _ parts.1 in (
       ap (λ b. cond b (Some x) (find (λ y. like y x) xs)) parts.0,
       each_as (λ y. (not (like x y) ≡ true) × FindsItself like xs y) (FindsItself like (x ∷ xs)) xs (λ y h. go y (like x y) h.0 h.1)
-      (each_both (λ y. not (like x y) ≡ true) (FindsItself like xs) xs (from_all _ xs rest.0) (finds_itself like xs rest.1)),
+          (each_both (λ y. not (like x y) ≡ true) (FindsItself like xs) xs (from_all _ xs rest.0) (finds_itself like xs rest.1)),
     )
   where
     go : (y : X) (b : Bool) → not b ≡ true → find (λ z. like z y) xs ≡ Some y → cond b (Some x) (find (λ z. like z y) xs) ≡ Some y
