@@ -1,0 +1,7 @@
+pub mod EachLemmas
+pub mod Walks
+pub mod Uses
+pub mod NoFault
+pub mod Building
+pub mod Rows
+pub mod Matched

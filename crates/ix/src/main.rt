@@ -1,0 +1,14 @@
+//! The program `ix`.
+#![tactic(auto)]
+
+mod command_line;
+
+use command_line::Line;
+
+fn main(rt: HostRuntime) {
+    let words = ["ask", "c.txt", "red"];
+    let _found = match command_line::read_line(rt.alloc(), words.as_slice()) {
+        Ok(Line::Ask { query, .. }) => query.len(),
+        Err(_) => 0,
+    };
+}
