@@ -1,7 +1,9 @@
 pub mod ByteOrder
+pub mod CollectionErrors
 pub mod CollectionText
 pub mod Collections
 pub mod Sinks
+pub mod Docs
 pub mod StopText
 pub mod Terms
 pub mod TokenLists

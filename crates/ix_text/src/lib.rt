@@ -7,6 +7,10 @@ ghost use Rattle.ix_text.specs.CollectionText.{IsCollectionText};
 ghost use Rattle.ix_text.specs.Collections.{Collection, IsLawful};
 ghost use Rattle.ix_text.specs.StopText.{IsStopText};
 
+mod collection;
+
+pub use collection::{Collection, CollectionError, Doc};
+
 /// A place-holder until the first call stands.
 pub fn stub(x: usize) -> usize
     ensures { result ≡ x }
