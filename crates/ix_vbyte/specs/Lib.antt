@@ -1,0 +1,4 @@
+pub mod Code
+pub mod Reading
+pub mod Decoded
+pub mod Numbers
