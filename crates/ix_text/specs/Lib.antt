@@ -4,6 +4,7 @@ pub mod CollectionText
 pub mod Collections
 pub mod Sinks
 pub mod Docs
+pub mod StopSets
 pub mod StopText
 pub mod Terms
 pub mod TokenLists

@@ -2,10 +2,9 @@
 //! collection texts and trigrams.
 #![tactic(auto)]
 
-ghost use Rattle.std.specs.Prelude.{◌≡◌};
-ghost use Rattle.ix_text.specs.CollectionText.{IsCollectionText};
-ghost use Rattle.ix_text.specs.Collections.{Collection, IsLawful};
-ghost use Rattle.ix_text.specs.StopText.{IsStopText};
+pub mod memory;
+pub mod stop;
+pub mod term;
 
 mod collection;
 
@@ -21,3 +20,6 @@ pub fn stub(x: usize) -> usize
 mod sink;
 
 pub use sink::{WriteRefused, flush, put_all};
+pub use memory::Memory;
+pub use stop::StopList;
+pub use term::{equal_terms_match, term_of};

@@ -121,7 +121,7 @@ same_code : (bytes : List ℕ) (m n j k : ℕ) → StartsWithCode bytes m j → 
 same_code bytes m n j k s t =
     let a = starts_as bytes m j s in
     let b = starts_as bytes n k t in
-    let same = (code_of-apart m n (drop j bytes) (drop k bytes) s.code.fits t.code.fits (sym a.0 ∙ b.0)).0 in
+    let same = (code_of-apart m n (drop j bytes) (drop k bytes) (sym a.0 ∙ b.0)).0 in
     (same, a.1 ∙ ap (λ x. length (code_of x)) same ∙ sym b.1)
 
 fault_once : (bytes : List ℕ) (e f : VbError) → HasFault bytes e → HasFault bytes f → e ≡ f

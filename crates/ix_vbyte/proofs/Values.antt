@@ -1,7 +1,7 @@
 -- What bytes stand for, byte by byte.
 use Rattle.std.proofs.Common.{◌≡◌, ◌≢◌, ℕ, zero, suc, ◌+◌, ◌*◌, ◌/◌, ◌%◌, ◌^◌, ◌<◌, ◌≤◌, List, [], ◌∷◌, ◌++◌, map, get_or, All, refl, sym, ap, ◌∙◌, subst, ap₂, arith, slice_get, Some}
 use Rattle.std.specs.Int.Digits.{number_from_digits, number_from_digits_after, digits_of}
-use Rattle.std.proofs.lemmas.Int.Digits.{number_after_append, number_after_ge, digits_of_step, number_digits_of, all_below_base_digits_of, first_digits_of}
+use Rattle.std.proofs.lemmas.Int.Digits.{number_after_append, number_after_ge, digits_of_step, number_digits_of, all_below_base_digits_of, first_digits_of, same_from_digits_of}
 use Rattle.std.proofs.lemmas.List.{map-append, append-nil, append_assoc}
 use Rattle.std.proofs.lemmas.Nat.{div-mul-add, mod-mul-add}
 use Rattle.std.proofs.lemmas.List.Elements.{All-head, All-tail, All-from_recursion}
@@ -96,6 +96,9 @@ code_of-code n code is =
     ∙ sym (ap (λ xs. xs ++ last ∷ []) (ap (λ m. digits_of 128 m) high ∙ digits_of-value_of front is.ends.unmarked short))
     ∙ ap (λ x. digits_of 128 (n / 128) ++ x ∷ []) (sym low)
 
+digits_unmarked : (n : ℕ) → AreUnmarked (digits_of 128 n)
+digits_unmarked n = All-from_recursion (λ d. d < 128) (digits_of 128 n) (all_below_base_digits_of 128 n (omega arith))
+
 -- neither the digits of a number nor a marked byte begin with 0
 no_zero_after_digits : (n last : ℕ) (digits : List ℕ) → digits ≡ digits_of 128 n → 128 ≤ last → slice_get (digits ++ last ∷ []) 0 ≢ Some 0
 no_zero_after_digits n last [] e marked h = let z : last ≡ 0 = cc in absurd (omega arith)
@@ -114,7 +117,7 @@ IsCode-code_of n small = record {
     front = digits_of 128 (n / 128);
     last = 128 + n % 128;
     parts = refl;
-    unmarked = All-from_recursion (λ d. d < 128) (digits_of 128 (n / 128)) (all_below_base_digits_of 128 (n / 128) (omega arith));
+    unmarked = digits_unmarked (n / 128);
     marked = omega arith;
     byte = omega arith;
   };
@@ -149,7 +152,14 @@ codes_apart m n code other xs ys is also e =
     (sym is.value ∙ ap value_of same ∙ also.value, same, r.2)
 
 -- the same of the function's codes
-pub code_of-apart : (m n : ℕ) (xs ys : List ℕ) → m < 2 ^ 32 → n < 2 ^ 32 → code_of m ++ xs ≡ code_of n ++ ys → (m ≡ n) × (xs ≡ ys)
-code_of-apart m n xs ys small low e =
-    let r = codes_apart m n (code_of m) (code_of n) xs ys (IsCode-code_of m small) (IsCode-code_of n low) e in
-    (r.0, r.2)
+pub code_of-apart : (m n : ℕ) (xs ys : List ℕ) → code_of m ++ xs ≡ code_of n ++ ys → (m ≡ n) × (xs ≡ ys)
+unfolding code_of
+code_of-apart m n xs ys e =
+    let front = digits_of 128 (m / 128) in
+    let other = digits_of 128 (n / 128) in
+    let split : front ++ (128 + m % 128) ∷ xs ≡ other ++ (128 + n % 128) ∷ ys =
+    sym (append_assoc front ((128 + m % 128) ∷ []) xs) ∙ e ∙ append_assoc other ((128 + n % 128) ∷ []) ys in
+    let r = same_front front other (128 + m % 128) (128 + n % 128) xs ys (digits_unmarked (m / 128)) (digits_unmarked (n / 128)) (omega arith) (omega arith) split in
+    let high : m / 128 ≡ n / 128 = same_from_digits_of 128 (m / 128) (n / 128) (omega arith) r.0 in
+    let low : 128 + m % 128 ≡ 128 + n % 128 = r.1 in
+    (omega arith, r.2)

@@ -11,4 +11,7 @@ mod laws;
 pub use decoding::decode;
 pub use encoding::{Code, code_len, encode, push_code};
 pub use errors::VbError;
-pub use laws::{codes_apart, one_code};
+pub use laws::{
+    ascending, codes_apart, gaps_are_differences, gaps_come_back, list_is_its_postings, one_code,
+    postings_come_back,
+};

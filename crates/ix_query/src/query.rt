@@ -1,0 +1,59 @@
+//! Query trees.
+
+ghost use Rattle.std.specs.Prelude.{◌≡◌, string_bytes};
+
+use crate::tree::{Boxed, Items};
+use std::marker::Model;
+
+/// A word as the index has it: folded and normalized, 1 to 255 bytes of UTF-8.
+#[derive(Debug, Drop)]
+pub struct Term {
+    text: String,
+}
+
+impl Model for Term {
+    ghost use Rattle.std.specs.Prelude.{ℕ, List, string_bytes};
+    ghost use Rattle.std.specs.Coded.{coded_list, coded_ℕ};
+
+    ghost Value = { List ℕ };
+
+    ghost coded = { coded_list coded_ℕ };
+
+    ghost view = { λ t. string_bytes t.text };
+}
+
+impl Term {
+    /// The term that a text spells.
+    pub fn new(text: String) -> Term
+        ensures { result ≡ string_bytes text }
+    {
+        Term { text }
+    }
+
+    /// The term's text.
+    pub fn as_str(&self) -> &str
+        ensures { result.now ≡ self.now }
+    {
+        self.text.as_str()
+    }
+}
+
+/// A query: what it asks of a document's token list (IIR 1.3 and 2.4.2).
+#[derive(Debug, Drop)]
+pub enum Query {
+    /// Consecutive tokens: a term is that term, and a hole any token. It is not empty, and has no
+    /// hole at an end.
+    Phrase(Items<Option<Term>>),
+    /// The two terms, at positions that differ by 1 to `distance`, either way round.
+    Near {
+        first: Term,
+        second: Term,
+        distance: u32,
+    },
+    /// Each of two or more parts.
+    And(Items<Query>),
+    /// One of two or more parts.
+    Or(Items<Query>),
+    /// Every document that the part does not ask for.
+    Not(Boxed<Query>),
+}
