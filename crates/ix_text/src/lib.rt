@@ -2,24 +2,14 @@
 //! collection texts and trigrams.
 #![tactic(auto)]
 
-pub mod memory;
-pub mod stop;
-pub mod term;
-
 mod collection;
+mod memory;
+mod sink;
+mod stop;
+mod term;
 
 pub use collection::{Collection, CollectionError, Doc};
-
-/// A place-holder until the first call stands.
-pub fn stub(x: usize) -> usize
-    ensures { result ≡ x }
-{
-    x
-}
-
-mod sink;
-
-pub use sink::{WriteRefused, flush, put_all};
 pub use memory::Memory;
+pub use sink::{WriteRefused, flush, put_all};
 pub use stop::StopList;
 pub use term::{equal_terms_match, term_of};
