@@ -1,5 +1,5 @@
 -- The sections of an index text: variable byte codes of gaps (IIR 5.3.1), and the dictionary plain or front coded (IIR 5.2.2).
-use Rattle.std.specs.Prelude.{ℕ, ◌+◌, ◌-◌, ◌%◌, ◌==◌, List, [], ◌∷◌, ◌++◌, length, drop, flat_map, if◌then◌else◌}
+use Rattle.std.specs.Prelude.{ℕ, ◌+◌, ◌-◌, ◌%◌, ◌==◌, List, [], ◌∷◌, ◌++◌, length, drop, flat_map, nat_eq, if◌then◌else◌}
 use Rattle.std.specs.List.{common_prefix_len}
 use Rattle.ix_vbyte.specs.Code.{code_of}
 use Rattle.ix_vbyte.specs.Gaps.{gaps_of}
@@ -34,7 +34,7 @@ entry_counts entry = code_of (length entry.postings) ++ code_of (length (list_by
 -- a term behind the number of bytes that it shares with the term before, and of those that are its own
 abbrev pub front_coded : List ℕ → List ℕ → List ℕ
 front_coded before term =
-    let shared = common_prefix_len before term in code_of shared ++ counted (drop shared term)
+    let shared = common_prefix_len nat_eq before term in code_of shared ++ counted (drop shared term)
 
 -- a term at its place in the dictionary: the first of each four stands whole
 abbrev pub grouped : ℕ → List ℕ → List ℕ → List ℕ
