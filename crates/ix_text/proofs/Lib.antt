@@ -1,3 +1,4 @@
 pub mod SinkLemmas
 pub mod StopSetLemmas
 pub mod TermLemmas
+pub mod PartsLemmas

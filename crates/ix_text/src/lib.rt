@@ -4,12 +4,14 @@
 
 mod collection;
 mod memory;
+mod parts;
 mod sink;
 mod stop;
 mod term;
 
 pub use collection::{Collection, CollectionError, Doc};
 pub use memory::Memory;
+pub use parts::parts_tell_collection;
 pub use sink::{WriteRefused, flush, put_all};
 pub use stop::StopList;
 pub use term::{equal_terms_match, term_of};
