@@ -5,3 +5,4 @@ pub mod NoFault
 pub mod Building
 pub mod Rows
 pub mod Matched
+pub mod NameLemmas

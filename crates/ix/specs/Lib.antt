@@ -4,3 +4,4 @@ pub mod Entered
 pub mod LineErrors
 pub mod Lines
 pub mod WorkedLines
+pub mod NameLines

@@ -3,3 +3,4 @@ pub mod StopSetLemmas
 pub mod TermLemmas
 pub mod TokenLemmas
 pub mod CollectionLemmas
+pub mod PartsLemmas

@@ -10,3 +10,5 @@ pub mod StopText
 pub mod Terms
 pub mod TokenLists
 pub mod Windows
+pub mod Parts
+pub mod PartsLaws

@@ -4,16 +4,15 @@
 
 mod collection;
 mod memory;
+mod parts;
 mod sink;
 mod stop;
 mod term;
-pub mod memory;
-pub mod stop;
-pub mod term;
-pub mod token;
+mod token;
 
 pub use collection::{Collection, CollectionError, Doc};
 pub use memory::Memory;
+pub use parts::parts_tell_collection;
 pub use sink::{WriteRefused, flush, put_all};
 pub use stop::StopList;
 pub use term::{equal_terms_match, term_of};

@@ -1,0 +1,3 @@
+pub mod IndexText
+pub mod Parts
+pub mod Sections

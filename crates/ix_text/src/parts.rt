@@ -1,0 +1,8 @@
+//! Laws of the parts into which formats take a collection apart. The functions do nothing: what they ensure is a
+//! fact about the definitions.
+ghost use Rattle.ix_text.specs.PartsLaws.{PartsTellCollection};
+
+/// Two collections that have the same stop terms, rows and dictionary are the same.
+pub fn parts_tell_collection()
+    ensures { PartsTellCollection }
+{}
