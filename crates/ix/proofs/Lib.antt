@@ -1,8 +1,8 @@
-pub mod EachLemmas
-pub mod Walks
-pub mod Uses
-pub mod NoFault
 pub mod Building
-pub mod Rows
+pub mod EachLemmas
 pub mod Matched
 pub mod NameLemmas
+pub mod NoFault
+pub mod Rows
+pub mod Uses
+pub mod Walks

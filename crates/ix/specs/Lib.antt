@@ -1,7 +1,7 @@
-pub mod Commands
 pub mod Building
+pub mod Commands
 pub mod Entered
 pub mod LineErrors
 pub mod Lines
-pub mod WorkedLines
 pub mod NameLines
+pub mod WorkedLines

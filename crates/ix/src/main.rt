@@ -1,8 +1,8 @@
-<<<<<<< HEAD
-//! The program `ix`.
+//! The program `ix`: asks a collection of named documents.
 #![tactic(auto)]
 
 mod command_line;
+mod names;
 
 use command_line::Line;
 
@@ -12,13 +12,5 @@ fn main(rt: HostRuntime) {
         Ok(Line::Ask { query, .. }) => query.len(),
         Err(_) => 0,
     };
-=======
-//! The program `ix`: asks a collection of named documents.
-#![tactic(auto)]
-
-mod names;
-
-fn main(rt: HostRuntime) {
     let _ = names::name_lines_of(rt.alloc(), &[], &[]);
->>>>>>> ffece0246a10e12689506026a682dc9b8abca4fa
 }
