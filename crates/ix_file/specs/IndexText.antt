@@ -2,7 +2,7 @@
 use Rattle.std.specs.Prelude.{◌≡◌, ℕ, List, ◌++◌, length, codes}
 use Rattle.std.specs.Int.{to_le_bytes, w32, w64}
 use Rattle.ix_text.specs.Collections.{Collection, IsLawful}
-use Rattle.ix_file.specs.Parts.{Parts, GramEntry, ArePartsOf, AreGramsOf}
+use Rattle.ix_text.specs.Parts.{Parts, GramEntry, ArePartsOf, AreGramsOf}
 use Rattle.ix_file.specs.Sections.{Version, Plain, FrontCoded, postings_section, stop_section, documents_section, dictionary_section, grams_section}
 
 -- the eight bytes at the front

@@ -1,3 +1,2 @@
 pub mod IndexText
-pub mod Parts
 pub mod Sections

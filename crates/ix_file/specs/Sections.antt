@@ -4,7 +4,7 @@ use Rattle.std.specs.List.{common_prefix_len}
 use Rattle.ix_vbyte.specs.Code.{code_of}
 use Rattle.ix_vbyte.specs.Gaps.{gaps_of}
 use Rattle.ix_vbyte.specs.Postings.{codes_of, list_bytes}
-use Rattle.ix_file.specs.Parts.{DictionaryEntry, DocumentRow, GramEntry}
+use Rattle.ix_text.specs.Parts.{DictionaryEntry, DocumentRow, GramEntry}
 
 -- the two versions of the index text, which differ in the dictionary and in their marks
 pub data Version : Type 0 where
