@@ -4,3 +4,5 @@ pub mod TermLemmas
 pub mod TokenLemmas
 pub mod CollectionLemmas
 pub mod PartsLemmas
+pub mod TokensTold
+pub mod CollectionTold

@@ -12,7 +12,7 @@ mod token;
 
 pub use collection::{Collection, CollectionError, Doc};
 pub use memory::Memory;
-pub use parts::parts_tell_collection;
+pub use parts::{lawful_parts_have_collection, parts_tell_collection};
 pub use sink::{WriteRefused, flush, put_all};
 pub use stop::StopList;
 pub use term::{equal_terms_match, term_of};
