@@ -1,1 +1,2 @@
+pub mod CollectionLaws
 pub mod CollectionLemmas

@@ -1,8 +1,10 @@
 //! Collection texts: named documents, each on one line.
-ghost use Rattle.std.specs.Prelude.{◌≡◌, ◌<◌, Contains, map, IfNone, IfSome, MatchOption};
+ghost use Rattle.std.specs.Prelude.{◌≡◌, ◌<◌, ◌⊎◌, ℕ, List, Contains, map, IfNone, IfSome, MatchOption};
 ghost use Rattle.std.proofs.Props.{props};
-ghost use Rattle.ix_text.specs.CollectionFaults.{IsCutAtFirst};
-ghost use Rattle.ix_text.specs.Collections.{IsName};
+ghost use Rattle.ix_text.specs.CollectionFaults.{IsCutAtFirst, IsCollectionFault};
+ghost use Rattle.ix_text.specs.CollectionText.{IsCollectionText};
+ghost use Rattle.ix_text.specs.Collections.{NamedText, IsName};
+ghost use Rattle.ix_text.specs.declared.collection.CollectionError.{CollectionError};
 
 use memchr::memchr;
 use simdutf8::compat::from_utf8;
@@ -188,3 +190,11 @@ fn cut_at(text: &str, byte: u8) -> Option<(&str, &str)>
     let at = memchr(byte, text.as_bytes())?;
     Some((&text[..at], &text[at + 1..]))
 }
+
+/// A text has one list of documents or one fault, and never both.
+pub fn has_documents_or_a_fault()
+    ensures one_list { (text : List ℕ) (one other : List NamedText) → IsCollectionText text one → IsCollectionText text other → one ≡ other }
+    ensures one_fault { (text : List ℕ) (one other : CollectionError) → IsCollectionFault text one → IsCollectionFault text other → one ≡ other }
+    ensures refused { (text : List ℕ) (documents : List NamedText) (fault : CollectionError) → IsCollectionFault text fault → ¬ (IsCollectionText text documents) }
+    ensures complete { (text : List ℕ) → ((documents : List NamedText) × IsCollectionText text documents) ⊎ ((fault : CollectionError) × IsCollectionFault text fault) }
+{}
