@@ -1,2 +1,3 @@
 pub mod CollectionLaws
 pub mod CollectionLemmas
+pub mod WindowLemmas

@@ -8,8 +8,10 @@ ghost use Rattle.ix_text.specs.Collections.{Collection, IsLawful};
 ghost use Rattle.ix_text.specs.StopText.{IsStopText};
 
 mod collection;
+mod windows;
 
-pub use collection::{Collection, CollectionError, Doc};
+pub use collection::{Collection, CollectionError, Doc, has_documents_or_a_fault};
+pub use windows::{TrigramWindows, trigrams};
 
 /// A place-holder until the first call stands.
 pub fn stub(x: usize) -> usize
