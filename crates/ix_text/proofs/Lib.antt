@@ -6,3 +6,6 @@ pub mod CollectionLemmas
 pub mod PartsLemmas
 pub mod TokensTold
 pub mod CollectionTold
+pub mod CollectionLaws
+pub mod CollectionLemmas
+pub mod WindowLemmas
