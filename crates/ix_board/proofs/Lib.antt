@@ -1,0 +1,5 @@
+pub mod SliceGets
+pub mod Turns
+pub mod Runs
+pub mod Holders
+pub mod BoardLaws

@@ -1,0 +1,11 @@
+pub mod ByteOrder
+pub mod CollectionErrors
+pub mod CollectionText
+pub mod Collections
+pub mod Sinks
+pub mod Docs
+pub mod StopSets
+pub mod StopText
+pub mod Terms
+pub mod TokenLists
+pub mod Windows

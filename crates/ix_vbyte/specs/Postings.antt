@@ -1,0 +1,39 @@
+-- The postings of a term, and the bytes of a list of them.
+use Rattle.std.specs.Prelude.{ℕ, ◌+◌, ◌-◌, ◌<◌, List, [], ◌∷◌, ◌++◌, map, length, All, flat_map}
+use Rattle.ix_vbyte.specs.Code.{code_of}
+use Rattle.ix_vbyte.specs.Gaps.{Ascends, gaps_of}
+
+-- A document's number, and the positions at which it has the term.
+pub record Posting : Type 0 where
+  pub document : ℕ
+  pub positions : List ℕ
+
+abbrev pub documents_of : List Posting → List ℕ
+documents_of postings = map (λ posting. posting.document) postings
+
+-- There is a position, and positions ascend below `top`.
+pub record IsPosting (top : ℕ) (posting : Posting) : Type 0 where
+  pub some : 0 < length posting.positions
+  pub positions : Ascends 0 top posting.positions
+
+-- Documents ascend from `low` on and below `top`, and each one has positions below `top`.
+pub record ArePostings (low top : ℕ) (postings : List Posting) : Type 0 where
+  pub documents : Ascends low top (documents_of postings)
+  pub each : All (IsPosting top) postings
+
+-- The codes of the numbers, one behind another.
+abbrev pub codes_of : List ℕ → List ℕ
+codes_of numbers = flat_map code_of numbers
+
+-- A posting whose document has this gap: the gap, the number of positions, and their gaps.
+abbrev pub posting_bytes : ℕ → Posting → List ℕ
+posting_bytes gap posting = code_of gap ++ code_of (length posting.positions) ++ codes_of (gaps_of posting.positions)
+
+-- The bytes of a list, where `next` is one above the document before the first.
+abbrev pub list_bytes_from : ℕ → List Posting → List ℕ
+list_bytes_from next [] = []
+list_bytes_from next (posting ∷ postings) = posting_bytes (posting.document + 1 - next) posting ++ list_bytes_from (posting.document + 1) postings
+
+-- The coded list of a term's postings.
+abbrev pub list_bytes : List Posting → List ℕ
+list_bytes postings = list_bytes_from 0 postings

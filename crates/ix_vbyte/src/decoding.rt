@@ -1,0 +1,58 @@
+//! The number whose code stands at the front of some bytes.
+ghost use Rattle.std.specs.Prelude.{◌≡◌, ◌↔◌, ℕ, ◌+◌, ◌<◌, ◌≤◌, ◌^◌, ◌++◌, List, length, drop, IfOk, IsErr, IsErrOf};
+ghost use Rattle.ix_vbyte.specs.Code.{code_of};
+ghost use Rattle.ix_vbyte.specs.Reading.{StartsWithCode, StartsWithZero, IsTooBig, IsCut};
+ghost use Rattle.ix_vbyte.specs.Decoded.{Finds};
+
+use crate::VbError;
+
+/// The number whose code the bytes begin with, and the count of the code's bytes. What follows the
+/// code is not looked at.
+///
+/// `LeadingZero` where the first byte is `00`; `TooBig` where the bytes come to stand for more than
+/// 2^32 - 1 before one of them ends the code; `Cut` where no byte ends the code, also where there is none.
+#[inline]
+pub fn decode(bytes: &[u8]) -> Result<(u32, usize), VbError>
+    ensures found { (n count : ℕ) → (result ≡ Ok (n, count)) ↔ StartsWithCode bytes.now n count }
+    ensures leading_zero { IsErrOf result VbError.LeadingZero ↔ StartsWithZero bytes.now }
+    ensures too_big { IsErrOf result VbError.TooBig ↔ IsTooBig bytes.now }
+    ensures cut { IsErrOf result VbError.Cut ↔ IsCut bytes.now }
+
+    // The same in words for callers.
+    ensures refused { IsErr result ↔ ((n count : ℕ) → ¬ StartsWithCode bytes.now n count) }
+    ensures front { IfOk result (λ r. (bytes.now ≡ code_of r.0 ++ drop r.1 bytes.now) × (r.1 ≡ length (code_of r.0))) }
+    ensures written { (n : ℕ) (rest : List ℕ) → n < 2 ^ 32 → bytes.now ≡ code_of n ++ rest → result ≡ Ok (n, length (code_of n)) }
+{
+    read(bytes)
+}
+
+/// The same, as what was found in one fact.
+#[inline]
+fn read(bytes: &[u8]) -> Result<(u32, usize), VbError>
+    ensures { Finds bytes.now result }
+{
+    match bytes.first() {
+        None => Err(VbError::Cut),
+        Some(0) => Err(VbError::LeadingZero),
+        Some(&byte) if byte >= 128 => Ok((u32::from(byte % 128), 1)),
+        Some(_) => read_groups(bytes),
+    }
+}
+
+/// The same for bytes whose first byte is not `00`.
+fn read_groups(bytes: &[u8]) -> Result<(u32, usize), VbError>
+    requires { ¬ StartsWithZero bytes.now }
+    ensures { Finds bytes.now result }
+{
+    let mut number: u32 = 0;
+    for (place, &byte) in bytes.iter().enumerate() {
+        if number >= 1 << 25 {
+            return Err(VbError::TooBig);
+        }
+        number = number * 128 + u32::from(byte % 128);
+        if byte >= 128 {
+            return Ok((number, place + 1));
+        }
+    }
+    Err(VbError::Cut)
+}

@@ -1,0 +1,32 @@
+//! Why bytes do not begin with a code.
+ghost use Rattle.std.specs.Prelude.{◌≡◌};
+ghost use Rattle.ix_vbyte.specs.Numbers.{number_of};
+
+use thiserror::Error;
+
+/// Why some bytes do not begin with the code of a number, in the order of the tests at the first byte.
+#[derive(Clone, Copy, Debug, Error, PartialEq, Eq)]
+pub enum VbError {
+    /// The bytes end inside a code.
+    #[error("Cut")]
+    Cut,
+    /// The first byte is `00`.
+    #[error("LeadingZero")]
+    LeadingZero,
+    /// What was read so far is above 2^32 - 1.
+    #[error("TooBig")]
+    TooBig,
+}
+
+impl VbError {
+    /// The number of the error, from 1.
+    pub fn number(self) -> u32
+        ensures { result ≡ number_of self }
+    {
+        match self {
+            VbError::Cut => 1,
+            VbError::LeadingZero => 2,
+            VbError::TooBig => 3,
+        }
+    }
+}

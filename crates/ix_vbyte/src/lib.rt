@@ -1,0 +1,17 @@
+//! The variable byte code of a number: seven bits a byte, the most significant first, the top bit
+//! set in the last byte alone (Introduction to Information Retrieval, 5.3.1). Here it is written and
+//! read, and here are the gaps of an ascending list and the coded list of a term's postings.
+#![tactic(auto)]
+
+mod decoding;
+mod encoding;
+mod errors;
+mod laws;
+
+pub use decoding::decode;
+pub use encoding::{Code, code_len, encode, push_code};
+pub use errors::VbError;
+pub use laws::{
+    ascending, codes_apart, gaps_are_differences, gaps_come_back, list_is_its_postings, one_code,
+    postings_come_back,
+};
