@@ -7,3 +7,11 @@ mod tree;
 
 pub use query::{Query, Term};
 pub use tree::{Boxed, Items};
+//! tree means. A text is cut into lexemes, and these are read by the grammar.
+#![tactic(auto)]
+
+mod error;
+mod lexeme;
+
+pub use error::QueryError;
+pub use lexeme::{Lexeme, Sign, lexemes};

@@ -1,0 +1,3 @@
+pub mod LexemeLists
+pub mod Lexing
+pub mod Readings

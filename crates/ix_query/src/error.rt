@@ -1,0 +1,91 @@
+//! Why a text is no query.
+
+ghost use Rattle.std.specs.Prelude.{◌≡◌};
+ghost use Rattle.ix_query.specs.declared.error.QueryError.TheVariants.{Memory};
+ghost use Rattle.ix_query.specs.QueryErrors.{number_of};
+
+use std::alloc::{AllocError, AllocFailed};
+use thiserror::Error;
+
+/// Why a text is not read as a query. Offsets are bytes of the text, from 0.
+#[derive(Clone, Copy, Debug, PartialEq, Eq, Error)]
+pub enum QueryError {
+    /// The text has no lexeme.
+    #[error("Empty")]
+    Empty,
+    /// The lexeme at this offset cannot stand there.
+    #[error("Unexpected({0})")]
+    Unexpected(usize),
+    /// The text ends where a lexeme must follow.
+    #[error("End")]
+    End,
+    /// A quotation mark has no other after it.
+    #[error("OpenQuote")]
+    OpenQuote,
+    /// A run begins with `NEAR/`, and the rest is no number from 1 to 65535 without leading zeros.
+    #[error("BadNear")]
+    BadNear,
+    /// A run or a quoted text has no word.
+    #[error("NoWord")]
+    NoWord,
+    /// All words of a run or a quoted text are stop words.
+    #[error("OnlyStopWords")]
+    OnlyStopWords,
+    /// A pattern is nothing but stars.
+    #[error("BareStar")]
+    BareStar,
+    /// A star stands in a quoted text.
+    #[error("StarInPhrase")]
+    StarInPhrase,
+    /// A run beside NEAR has a star, is not exactly one word, or is a stop word.
+    #[error("NearWord")]
+    NearWord,
+    /// A term has more than 255 bytes.
+    #[error("LongTerm")]
+    LongTerm,
+    /// More than 64 brackets and NOTs would be open at once.
+    #[error("Deep")]
+    Deep,
+    /// Memory ran out.
+    #[error("Memory")]
+    Memory,
+}
+
+impl QueryError {
+    /// The error's number, from 1 in the order of the list.
+    pub fn number(&self) -> u8
+        ensures { result ≡ number_of self.now }
+    {
+        match self {
+            QueryError::Empty => 1,
+            QueryError::Unexpected(_) => 2,
+            QueryError::End => 3,
+            QueryError::OpenQuote => 4,
+            QueryError::BadNear => 5,
+            QueryError::NoWord => 6,
+            QueryError::OnlyStopWords => 7,
+            QueryError::BareStar => 8,
+            QueryError::StarInPhrase => 9,
+            QueryError::NearWord => 10,
+            QueryError::LongTerm => 11,
+            QueryError::Deep => 12,
+            QueryError::Memory => 13,
+        }
+    }
+}
+
+impl From<AllocError> for QueryError {
+    ghost from_gives = { λ _ e. e ≡ Memory };
+
+    fn from(_e: AllocError) -> QueryError {
+        QueryError::Memory
+    }
+}
+
+impl<T: Drop> From<AllocFailed<T>> for QueryError {
+    ghost from_gives = { λ _ e. e ≡ Memory };
+
+    fn from(_e: AllocFailed<T>) -> QueryError {
+        QueryError::Memory
+    }
+}
