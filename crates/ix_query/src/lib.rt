@@ -1,12 +1,4 @@
 //! The query language: which texts are queries, the tree that each of them stands for, and what a
-//! tree means. A text is cut into lexemes, and these are read by the grammar.
-#![tactic(auto)]
-
-mod error;
-mod lexeme;
-
-pub use error::QueryError;
-pub use lexeme::{Lexeme, Sign, lexemes};
 //! tree means. `Query::parse` reads a text, and answers its tree or the first fault in it.
 #![tactic(auto)]
 
@@ -15,3 +7,11 @@ mod tree;
 
 pub use query::{Query, Term};
 pub use tree::{Boxed, Items};
+//! tree means. A text is cut into lexemes, and these are read by the grammar.
+#![tactic(auto)]
+
+mod error;
+mod lexeme;
+
+pub use error::QueryError;
+pub use lexeme::{Lexeme, Sign, lexemes};
