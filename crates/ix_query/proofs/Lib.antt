@@ -1,3 +1,4 @@
+pub mod Entries
 pub mod LexemeLists
 pub mod Lexing
 pub mod Readings

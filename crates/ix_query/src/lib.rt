@@ -3,15 +3,12 @@
 #![tactic(auto)]
 
 mod error;
+mod judge;
 mod lexeme;
-
-pub use error::QueryError;
-pub use lexeme::{Lexeme, Sign, lexemes};
-//! tree means. `Query::parse` reads a text, and answers its tree or the first fault in it.
-#![tactic(auto)]
-
 mod query;
 mod tree;
 
+pub use error::QueryError;
+pub use lexeme::{Lexeme, Sign, lexemes};
 pub use query::{Query, Term};
 pub use tree::{Boxed, Items};
