@@ -1,3 +1,4 @@
 pub mod Judgement
+
 pub mod Lexemes
 pub mod QueryErrors

@@ -5,6 +5,9 @@
 mod error;
 mod judge;
 mod lexeme;
+//! tree means. `Query::parse` reads a text, and answers its tree or the first fault in it.
+#![tactic(auto)]
+
 mod query;
 mod tree;
 
@@ -12,3 +15,11 @@ pub use error::QueryError;
 pub use lexeme::{Lexeme, Sign, lexemes};
 pub use query::{Query, Term};
 pub use tree::{Boxed, Items};
+//! tree means. A text is cut into lexemes, and these are read by the grammar.
+#![tactic(auto)]
+
+mod error;
+mod lexeme;
+
+pub use error::QueryError;
+pub use lexeme::{Lexeme, Sign, lexemes};
