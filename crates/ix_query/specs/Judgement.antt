@@ -1,14 +1,15 @@
 -- What a run or a quoted text of a query stands for: a pattern, or the phrase of its words (IIR 2.4.2, 3.2).
 use Rattle.std.specs.Prelude.{ℕ, Bool, List, [], ◌∷◌, map, reverse, length, nat_lt, ◌==◌, Some, None, ok_or, Result, Ok, Err, if◌then◌else◌}
-use Rattle.std.specs.List.{list_any}
+use Rattle.std.specs.List.{list_any, list_all}
 use Rattle.unicode_segmentation.specs.Word.{words}
+use Rattle.ix_gram.specs.Patterns.{pieces_of}
 use Rattle.ix_text.specs.Terms.{term_of_word}
 use Rattle.ix_text.specs.TokenLists.{Entry, entry_of_term}
 use Rattle.ix_query.specs.declared.error.QueryError.{QueryError}
-use Rattle.ix_query.specs.declared.error.QueryError.TheVariants.{NoWord, OnlyStopWords, StarInPhrase, NearWord, LongTerm}
+use Rattle.ix_query.specs.declared.error.QueryError.TheVariants.{NoWord, OnlyStopWords, BareStar, StarInPhrase, NearWord, LongTerm}
 use Rattle.ix_query.specs.QueryErrors.{◌>>=◌}
 use Rattle.ix_query.specs.declared.query.Query.{Query}
-use Rattle.ix_query.specs.declared.query.Query.TheVariants.{Phrase}
+use Rattle.ix_query.specs.declared.query.Query.TheVariants.{Phrase, Pattern}
 
 abbrev pub is_star : ℕ → Bool
 is_star byte = byte == 42
@@ -49,6 +50,14 @@ phrase_reading stop text =
 abbrev pub only_term : List (List ℕ) → List (List ℕ) → Result (List ℕ) QueryError
 only_term stop (word ∷ []) = entry_reading stop word >>= λ entry. ok_or entry NearWord
 only_term stop words = Err NearWord
+
+-- the pattern of a text with a star
+abbrev pub pattern_reading : List ℕ → Result Query QueryError
+pattern_reading text = if list_all is_star text then Err BareStar else Ok (Pattern (pieces_of text))
+
+-- a run that stands beside no NEAR
+unfoldable pub plain : (stop : List (List ℕ)) → (run : List ℕ) → Result Query QueryError
+plain stop run = if list_any is_star run then pattern_reading run else phrase_reading stop run
 
 -- a quoted text
 unfoldable pub quoted : (stop : List (List ℕ)) → (text : List ℕ) → Result Query QueryError

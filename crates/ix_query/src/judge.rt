@@ -1,15 +1,16 @@
 //! What a run or a quoted text stands for.
 
-ghost use Rattle.std.specs.Prelude.{◌≡◌, map, reverse, IfOk, if◌then◌else◌};
+ghost use Rattle.std.specs.Prelude.{◌≡◌, true, map, reverse, IfOk, if◌then◌else◌};
 ghost use Rattle.std.specs.List.{list_any};
 ghost use Rattle.unicode_segmentation.specs.Word.{words};
 ghost use Rattle.ix_text.specs.TokenLists.{entry_of_term};
-ghost use Rattle.ix_query.specs.Judgement.{is_star, entry_reading, entries_reading, phrase_reading, drop_holes, strip_holes, quoted as quoted_text, beside as beside_near};
+ghost use Rattle.ix_query.specs.Judgement.{is_star, entry_reading, entries_reading, phrase_reading, drop_holes, strip_holes, pattern_reading, plain as plain_run, quoted as quoted_text, beside as beside_near};
 ghost use Rattle.ix_query.specs.QueryErrors.{Gives};
 
 use crate::error::QueryError;
 use crate::query::{Query, Term};
 use crate::tree::Items;
+use ix_gram::{Pattern, PatternError};
 use ix_text::{StopList, term_of};
 use std::alloc::{AllocError, Global};
 use unicode_segmentation::UnicodeSegmentation;
@@ -99,6 +100,36 @@ fn phrase(alloc: Global, stop: &StopList, text: &str) -> Result<Query, QueryErro
         return Err(QueryError::OnlyStopWords);
     }
     Ok(Query::Phrase(Items::from_vec(entries)))
+}
+
+// The pattern of a run with a star.
+fn pattern(alloc: Global, run: &str) -> Result<Query, QueryError>
+    requires { list_any is_star run.now ≡ true }
+    ensures { Gives (λ query. query) result (pattern_reading run.now) }
+{
+    match Pattern::read(alloc, run) {
+        Ok(pattern) => Ok(Query::Pattern(pattern)),
+        Err(PatternError::BareStar) => Err(QueryError::BareStar),
+        Err(PatternError::Memory) => Err(QueryError::Memory),
+        Err(PatternError::NoStar) => unreachable!("the run has a star"),
+    }
+}
+
+/// What a run that stands beside no NEAR stands for: with a star the pattern of its pieces, else the phrase of
+/// its words.
+///
+/// # Errors
+/// `BareStar` for nothing but stars; without a star `NoWord`, `LongTerm` and `OnlyStopWords`, tested in this
+/// order; or `Memory`.
+#[tactic(auto, unfolding(crate::specs::Judgement::plain))]
+pub fn plain(alloc: Global, stop: &StopList, run: &str) -> Result<Query, QueryError>
+    ensures { Gives (λ query. query) result (plain_run stop.now run.now) }
+{
+    if has_star(run) {
+        pattern(alloc, run)
+    } else {
+        phrase(alloc, stop, run)
+    }
 }
 
 /// What a quoted text stands for: the phrase of its words.

@@ -5,9 +5,6 @@
 mod error;
 mod judge;
 mod lexeme;
-//! tree means. `Query::parse` reads a text, and answers its tree or the first fault in it.
-#![tactic(auto)]
-
 mod query;
 mod tree;
 
@@ -15,11 +12,3 @@ pub use error::QueryError;
 pub use lexeme::{Lexeme, Sign, lexemes};
 pub use query::{Query, Term};
 pub use tree::{Boxed, Items};
-//! tree means. A text is cut into lexemes, and these are read by the grammar.
-#![tactic(auto)]
-
-mod error;
-mod lexeme;
-
-pub use error::QueryError;
-pub use lexeme::{Lexeme, Sign, lexemes};
