@@ -1,3 +1,3 @@
-
+pub mod Judgement
 pub mod Lexemes
 pub mod QueryErrors

@@ -1,17 +1,14 @@
 //! The query language: which texts are queries, the tree that each of them stands for, and what a
-//! tree means. `Query::parse` reads a text, and answers its tree or the first fault in it.
-#![tactic(auto)]
-
-mod query;
-mod tree;
-
-pub use query::{Query, Term};
-pub use tree::{Boxed, Items};
 //! tree means. A text is cut into lexemes, and these are read by the grammar.
 #![tactic(auto)]
 
 mod error;
+mod judge;
 mod lexeme;
+mod query;
+mod tree;
 
 pub use error::QueryError;
 pub use lexeme::{Lexeme, Sign, lexemes};
+pub use query::{Query, Term};
+pub use tree::{Boxed, Items};
