@@ -1,16 +1,28 @@
 //! The program `ix`: asks a collection of named documents.
 #![tactic(auto)]
 
+mod ask;
+mod command;
 mod command_line;
 mod names;
+mod refusal;
 
-use command_line::Line;
+use command::{command, refuse_arguments};
+use std::alloc::AllocError;
+use std::env;
+use std::process::ExitCode;
 
-fn main(rt: HostRuntime) {
-    let words = ["ask", "c.txt", "red"];
-    let _found = match command_line::read_line(rt.alloc(), words.as_slice()) {
-        Ok(Line::Ask { query, .. }) => query.len(),
-        Err(_) => 0,
+fn main(rt: HostRuntime) -> ExitCode {
+    let mut out = rt.stdout();
+    let mut err = rt.stderr();
+    let Ok(args) = env::args(&rt) else {
+        return ExitCode::from(refuse_arguments(&mut err));
     };
-    let _ = names::name_lines_of(rt.alloc(), &[], &[]);
+    let mut texts = Vec::new(rt.alloc());
+    for text in args.skip(1) {
+        if texts.push(text).is_err() {
+            return ExitCode::from(refuse_arguments(&mut err));
+        }
+    }
+    ExitCode::from(2)
 }

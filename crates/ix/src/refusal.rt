@@ -1,0 +1,55 @@
+//! The one line by which the program says why it refused.
+
+use crate::ask::AskError;
+use crate::command_line::LineError;
+use ix_query::QueryError;
+use ix_text::{CollectionError, StopError};
+use std::fmt;
+
+/// Why the program refused, in the area that it is told in. It prints as area, number and name, as in
+/// `query 2: Unexpected(2)`.
+#[derive(Debug, Drop)]
+pub enum Refusal<'a> {
+    /// The words of the command line are refused.
+    Arguments,
+    /// The collection text breaks a rule.
+    Collection(CollectionError),
+    /// The stop text breaks a rule.
+    Stop(StopError),
+    /// The query breaks a rule.
+    Query(QueryError),
+    /// The file of this path cannot be read.
+    Read(&'a str),
+    /// The file of this path cannot be written; `-` is the standard output.
+    Write(&'a str),
+    /// The file of this path is not UTF-8.
+    NotUtf8(&'a str),
+    /// A growth was refused.
+    Memory,
+}
+
+impl fmt::Display for Refusal<'_> {
+    fn fmt<W: fmt::Write>(&self, f: &mut fmt::Formatter<W>) -> fmt::Result {
+        match self {
+            Refusal::Arguments => write!(f, "arguments refused"),
+            Refusal::Collection(error) => write!(f, "collection {}: {error}", error.number()),
+            Refusal::Stop(error) => write!(f, "stop {}: {error}", error.number()),
+            Refusal::Query(error) => write!(f, "query {}: {error}", error.number()),
+            Refusal::Read(path) => write!(f, "file 1: Read({path})"),
+            Refusal::Write(path) => write!(f, "file 2: Write({path})"),
+            Refusal::NotUtf8(path) => write!(f, "file 3: NotUtf8({path})"),
+            Refusal::Memory => write!(f, "memory 1: Memory"),
+        }
+    }
+}
+
+impl From<AskError> for Refusal<'_> {
+    fn from(error: AskError) -> Self {
+        match error {
+            AskError::Collection(error) => Refusal::Collection(error),
+            AskError::Query(error) => Refusal::Query(error),
+            AskError::Write => Refusal::Write("-"),
+            AskError::Memory => Refusal::Memory,
+        }
+    }
+}
