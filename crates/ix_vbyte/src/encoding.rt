@@ -9,7 +9,7 @@ use std::alloc::AllocError;
 use std::marker::Model;
 
 /// The code of one number: one to five bytes, held in place.
-#[derive(Drop)]
+#[derive(Debug, Drop, Eq, PartialEq)]
 pub struct Code {
     bytes: ArrayVec<u8, 5>,
 }
@@ -20,6 +20,8 @@ impl Model for Code {
     ghost Value = { List ℕ };
 
     ghost view = { λ c. c.bytes.items };
+
+    ghost inverse = { λ bytes. record { bytes = record { items = bytes } } };
 }
 
 impl Code {
