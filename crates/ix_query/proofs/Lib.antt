@@ -1,6 +1,6 @@
 pub mod CompleteLemmas
-pub mod GrammarLemmas
 pub mod Entries
+pub mod GrammarLemmas
 pub mod LexemeLists
 pub mod Lexing
 pub mod Readings
