@@ -1,5 +1,9 @@
+pub mod CompleteLemmas
 pub mod Entries
+pub mod GrammarLemmas
 pub mod LexemeLists
 pub mod Lexing
 pub mod Readings
+pub mod Results
+pub mod SoundLemmas
 pub mod Stars

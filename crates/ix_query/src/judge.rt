@@ -164,3 +164,111 @@ pub fn beside(alloc: Global, stop: &StopList, run: &str) -> Result<Term, QueryEr
         _ => Err(QueryError::NearWord),
     }
 }
+
+#[cfg(test)]
+mod tests {
+    use super::{beside, plain, quoted};
+    use crate::error::QueryError;
+    use crate::query::Query;
+    use ix_text::StopList;
+    use std::alloc::Global;
+    use std::test::Fail;
+
+    // The terms of a phrase, with `_` for a hole, or the query or the error as it is printed.
+    fn shown(alloc: Global, read: Result<Query, QueryError>) -> Result<String, Fail> {
+        let mut shown = String::new(alloc);
+        match read {
+            Ok(Query::Phrase(entries)) => {
+                for entry in entries.as_slice() {
+                    match entry {
+                        Some(term) => shown.push_str(term.as_str())?,
+                        None => shown.push_str("_")?,
+                    }
+                    shown.push_str(" ")?;
+                }
+            }
+            Ok(query) => {
+                let printed = format!(in alloc; "{query:?}")?;
+                shown.push_str(printed.as_str())?;
+            }
+            Err(error) => {
+                let printed = format!(in alloc; "{error}")?;
+                shown.push_str(printed.as_str())?;
+            }
+        }
+        Ok(shown)
+    }
+
+    // A word of so many letters.
+    fn long_word(alloc: Global, letters: u16) -> Result<String, Fail> {
+        let mut word = String::new(alloc);
+        for _ in 0..letters {
+            word.push_str("z")?;
+        }
+        Ok(word)
+    }
+
+    #[test]
+    fn runs_and_quoted_texts(rt: HostRuntime) -> Result<(), Fail> {
+        let alloc = rt.alloc();
+        let stop = StopList::empty(alloc);
+        for (run, want) in [
+            ("fox", "fox "),
+            ("e+mail", "e mail "),
+            ("STRASSE", "strasse "),
+            ("Stra\u{df}e", "strasse "),
+            ("...", "NoWord"),
+            ("*", "BareStar"),
+            ("***", "BareStar"),
+            ("Inter*", "Pattern(Pattern { first: \"inter\", inner: [], last: \"\" })"),
+        ] {
+            let got = shown(alloc, plain(alloc, &stop, run))?;
+            assert_eq!(rt; got.as_str(), want, "{run}");
+        }
+        for (text, want) in [
+            ("New York", "new york "),
+            ("", "NoWord"),
+            (" ... ", "NoWord"),
+            ("a*", "StarInPhrase"),
+            ("*", "StarInPhrase"),
+        ] {
+            let got = shown(alloc, quoted(alloc, &stop, text))?;
+            assert_eq!(rt; got.as_str(), want, "{text}");
+        }
+        Ok(())
+    }
+
+    #[test]
+    fn words_beside_near(rt: HostRuntime) -> Result<(), Fail> {
+        let alloc = rt.alloc();
+        let stop = StopList::empty(alloc);
+        let term = beside(alloc, &stop, "Fox")?;
+        assert_eq!(rt; term.as_str(), "fox");
+        for run in ["e+mail", "a*", "*", "..."] {
+            let error = beside(alloc, &stop, run).expect_err(&rt, "a term");
+            assert_eq!(rt; error, QueryError::NearWord, "{run}");
+        }
+        Ok(())
+    }
+
+    #[test]
+    fn the_longest_terms(rt: HostRuntime) -> Result<(), Fail> {
+        let alloc = rt.alloc();
+        let stop = StopList::empty(alloc);
+        let held = long_word(alloc, 255)?;
+        let term = beside(alloc, &stop, held.as_str())?;
+        assert_eq!(rt; term.as_str(), held.as_str());
+        let long = long_word(alloc, 256)?;
+        let error = beside(alloc, &stop, long.as_str()).expect_err(&rt, "a term");
+        assert_eq!(rt; error, QueryError::LongTerm);
+        let got = shown(alloc, plain(alloc, &stop, long.as_str()))?;
+        assert_eq!(rt; got.as_str(), "LongTerm");
+        let phrase = format!(in alloc; "a {long} b")?;
+        let got = shown(alloc, quoted(alloc, &stop, phrase.as_str()))?;
+        assert_eq!(rt; got.as_str(), "LongTerm");
+        let run = format!(in alloc; "a+{long}")?;
+        let error = beside(alloc, &stop, run.as_str()).expect_err(&rt, "a term");
+        assert_eq!(rt; error, QueryError::NearWord);
+        Ok(())
+    }
+}

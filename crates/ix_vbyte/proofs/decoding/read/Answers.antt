@@ -1,7 +1,7 @@
 use Rattle.std.proofs.Common.{sym, arith, subst}
 use Rattle.std.proofs.lemmas.Option.{get_or_from_slice_get}
 use Rattle.ix_vbyte.specs.Reading.{StartsWithCode}
-use Rattle.ix_vbyte.proofs.Fronts.{cut_at_once, starts_at_once}
+use Rattle.ix_vbyte.proofs.Fronts.{starts_at_once}
 use Rattle.ix_vbyte.proofs.decoding.read.Goals as goal
 
 pub returns-in-Some : goal.returns-in-Some
