@@ -3,3 +3,16 @@ pub mod Holders
 pub mod Runs
 pub mod SliceGets
 pub mod Turns
+pub mod Runs
+pub mod Holders
+pub mod BoardLaws
+pub mod Advances
+pub mod DeskPlays
+pub mod SeatMoves
+pub mod Counting
+pub mod Openings
+pub mod Endings
+pub mod BoardCalls
+pub mod DeskSteps
+pub mod Closings
+pub mod FreshDesks

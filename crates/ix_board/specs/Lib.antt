@@ -1,2 +1,12 @@
 pub mod Laws
 pub mod Machine
+pub mod Crews
+pub mod Kept
+pub mod Tours
+pub mod Desks
+pub mod Seats
+pub mod Rooms
+pub mod DeskFields
+pub mod Starts
+pub mod Attempts
+pub mod Ends
