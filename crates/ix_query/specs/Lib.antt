@@ -1,3 +1,4 @@
+pub mod Cutting
 pub mod Judgement
 pub mod Lexemes
 pub mod QueryErrors

@@ -4,11 +4,13 @@
 
 mod error;
 mod judge;
+mod laws;
 mod lexeme;
 mod query;
 mod tree;
 
 pub use error::QueryError;
+pub use laws::lexemes_cut_the_text;
 pub use lexeme::{Lexeme, Sign, lexemes};
 pub use query::{Query, Term};
 pub use tree::{Boxed, Items};
