@@ -1,5 +1,5 @@
+pub mod BoardLaws
+pub mod Holders
+pub mod Runs
 pub mod SliceGets
 pub mod Turns
-pub mod Runs
-pub mod Holders
-pub mod BoardLaws

@@ -1,3 +1,10 @@
+pub mod CollectionLaws
+pub mod CollectionLemmas
+pub mod CollectionTold
+pub mod PartsLemmas
 pub mod SinkLemmas
 pub mod StopSetLemmas
 pub mod TermLemmas
+pub mod TokenLemmas
+pub mod TokensTold
+pub mod WindowLemmas

@@ -1,7 +1,7 @@
 -- Terms: the two ways to make one, and when two are equal.
-use Rattle.std.proofs.Common.{◌≡◌, ◌↔◌, ℕ, ◌<◌, ◌≤◌, List, map, length, get_or, inl, inr, arith, chars, encode_utf8_all, IsAscii, IsUtf8, All, sym, ap, subst, ◌∙◌}
+use Rattle.std.proofs.Common.{◌≡◌, ◌↔◌, ℕ, ◌<◌, ◌≤◌, List, map, length, get_or, inl, inr, arith, chars, encode_utf8_all, IsAscii, IsUtf8, All, sym, ap, ◌∙◌}
 use Rattle.std.specs.Char.{to_ascii_lowercase}
-use Rattle.std.proofs.lemmas.Str.{chars-IsAscii, chars_from_encodes, encodes_same, encodes-chars, encodes-IsAscii}
+use Rattle.std.proofs.lemmas.Str.{chars-IsAscii, chars_from_encodes, encodes_same, encodes-IsAscii}
 use Rattle.std.proofs.lemmas.Bool.{cases_lt}
 use Rattle.std.proofs.lemmas.Bool.Decides.{nat_tests}
 use Rattle.std.proofs.lemmas.List.{get_or-map, length-map}

@@ -1,9 +1,12 @@
 pub mod ByteOrder
 pub mod CollectionErrors
+pub mod CollectionFaults
 pub mod CollectionText
 pub mod Collections
-pub mod Sinks
 pub mod Docs
+pub mod Parts
+pub mod PartsLaws
+pub mod Sinks
 pub mod StopSets
 pub mod StopText
 pub mod Terms

@@ -1,11 +1,22 @@
 //! Collection texts: named documents, each on one line.
-ghost use Rattle.std.specs.Prelude.{◌≡◌, Contains, map};
+ghost use Rattle.std.specs.Prelude.{◌≡◌, ◌<◌, ◌⊎◌, ℕ, List, Contains, map, IfNone, IfSome, MatchOption};
 ghost use Rattle.std.proofs.Props.{props};
-ghost use Rattle.ix_text.specs.Collections.{IsName};
+ghost use Rattle.ix_text.specs.CollectionFaults.{IsCutAtFirst, IsCollectionFault};
+ghost use Rattle.ix_text.specs.CollectionText.{IsCollectionText};
+ghost use Rattle.ix_text.specs.Collections.{NamedText, IsName};
+ghost use Rattle.ix_text.specs.declared.collection.CollectionError.{CollectionError};
 
-use std::alloc::AllocError;
+use memchr::memchr;
+use simdutf8::compat::from_utf8;
+use std::alloc::{AllocError, AllocFailed, Global};
 use std::marker::Model;
 use thiserror::Error;
+
+/// The most bytes that a collection text may have.
+const MAX_BYTES: usize = 1 << 28;
+
+/// The most bytes that a name may have.
+const MAX_NAME_BYTES: usize = 255;
 
 /// A document as it is read: its name and its text, both borrowed from the collection text.
 #[derive(Clone, Copy, Debug, PartialEq, Eq)]
@@ -16,6 +27,32 @@ pub struct Doc<'a> {
     pub text: &'a str,
     pub ghost lawful_name: { IsName name.now } by { Prim.hlevel props },
     pub ghost one_line: { ¬ (Contains text.now 10) },
+}
+
+impl<'a> Doc<'a> {
+    ghost use Rattle.std.specs.Prelude.{◌<◌, ◌++◌, length, IfOk, IfErr};
+    ghost use Rattle.ix_text.specs.CollectionText.{line_of};
+    ghost use Rattle.ix_text.specs.CollectionFaults.{IsLineFault};
+    ghost use Rattle.ix_text.specs.Docs.{named_text};
+
+    /// The document of the first line of what is left of a text, and what follows the line. The line has this number.
+    fn read_line(left: &'a str, number: usize) -> Result<(Doc<'a>, &'a str), CollectionError>
+        requires { 0 < length left.now }
+        ensures document { IfOk result (λ read. left.now ≡ line_of (named_text read.0) ++ read.1.now) }
+        ensures fault { IfErr result (λ error. IsLineFault left.now number error) }
+    {
+        let (line, next) = first_line(left);
+        let Some((name, text)) = cut_at(line, b'\t') else {
+            return Err(CollectionError::NoTab(number));
+        };
+        if name.is_empty() || name.len() > MAX_NAME_BYTES {
+            return Err(CollectionError::Name(number));
+        }
+        let Some(next) = next else {
+            return Err(CollectionError::NoLineEnd(number));
+        };
+        Ok((Doc { name, text }, next))
+    }
 }
 
 /// The documents of a collection text, in order. A document's number is its place here, from 0.
@@ -36,7 +73,32 @@ impl<'a> Model for Collection<'a> {
 }
 
 impl<'a> Collection<'a> {
+    ghost use Rattle.std.specs.Prelude.{◌⊎◌, IfOk, IfErr};
+    ghost use Rattle.ix_text.specs.CollectionText.{IsCollectionText};
+    ghost use Rattle.ix_text.specs.CollectionFaults.{IsCollectionFault};
     ghost use Rattle.ix_text.specs.Docs.{named_text};
+
+    /// Reads a collection text of at most 2^28 bytes, whose names and texts stay where they are.
+    ///
+    /// The size is tested first, then that all is UTF-8, and then the lines in order; on each line the errors in
+    /// their order. The first fault is the error, or `Memory`.
+    pub fn read(alloc: Global, bytes: &'a [u8]) -> Result<Collection<'a>, CollectionError>
+        ensures documents { IfOk result (λ documents. IsCollectionText bytes.now documents) }
+        ensures fault { IfErr result (λ error. (error ≡ CollectionError.Memory) ⊎ IsCollectionFault bytes.now error) }
+    {
+        if bytes.len() > MAX_BYTES {
+            return Err(CollectionError::TooLarge);
+        }
+        let text = from_utf8(bytes).map_err(|e| CollectionError::NotUtf8(e.valid_up_to()))?;
+        let mut docs = Vec::new(alloc);
+        let mut left = text;
+        while !left.is_empty() {
+            let (doc, next) = Doc::read_line(left, docs.len() + 1)?;
+            docs.push(doc)?;
+            left = next;
+        }
+        Ok(Collection { docs })
+    }
 
     /// The documents, in order.
     pub fn docs(&self) -> &[Doc<'a>]
@@ -87,6 +149,17 @@ impl CollectionError {
     }
 }
 
+impl<T: Drop> From<AllocFailed<T>> for CollectionError {
+    ghost use Rattle.std.specs.Prelude.{◌≡◌};
+    ghost use Rattle.ix_text.specs.declared.collection.CollectionError.TheVariants.{Memory};
+
+    ghost from_gives = { λ _ e. e ≡ Memory };
+
+    fn from(_error: AllocFailed<T>) -> CollectionError {
+        CollectionError::Memory
+    }
+}
+
 impl From<AllocError> for CollectionError {
     ghost use Rattle.std.specs.Prelude.{◌≡◌};
     ghost use Rattle.ix_text.specs.declared.collection.CollectionError.TheVariants.{Memory};
@@ -95,5 +168,108 @@ impl From<AllocError> for CollectionError {
 
     fn from(_error: AllocError) -> CollectionError {
         CollectionError::Memory
+    }
+}
+
+/// The first line of a text, without its LF, and what follows the LF, if it has one.
+fn first_line(text: &str) -> (&str, Option<&str>)
+    ensures { MatchOption result.1 ((text.now ≡ result.0.now) × ¬ (Contains text.now 10)) (λ next. IsCutAtFirst text.now 10 result.0.now next.now) }
+{
+    match cut_at(text, b'\n') {
+        Some((line, next)) => (line, Some(next)),
+        None => (text, None),
+    }
+}
+
+/// Cuts a text at its first such byte, which is ASCII.
+fn cut_at(text: &str, byte: u8) -> Option<(&str, &str)>
+    requires { byte < 128 }
+    ensures none { IfNone result (¬ (Contains text.now byte)) }
+    ensures some { IfSome result (λ parts. IsCutAtFirst text.now byte parts.0.now parts.1.now) }
+{
+    let at = memchr(byte, text.as_bytes())?;
+    Some((&text[..at], &text[at + 1..]))
+}
+
+/// A text has one list of documents or one fault, and never both.
+pub fn has_documents_or_a_fault()
+    ensures one_list { (text : List ℕ) (one other : List NamedText) → IsCollectionText text one → IsCollectionText text other → one ≡ other }
+    ensures one_fault { (text : List ℕ) (one other : CollectionError) → IsCollectionFault text one → IsCollectionFault text other → one ≡ other }
+    ensures refused { (text : List ℕ) (documents : List NamedText) (fault : CollectionError) → IsCollectionFault text fault → ¬ (IsCollectionText text documents) }
+    ensures complete { (text : List ℕ) → ((documents : List NamedText) × IsCollectionText text documents) ⊎ ((fault : CollectionError) × IsCollectionFault text fault) }
+{}
+
+#[cfg(test)]
+mod tests {
+    use super::*;
+    use std::test::Fail;
+
+    #[test]
+    fn reads_documents(rt: HostRuntime) -> Result<(), Fail> {
+        let text = "a\tx y\nписьмо от 名前\t\nb\t\ty\tz\n";
+        let want = [("a", "x y"), ("письмо от 名前", ""), ("b", "\ty\tz")];
+        let collection = Collection::read(rt.alloc(), text.as_bytes())?;
+        assert_eq!(rt; collection.docs().len(), 3);
+        for (doc, (name, text)) in collection.docs().iter().zip(want) {
+            assert_eq!(rt; doc.name, name);
+            assert_eq!(rt; doc.text, text);
+        }
+        let empty = Collection::read(rt.alloc(), b"")?;
+        assert_eq!(rt; empty.docs().len(), 0);
+        Ok(())
+    }
+
+    #[test]
+    fn refuses_other_texts(rt: HostRuntime) -> Result<(), Fail> {
+        let cases: [(&[u8], &str); 11] = [
+            (b"x\n", "NoTab(1)"),
+            (b"\ty\n", "Name(1)"),
+            (b"a\tb", "NoLineEnd(1)"),
+            (b"\x61\x09\xff\x0a", "NotUtf8(2)"),
+            (b"a\tb\n\n", "NoTab(2)"),
+            (b"a\tb\nx", "NoTab(2)"),
+            (b"a\tb\n\tc", "Name(2)"),
+            (b"a\tb\nc\td", "NoLineEnd(2)"),
+            (b"a\tb\n\tc\nx\ny\tz", "Name(2)"),
+            (b"x\na\t\xe5\x90", "NotUtf8(4)"),
+            (b"\xff", "NotUtf8(0)"),
+        ];
+        for (bytes, want) in cases {
+            let refusal = Collection::read(rt.alloc(), bytes).err().ok_or(want)?;
+            let line = format!(in rt.alloc(); "{refusal}")?;
+            assert_eq!(rt; line.as_str(), want);
+        }
+        Ok(())
+    }
+
+    #[test]
+    fn names_have_255_bytes_at_most(rt: HostRuntime) -> Result<(), Fail> {
+        let mut longest = vec![in rt.alloc(); b'n'; 255]?;
+        longest.extend_from_slice(b"\tt\n")?;
+        let collection = Collection::read(rt.alloc(), &longest)?;
+        assert_eq!(rt; collection.docs().len(), 1);
+        assert_eq!(rt; collection.docs()[0].name.len(), 255);
+        let mut longer = vec![in rt.alloc(); b'n'; 256]?;
+        longer.extend_from_slice(b"\tt\n")?;
+        let refusal = Collection::read(rt.alloc(), &longer).err();
+        assert_eq!(rt; refusal, Some(CollectionError::Name(1)));
+        Ok(())
+    }
+
+    #[test]
+    fn errors_have_numbers_and_names(rt: HostRuntime) -> Result<(), Fail> {
+        let cases = [
+            (CollectionError::TooLarge, 1, "TooLarge"),
+            (CollectionError::NotUtf8(2), 2, "NotUtf8(2)"),
+            (CollectionError::NoTab(1), 3, "NoTab(1)"),
+            (CollectionError::Name(10), 4, "Name(10)"),
+            (CollectionError::NoLineEnd(7), 5, "NoLineEnd(7)"),
+            (CollectionError::Memory, 6, "Memory"),
+        ];
+        for (error, number, line) in cases {
+            assert_eq!(rt; error.number(), number);
+            assert_eq!(rt; format!(in rt.alloc(); "{error}")?.as_str(), line);
+        }
+        Ok(())
     }
 }

@@ -7,7 +7,7 @@ use Rattle.ix_vbyte.specs.Reading.{StartsWithCode, StartsWithZero, IsTooBig, IsC
 use Rattle.ix_vbyte.specs.Decoded.{HasFault, Finds}
 use Rattle.ix_vbyte.specs.declared.errors.VbError.{VbError}
 use Rattle.ix_vbyte.specs.declared.errors.VbError.TheVariants.{Cut, LeadingZero, TooBig}
-use Rattle.ix_vbyte.proofs.Values.{value_of-none, value_of-push, value_of-append_ge, code_of-apart, code_of-code, IsCode-code_of}
+use Rattle.ix_vbyte.proofs.Values.{value_of-none, length-code_of, value_of-push, value_of-append_ge, code_of-apart, code_of-code, IsCode-code_of}
 
 -- one byte more was read
 pub value_of-take : (bytes : List ℕ) (place : ℕ) → place < length bytes → value_of (take (place + 1) bytes) ≡ value_of (take place bytes) * 128 + get_or bytes place 0 % 128
@@ -152,6 +152,10 @@ pub cut_at_once : (bytes : List ℕ) → slice_get bytes 0 ≡ None → IsCut by
 cut_at_once [] none = record { unmarked = All-nil (λ x. x < 128); fits = rw value_of-none (lit< tt); no_zero = λ h. cc }
 cut_at_once (b ∷ bytes) none = absurd (cc)
 
+-- the first byte is not 0
+pub no_zero : (bytes : List ℕ) (byte : ℕ) → slice_get bytes 0 ≡ Some byte → (byte ≡ 0 → ⊥) → slice_get bytes 0 ≢ Some 0
+no_zero bytes byte some other h = let same : byte ≡ 0 = cc in other same
+
 -- the first byte is a code
 pub starts_at_once : (bytes : List ℕ) (byte : ℕ) → slice_get bytes 0 ≡ Some byte → 128 ≤ byte → byte < 256 → StartsWithCode bytes (byte % 128) 1
 starts_at_once [] byte some marked fits = absurd (cc)
@@ -171,6 +175,18 @@ pub found_no_code : (bytes : List ℕ) (r : Result (ℕ × ℕ) VbError) → Fin
 found_no_code bytes (Ok a) f = (λ h. absurd (search rules), λ none. absurd (none a.0 a.1 f))
 found_no_code bytes (Err e) f = (λ h n count s. code_or_fault bytes n count e s f, λ none. search rules)
 
-pub found_front : (bytes : List ℕ) (r : Result (ℕ × ℕ) VbError) → Finds bytes r → IfOk r (λ a. (bytes ≡ code_of a.0 ++ drop a.1 bytes) × (a.1 ≡ length (code_of a.0)))
-found_front bytes (Ok a) f = starts_as bytes a.0 a.1 f
+pub found_front : (bytes : List ℕ) (r : Result (ℕ × ℕ) VbError) → Finds bytes r → IfOk r (λ a. bytes ≡ code_of a.0 ++ drop a.1 bytes)
+found_front bytes (Ok a) f = (starts_as bytes a.0 a.1 f).0
 found_front bytes (Err e) f = tt
+
+pub found_count : (bytes : List ℕ) (r : Result (ℕ × ℕ) VbError) → Finds bytes r → IfOk r (λ a. a.1 ≡ length (code_of a.0))
+found_count bytes (Ok a) f = (starts_as bytes a.0 a.1 f).1
+found_count bytes (Err e) f = tt
+
+pub found_size : (bytes : List ℕ) (r : Result (ℕ × ℕ) VbError) → Finds bytes r → IfOk r (λ a. (0 < a.1) × (a.1 ≤ 5) × (a.1 ≤ length bytes))
+found_size bytes (Ok a) f =
+    let count : a.1 ≡ length (code_of a.0) = (starts_as bytes a.0 a.1 f).1 in
+    let within : a.1 ≤ length bytes = f.within in
+    let bounds = length-code_of a.0 f.code.fits in
+    (omega arith, omega arith, within)
+found_size bytes (Err e) f = tt

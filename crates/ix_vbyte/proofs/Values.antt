@@ -1,8 +1,8 @@
 -- What bytes stand for, byte by byte.
-use Rattle.std.proofs.Common.{◌≡◌, ◌≢◌, ℕ, zero, suc, ◌+◌, ◌*◌, ◌/◌, ◌%◌, ◌^◌, ◌<◌, ◌≤◌, List, [], ◌∷◌, ◌++◌, map, get_or, All, refl, sym, ap, ◌∙◌, subst, ap₂, arith, slice_get, Some}
+use Rattle.std.proofs.Common.{◌≡◌, ◌≢◌, ℕ, zero, suc, ◌+◌, ◌*◌, ◌/◌, ◌%◌, ◌^◌, ◌<◌, ◌≤◌, List, [], ◌∷◌, ◌++◌, map, length, get_or, All, refl, sym, ap, ◌∙◌, subst, ap₂, arith, slice_get, Some}
 use Rattle.std.specs.Int.Digits.{number_from_digits, number_from_digits_after, digits_of}
-use Rattle.std.proofs.lemmas.Int.Digits.{number_after_append, number_after_ge, digits_of_step, number_digits_of, all_below_base_digits_of, first_digits_of, same_from_digits_of}
-use Rattle.std.proofs.lemmas.List.{map-append, append-nil, append_assoc}
+use Rattle.std.proofs.lemmas.Int.Digits.{number_after_append, number_after_ge, digits_of_step, number_digits_of, all_below_base_digits_of, first_digits_of, same_from_digits_of, length-digits_of-le}
+use Rattle.std.proofs.lemmas.List.{map-append, append-nil, append_assoc, length_push}
 use Rattle.std.proofs.lemmas.Nat.{div-mul-add, mod-mul-add}
 use Rattle.std.proofs.lemmas.List.Elements.{All-head, All-tail, All-from_recursion}
 use Rattle.ix_vbyte.specs.Code.{value_of, AreUnmarked, IsCode, code_of}
@@ -163,3 +163,11 @@ code_of-apart m n xs ys e =
     let high : m / 128 ≡ n / 128 = same_from_digits_of 128 (m / 128) (n / 128) (omega arith) r.0 in
     let low : 128 + m % 128 ≡ 128 + n % 128 = r.1 in
     (omega arith, r.2)
+
+-- a code has one to five bytes
+pub length-code_of : (n : ℕ) → n < 2 ^ 32 → (0 < length (code_of n)) × (length (code_of n) ≤ 5)
+unfolding code_of
+length-code_of n small =
+    let len : length (digits_of 128 (n / 128) ++ (128 + n % 128) ∷ []) ≡ length (digits_of 128 (n / 128)) + 1 = length_push (digits_of 128 (n / 128)) (128 + n % 128) in
+    let most : length (digits_of 128 (n / 128)) ≤ 4 = length-digits_of-le 128 4 (n / 128) (omega arith) (omega arith) in
+    (omega arith, omega arith)

@@ -4,17 +4,16 @@ use Rattle.ix_vbyte.specs.Code.{code_of}
 use Rattle.ix_vbyte.specs.Gaps.{Ascends, gaps_of}
 
 -- A document's number, and the positions at which it has the term.
-pub record Posting : Type 0 where
-  pub document : ℕ
-  pub positions : List ℕ
+abbrev pub Posting : Type 0
+Posting = ℕ × List ℕ
 
 abbrev pub documents_of : List Posting → List ℕ
-documents_of postings = map (λ posting. posting.document) postings
+documents_of postings = map (λ posting. posting.0) postings
 
 -- There is a position, and positions ascend below `top`.
 pub record IsPosting (top : ℕ) (posting : Posting) : Type 0 where
-  pub some : 0 < length posting.positions
-  pub positions : Ascends 0 top posting.positions
+  pub some : 0 < length posting.1
+  pub positions : Ascends 0 top posting.1
 
 -- Documents ascend from `low` on and below `top`, and each one has positions below `top`.
 pub record ArePostings (low top : ℕ) (postings : List Posting) : Type 0 where
@@ -27,12 +26,12 @@ codes_of numbers = flat_map code_of numbers
 
 -- A posting whose document has this gap: the gap, the number of positions, and their gaps.
 abbrev pub posting_bytes : ℕ → Posting → List ℕ
-posting_bytes gap posting = code_of gap ++ code_of (length posting.positions) ++ codes_of (gaps_of posting.positions)
+posting_bytes gap posting = code_of gap ++ code_of (length posting.1) ++ codes_of (gaps_of posting.1)
 
 -- The bytes of a list, where `next` is one above the document before the first.
 abbrev pub list_bytes_from : ℕ → List Posting → List ℕ
 list_bytes_from next [] = []
-list_bytes_from next (posting ∷ postings) = posting_bytes (posting.document + 1 - next) posting ++ list_bytes_from (posting.document + 1) postings
+list_bytes_from next (posting ∷ postings) = posting_bytes (posting.0 + 1 - next) posting ++ list_bytes_from (posting.0 + 1) postings
 
 -- The coded list of a term's postings.
 abbrev pub list_bytes : List Posting → List ℕ

@@ -20,30 +20,35 @@ pub fn decode(bytes: &[u8]) -> Result<(u32, usize), VbError>
 
     // The same in words for callers.
     ensures refused { IsErr result ↔ ((n count : ℕ) → ¬ StartsWithCode bytes.now n count) }
-    ensures front { IfOk result (λ r. (bytes.now ≡ code_of r.0 ++ drop r.1 bytes.now) × (r.1 ≡ length (code_of r.0))) }
+    ensures front { IfOk result (λ r. bytes.now ≡ code_of r.0 ++ drop r.1 bytes.now) }
+    ensures count { IfOk result (λ r. r.1 ≡ length (code_of r.0)) }
+    ensures size { IfOk result (λ r. (0 < r.1) × (r.1 ≤ 5) × (r.1 ≤ length bytes.now)) }
     ensures written { (n : ℕ) (rest : List ℕ) → n < 2 ^ 32 → bytes.now ≡ code_of n ++ rest → result ≡ Ok (n, length (code_of n)) }
 {
     read(bytes)
 }
 
-/// The same, as what was found in one fact.
+/// The same, as what was found in one fact. Most codes have one byte, and they take no loop.
 #[inline]
 fn read(bytes: &[u8]) -> Result<(u32, usize), VbError>
     ensures { Finds bytes.now result }
 {
     match bytes.first() {
-        None => Err(VbError::Cut),
-        Some(0) => Err(VbError::LeadingZero),
         Some(&byte) if byte >= 128 => Ok((u32::from(byte % 128), 1)),
-        Some(_) => read_groups(bytes),
+        _ => read_groups(bytes),
     }
 }
 
-/// The same for bytes whose first byte is not `00`.
+/// The same, seven bits at a time.
 fn read_groups(bytes: &[u8]) -> Result<(u32, usize), VbError>
-    requires { ¬ StartsWithZero bytes.now }
     ensures { Finds bytes.now result }
 {
+    let Some(&first) = bytes.first() else {
+        return Err(VbError::Cut);
+    };
+    if first == 0 {
+        return Err(VbError::LeadingZero);
+    }
     let mut number: u32 = 0;
     for (place, &byte) in bytes.iter().enumerate() {
         if number >= 1 << 25 {

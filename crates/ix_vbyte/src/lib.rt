@@ -7,6 +7,8 @@ mod decoding;
 mod encoding;
 mod errors;
 mod laws;
+#[cfg(test)]
+mod tests;
 
 pub use decoding::decode;
 pub use encoding::{Code, code_len, encode, push_code};

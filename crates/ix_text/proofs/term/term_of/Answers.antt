@@ -1,4 +1,4 @@
-use Rattle.std.proofs.Common.{string_bytes, ◌∙◌}
+use Rattle.std.proofs.Common.{◌∙◌}
 use Rattle.ix_text.proofs.TermLemmas.{term_of_word-ascii, term_of_word-by_steps}
 use Rattle.ix_text.proofs.term.term_of.Goals as goal
 

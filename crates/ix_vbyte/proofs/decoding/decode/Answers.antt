@@ -1,5 +1,5 @@
 use Rattle.ix_vbyte.specs.declared.errors.VbError.TheVariants.{Cut, LeadingZero, TooBig}
-use Rattle.ix_vbyte.proofs.Fronts.{starts_from, found_code, found_fault, found_no_code, found_front}
+use Rattle.ix_vbyte.proofs.Fronts.{starts_from, found_code, found_fault, found_no_code, found_front, found_count, found_size}
 use Rattle.ix_vbyte.proofs.decoding.decode.Goals as goal
 
 pub returns-clause-found : goal.returns-clause-found
@@ -19,6 +19,12 @@ returns-clause-refused c = found_no_code c.args.bytes.now c.read.result c.read.e
 
 pub returns-clause-front : goal.returns-clause-front
 returns-clause-front c = found_front c.args.bytes.now c.read.result c.read.ensures
+
+pub returns-clause-count : goal.returns-clause-count
+returns-clause-count c = found_count c.args.bytes.now c.read.result c.read.ensures
+
+pub returns-clause-size : goal.returns-clause-size
+returns-clause-size c = found_size c.args.bytes.now c.read.result c.read.ensures
 
 pub returns-clause-written : goal.returns-clause-written
 returns-clause-written c n rest fits e = (found_code c.args.bytes.now c.read.result c.read.ensures _ _).1 (starts_from c.args.bytes.now n rest fits e)

@@ -1,7 +1,7 @@
-use Rattle.std.proofs.Common.{◌/◌, ◌^◌, ◌++◌, ◌∷◌, [], length, ap, ap₂, ◌∙◌, sym, subst, arith}
+use Rattle.std.proofs.Common.{◌<◌, ◌≤◌, ◌/◌, ◌^◌, ◌++◌, ◌∷◌, [], length, ap, ap₂, ◌∙◌, sym, subst, arith}
 use Rattle.std.proofs.lemmas.Int.Digits.{length-digits_of-le}
 use Rattle.ix_vbyte.specs.Code.{IsCode, code_of}
-use Rattle.ix_vbyte.proofs.Values.{IsCode-code_of}
+use Rattle.ix_vbyte.proofs.Values.{IsCode-code_of, length-code_of}
 use Rattle.ix_vbyte.proofs.encoding.encode.Goals as goal
 
 pub push_digit-requires-2-clause-room : goal.push_digit-requires-2-clause-room
@@ -22,3 +22,6 @@ returns-clause-value c = c.push.ensures.items ∙ ap₂ (λ xs x. xs ++ x ∷ []
 
 pub returns-clause-is_code : goal.returns-clause-is_code
 returns-clause-is_code c = subst (IsCode c.args.n) (sym (returns-clause-value c)) (IsCode-code_of c.args.n c.ranges.n.fits)
+
+pub returns-clause-size : goal.returns-clause-size
+returns-clause-size c = subst (λ bytes. (0 < length bytes) × (length bytes ≤ 5)) (sym (returns-clause-value c)) (length-code_of c.args.n c.ranges.n.fits)

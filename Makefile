@@ -1,0 +1,23 @@
+# make        proves and builds the program, puts it at build/ix, and asks the sample collection a question
+# make test   the gate: proves every crate from nothing, tries the must-fail edits, runs the tests and the program
+RT := $(shell command -v rt 2> /dev/null)
+
+.PHONY: all test toolchain
+
+all: toolchain
+	@echo "proving and building crates/ix (the first time takes some minutes) .."
+	@cd crates/ix && rt run -- --help > out.help || (cat out.help; rm -f out.help; exit 1)
+	@rm -f crates/ix/out.help
+	@mkdir -p build && cp crates/ix/out/ix build/ix
+	@echo "built build/ix; asking: build/ix ask examples/mail.txt 'contract AND NOT hotel'"
+	@build/ix ask examples/mail.txt 'contract AND NOT hotel'
+
+test: toolchain
+	@echo "the gate: every proof from nothing, the must-fail edits, the tests, the program .."
+	@rt ci
+
+toolchain:
+ifeq ($(RT),)
+	@echo "ix is written in Rattle, and its command 'rt' is not on the PATH: without it nothing can be proved or built" >&2
+	@exit 1
+endif

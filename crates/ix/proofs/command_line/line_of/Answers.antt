@@ -1,0 +1,9 @@
+-- A command that was entered is one of those matched above.
+use Rattle.std.proofs.Common.{codes}
+use Rattle.ix.specs.Commands.{ix_app, ix_built}
+use Rattle.ix.proofs.Rows.{another, not_entered}
+use Rattle.ix.proofs.command_line.line_of.Goals as goal
+
+pub unreachable-requires : goal.unreachable-requires
+unfolding ix_app
+unreachable-requires c = not_entered ix_built c.args.name.now _ (another (codes "ask") _ c.in_default.not-ask, tt) c.requires

@@ -1,0 +1,2 @@
+pub mod IndexText
+pub mod Sections

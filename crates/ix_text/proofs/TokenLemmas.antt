@@ -1,0 +1,45 @@
+-- Token lists: which entry a term gives, and one more entry.
+use Rattle.std.proofs.Common.{◌≡◌, ℕ, Bool, true, false, not, ◌&&◌, cond, List, [], ◌∷◌, ◌++◌, map, bytes_eq, Some, None, Contains, refl, ap, ap₂, ◌∙◌, append_assoc}
+use Rattle.std.proofs.lemmas.Bool.Decides.{Decides-by_or}
+use Rattle.std.proofs.lemmas.List.{map-append}
+use Rattle.std.proofs.lemmas.List.Elements.{Decides-contains}
+use Rattle.std.specs.Bool.{Decides}
+use Rattle.std.specs.Cmp.Lexicographic.{bytes_decides}
+use Rattle.ix_text.specs.TokenLists.{Entry, entry_of_term, is_stop_term, is_term_size}
+
+pub is_stop_term-Decides : (stop : List (List ℕ)) (term : List ℕ) → Decides (is_stop_term stop term) (Contains stop term)
+is_stop_term-Decides stop term =
+    Decides-contains stop term (is_stop_term stop term)
+    (Decides-by_or (λ stopped. bytes_eq stopped term) (λ stopped. stopped ≡ term) (λ stopped. is_stop_term stopped term) (λ stopped. bytes_decides stopped term) refl (λ _ _. refl) stop)
+
+entry_by : Bool → Bool → List ℕ → Entry
+entry_by size stopped term = cond (size && not stopped) (Some term) None
+
+-- a term is kept just where its size is lawful and no stop term is it
+pub entry_of_term-kept : (stop : List (List ℕ)) (term : List ℕ) → is_term_size term ≡ true → ¬ (Contains stop term) → entry_of_term stop term ≡ Some term
+unfolding entry_of_term entry_by
+entry_of_term-kept stop term size kept =
+    ap₂ (λ a b. entry_by a b term) size (no (is_stop_term stop term) (is_stop_term-Decides stop term))
+  where
+    no : (b : Bool) → Decides b (Contains stop term) → b ≡ false
+    no true d = absurd (kept (d.0 refl))
+    no false d = refl
+
+pub entry_of_term-stopped : (stop : List (List ℕ)) (term : List ℕ) → Contains stop term → entry_of_term stop term ≡ None
+unfolding entry_of_term entry_by
+entry_of_term-stopped stop term has = ap (λ b. entry_by (is_term_size term) b term) ((is_stop_term-Decides stop term).1 has) ∙ by (is_term_size term)
+  where
+    by : (size : Bool) → entry_by size true term ≡ None
+    by true = refl
+    by false = refl
+
+pub entry_of_term-wrong_size : (stop : List (List ℕ)) (term : List ℕ) → is_term_size term ≡ false → entry_of_term stop term ≡ None
+unfolding entry_of_term entry_by
+entry_of_term-wrong_size stop term size = ap (λ a. entry_by a (is_stop_term stop term) term) size
+
+-- one more entry is done, and one word fewer is left
+pub entries-push : {A : Type 0} (shown : A → Entry) (entry : List ℕ → Entry) (done : List A) (x : A) (word : List ℕ) (left : List (List ℕ)) → shown x ≡ entry word → map shown (done ++ x ∷ []) ++ map entry left ≡ map shown done ++ map entry (word ∷ left)
+entries-push shown entry done x word left same =
+    ap (λ l. l ++ map entry left) (map-append shown done (x ∷ []))
+    ∙ append_assoc (map shown done) (shown x ∷ []) (map entry left)
+    ∙ ap (λ y. map shown done ++ y ∷ map entry left) same

@@ -1,0 +1,38 @@
+ghost use Rattle.std.specs.Prelude.{◌≡◌, ◌↔◌, map, length, option_map, string_bytes, string_len, IsTrue, IfOk};
+ghost use Rattle.ix_text.specs.StopSets.{HasTermSize};
+ghost use Rattle.ix_text.specs.Terms.{term_of_word};
+ghost use Rattle.ix_text.specs.TokenLists.{entry_of_term, is_term_size, token_list};
+
+use crate::{Memory, StopList, term_of};
+use std::alloc::Global;
+use unicode_segmentation::UnicodeSegmentation;
+
+/// The token list of a text: for each of its words (UAX #29), in order, its term, or nothing where that is a stop
+/// term or has not 1 to 255 bytes. An entry's place, from 0, is its position (IIR 2.4.2).
+pub fn tokens(alloc: Global, text: &str, stop: &StopList) -> Result<Vec<Option<String>>, Memory>
+    ensures { IfOk result (λ list. map (option_map string_bytes) list.items ≡ token_list stop.now text.now) }
+{
+    let mut list = Vec::new(alloc);
+    for word in text.unicode_words() {
+        list.push(entry_of(alloc, word, stop)?)?;
+    }
+    Ok(list)
+}
+
+fn entry_of(alloc: Global, word: &str, stop: &StopList) -> Result<Option<String>, Memory>
+    ensures { IfOk result (λ entry. option_map string_bytes entry ≡ entry_of_term stop.now (term_of_word word.now)) }
+{
+    let term = term_of(alloc, word)?;
+    if has_term_size(&term) && !stop.contains(&term) {
+        Ok(Some(term))
+    } else {
+        Ok(None)
+    }
+}
+
+/// Whether the term has 1 to 255 bytes.
+pub(crate) fn has_term_size(term: &str) -> bool
+    ensures { result ≡ is_term_size term.now }
+{
+    0 < term.len() && term.len() <= 255
+}
