@@ -1,3 +1,4 @@
+pub mod Cutting
 pub mod Grammar
 pub mod Judgement
 pub mod Lexemes

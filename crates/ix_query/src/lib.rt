@@ -5,6 +5,7 @@
 mod error;
 mod grammar;
 mod judge;
+mod laws;
 mod lexeme;
 mod parse;
 mod parser;
@@ -12,6 +13,7 @@ mod query;
 mod tree;
 
 pub use error::QueryError;
+pub use laws::lexemes_cut_the_text;
 pub use grammar::{a_text_has_one_tree, queries_are_those_of_the_grammar};
 pub use lexeme::{Lexeme, Sign, lexemes};
 pub use query::{Query, Term};

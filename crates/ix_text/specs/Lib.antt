@@ -1,6 +1,7 @@
 pub mod ByteOrder
 pub mod CollectionErrors
 pub mod CollectionFaults
+pub mod CollectionLaws
 pub mod CollectionText
 pub mod Collections
 pub mod Docs
@@ -11,4 +12,5 @@ pub mod StopSets
 pub mod StopText
 pub mod Terms
 pub mod TokenLists
+pub mod WindowLaws
 pub mod Windows

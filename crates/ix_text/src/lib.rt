@@ -18,4 +18,4 @@ pub use sink::{WriteRefused, flush, put_all};
 pub use stop::StopList;
 pub use term::{equal_terms_match, term_of};
 pub use token::tokens;
-pub use windows::{TrigramWindows, trigrams};
+pub use windows::{TrigramWindows, trigrams, trigrams_stand_by_place};
