@@ -1,5 +1,5 @@
 -- What it means that a question to a collection text was answered, and what a refusal leaves.
-use Rattle.std.specs.Prelude.{◌≡◌, ℕ, ◌⊎◌, List, length, Option, Err}
+use Rattle.std.specs.Prelude.{◌≡◌, ℕ, ◌⊎◌, List, length, Option}
 use Rattle.std.specs.Io.KnownBytes.{Appends, Keeps}
 use Rattle.ix_text.specs.CollectionText.{IsCollectionText}
 use Rattle.ix_text.specs.CollectionFaults.{IsCollectionFault}
@@ -12,7 +12,7 @@ use Rattle.ix_query.specs.Machine.{query_of}
 use Rattle.ix_text.specs.declared.collection.CollectionError.{CollectionError}
 use Rattle.ix_text.specs.declared.collection.CollectionError.TheVariants as collection
 use Rattle.ix_query.specs.declared.error.QueryError.{QueryError}
-use Rattle.ix_query.specs.declared.error.QueryError.TheVariants as unread
+use Rattle.ix_query.specs.QueryErrors.{Fails}
 use Rattle.ix.specs.NameLines.{name_lines}
 use Rattle.ix.specs.declared.ask.AskError.{AskError}
 use Rattle.ix.specs.declared.ask.AskError.TheVariants as asking
@@ -34,11 +34,11 @@ pub record IsAnswered (text : List ℕ) (stop : List (List ℕ)) (query : List �
 
 -- The bytes are no collection text, and this is their fault; or memory ran out.
 abbrev pub RefusesCollection : List ℕ → CollectionError → Type 0
-RefusesCollection text error = IsCollectionFault text error ⊎ (error ≡ collection.Memory)
+RefusesCollection text error = (error ≡ collection.Memory) ⊎ IsCollectionFault text error
 
 -- The text is no query, and this is its first fault; or memory ran out.
 abbrev pub RefusesQuery : List (List ℕ) → List ℕ → QueryError → Type 0
-RefusesQuery stop query error = (query_of stop query ≡ Err error) ⊎ (error ≡ unread.Memory)
+RefusesQuery stop query error = Fails error (query_of stop query)
 
 -- The bytes are a collection text.
 abbrev pub IsCollection : List ℕ → Type 0

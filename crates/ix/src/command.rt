@@ -11,6 +11,9 @@ use std::io::{ErrorKind, Write};
 use std::rt::Files;
 use std::str;
 
+#[cfg(test)]
+mod tests;
+
 /// Something was found, or help was asked for.
 const FOUND: u8 = 0;
 
