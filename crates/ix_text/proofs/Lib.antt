@@ -1,5 +1,6 @@
 pub mod SinkLemmas
 pub mod StopSetLemmas
+pub mod StopTextLemmas
 pub mod TermLemmas
 pub mod TokenLemmas
 pub mod CollectionLemmas

@@ -5,6 +5,8 @@ pub mod CollectionText
 pub mod Collections
 pub mod Sinks
 pub mod Docs
+pub mod StopErrors
+pub mod StopFaults
 pub mod StopSets
 pub mod StopText
 pub mod Terms

@@ -14,6 +14,6 @@ pub use collection::{Collection, CollectionError, Doc};
 pub use memory::Memory;
 pub use parts::parts_tell_collection;
 pub use sink::{WriteRefused, flush, put_all};
-pub use stop::StopList;
+pub use stop::{StopError, StopList};
 pub use term::{equal_terms_match, term_of};
 pub use token::tokens;
