@@ -125,7 +125,7 @@ fn read_file<'a, R: Files + AllocGlobal>(rt: &R, path: &'a str) -> Result<Vec<u8
 }
 
 /// Prints one line on the error output.
-fn refuse<E: Write>(err: &mut E, refusal: Refusal<'_>) -> u8
+pub fn refuse<E: Write>(err: &mut E, refusal: Refusal<'_>) -> u8
     ensures { result ≤ 2 }
 {
     let _ = writeln!(err, "ix: {refusal}");

@@ -7,22 +7,32 @@ mod command_line;
 mod names;
 mod refusal;
 
-use command::{command, refuse_arguments};
+use command::{command, refuse};
+use refusal::Refusal;
 use std::alloc::AllocError;
 use std::env;
 use std::process::ExitCode;
 
 fn main(rt: HostRuntime) -> ExitCode {
-    let mut out = rt.stdout();
     let mut err = rt.stderr();
     let Ok(args) = env::args(&rt) else {
-        return ExitCode::from(refuse_arguments(&mut err));
+        return ExitCode::from(refuse(&mut err, Refusal::Arguments));
     };
+    match run(&rt, args) {
+        Ok(status) => ExitCode::from(status),
+        Err(AllocError) => ExitCode::from(refuse(&mut err, Refusal::Memory)),
+    }
+}
+
+/// Does what the words after the program's name ask for.
+fn run(rt: &HostRuntime, args: env::Args) -> Result<u8, AllocError> {
     let mut texts = Vec::new(rt.alloc());
     for text in args.skip(1) {
-        if texts.push(text).is_err() {
-            return ExitCode::from(refuse_arguments(&mut err));
-        }
+        texts.push(text)?;
     }
-    ExitCode::from(2)
+    let mut words = Vec::new(rt.alloc());
+    for text in &texts {
+        words.push(text.as_str())?;
+    }
+    Ok(command(rt, &words, &mut rt.stdout(), &mut rt.stderr()))
 }
