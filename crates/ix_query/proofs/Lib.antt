@@ -9,3 +9,6 @@ pub mod Results
 pub mod RunSigns
 pub mod SoundLemmas
 pub mod Stars
+pub mod SatisfactionLemmas
+pub mod PositionLemmas
+pub mod ScanLemmas
