@@ -4,6 +4,7 @@ pub mod CollectionTold
 pub mod PartsLemmas
 pub mod SinkLemmas
 pub mod StopSetLemmas
+pub mod StopTextLemmas
 pub mod TermLemmas
 pub mod TokenLemmas
 pub mod TokensTold

@@ -8,6 +8,8 @@ pub mod Docs
 pub mod Parts
 pub mod PartsLaws
 pub mod Sinks
+pub mod StopErrors
+pub mod StopFaults
 pub mod StopSets
 pub mod StopText
 pub mod Terms
