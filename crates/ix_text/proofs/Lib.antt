@@ -1,4 +1,6 @@
 pub mod SinkLemmas
+pub mod FoldLemmas
+pub mod FoldTables
 pub mod StopSetLemmas
 pub mod StopTextLemmas
 pub mod TermLemmas

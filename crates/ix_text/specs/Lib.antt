@@ -5,6 +5,7 @@ pub mod CollectionText
 pub mod Collections
 pub mod Sinks
 pub mod Docs
+pub mod IotaSubscript
 pub mod StopErrors
 pub mod StopFaults
 pub mod StopSets
