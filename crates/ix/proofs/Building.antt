@@ -1,10 +1,12 @@
 -- Chains that build a command for `clap`.
-use Rattle.std.proofs.Common.{◌≡◌, ◌∙◌, ap, ap₂, false, refl, ◌||◌}
+use Rattle.std.proofs.Common.{◌≡◌, ◌∙◌, ap, ap₂, refl, ◌||◌, Bor, Option}
 use Rattle.clap.specs.Built.{AddsArg, AddsSubcommand}
-use Rattle.clap.specs.Simple.{App, Shape, app_of, shape_of, with_rule, with_subcommand}
-use Rattle.clap.specs.Walk.{Rule, rule_of}
+use Rattle.clap.specs.Simple.{App, app_of, app_of_fields, with_rule, with_subcommand}
+use Rattle.clap.specs.Walk.{Rule, Text}
 use Rattle.clap.specs.declared.builder.arg.Arg.{Arg}
 use Rattle.clap.specs.declared.builder.command.Command.{Command}
+use Rattle.clap.specs.declared.builder.command.Command.TheOpen.{Command-F}
+use Rattle.clap.specs.declared.builder.command.Command.TheViews.{out-Command as fields_of}
 use Rattle.ix.specs.Building.{IsArgument, IsCommand}
 
 -- one more argument adds its rule
@@ -17,3 +19,15 @@ adds_argument {rule} adds old argument = record {
 -- one more command below adds its shape
 pub adds_subcommand : {old sub new : Command} {app : App} {below : App} → AddsSubcommand old sub new → app_of old ≡ app → IsCommand below sub → app_of new ≡ with_subcommand app below.top
 adds_subcommand adds old below = adds.shape below.local ∙ ap₂ with_subcommand old (ap (λ (a : App). a.top) below.app_is)
+
+-- a setting does to what a parse reads what it does to the fields
+pub sets : (old new : Command) {app : App} (f : Command-F Command → Command-F Command) (g : App → App) → ((r : Command-F Command) → app_of_fields (f r) ≡ g (app_of_fields r))
+    → fields_of new ≡ f (fields_of old) → app_of old ≡ app → app_of new ≡ g app
+sets old new f g same changes was = ap app_of_fields changes ∙ (same (fields_of old) ∙ ap g was)
+
+-- a parse does not read what a command says about itself, or the name of its program
+abbrev pub same_app : App → App
+same_app app = app
+
+pub about_set : (old new : Command) {app : App} (text : Option (Bor Text)) → fields_of new ≡ record (fields_of old) { about = text } → app_of old ≡ app → app_of new ≡ app
+about_set old new text changes was = sets old new (λ r. record r { about = text }) same_app (λ r. refl) changes was

@@ -1,5 +1,5 @@
 -- What a parse of the words tells of the program's commands.
-use Rattle.std.proofs.Common.{◌≡◌, ◌∙◌, ap, refl, sym, subst, true, inl, inr, ⊎_elim, List, [], Option, Some, None, Result, Ok, Err, IsErrAnd, IfErr, true≢false}
+use Rattle.std.proofs.Common.{◌≡◌, ◌∙◌, ap, refl, sym, subst, true, ⊎_elim, List, [], Option, Some, None, Result, Ok, Err, IsErrAnd, IfErr}
 use Rattle.std.specs.Prelude.{IsSome, IsSomeAnd}
 use Rattle.clap.specs.Kinds.{HasKind}
 use Rattle.clap.specs.Faults.{fault_of, is_simple_and_free}

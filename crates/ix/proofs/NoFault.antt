@@ -1,15 +1,14 @@
 -- Where `clap` finds no fault with the words, they name a command, and its matches fit it.
-use Rattle.std.proofs.Common.{◌≡◌, ◌∙◌, ◌&&◌, ◌||◌, ℕ, Bool, cond, true, false, not, refl, sym, ap, subst, true≢false, List, [], ◌∷◌, Option, Some, None, option_map, is_some}
+use Rattle.std.proofs.Common.{◌≡◌, ◌∙◌, ◌&&◌, ◌||◌, Bool, cond, true, false, not, refl, sym, ap, subst, true≢false, List, [], ◌∷◌, Option, Some, None, option_map, is_some}
 use Rattle.std.specs.Prelude.{IfSome, IsSome, IsSomeAnd, find, fold}
 use Rattle.std.specs.List.{list_all, list_any}
 use Rattle.std.specs.Option.{option_map_or}
 use Rattle.std.specs.Str.{bytes_eq}
-use Rattle.clap.specs.Kinds.{Kinds, check_kinds, or_else}
+use Rattle.clap.specs.Kinds.{check_kinds}
 use Rattle.clap.specs.Simple.{App, Shape, argument_words, built, entered, label_of, names_of, rows_at, subcommand_of}
-use Rattle.clap.specs.Walk.{Held, Names, Row, Rule, Text, answers_to, arg_by_id, default_rows, finished, has_row, is_empty, nothing_held, reading_by, rows_after, settled, walk, walk_from, with_default}
-use Rattle.clap.specs.Faults.{check_fault, defaults_fault, entered_fault, fault_of, level_fault, settle_fault, walk_fault}
+use Rattle.clap.specs.Walk.{Row, Rule, Text, answers_to, default_rows, finished, has_row, is_empty, nothing_held, reading_by, rows_after, settled, walk, walk_from, with_default}
+use Rattle.clap.specs.Faults.{defaults_fault, entered_fault, fault_of, level_fault, settle_fault, walk_fault}
 use Rattle.clap.specs.Takes.{is_given}
-use Rattle.clap.specs.declared.builder.value_parser.Reading.{Reading}
 use Rattle.clap.proofs.SimpleLemmas.{is_nil}
 use Rattle.ix.specs.Entered.{Each, Entered, FitsShape, RowFits}
 use Rattle.ix.proofs.EachLemmas.{FindsItself, both, each_as, each_both, finds_itself, found, from_all, neither, unlike}

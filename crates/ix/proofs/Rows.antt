@@ -1,5 +1,5 @@
 -- What a reader of a field knows of the rows of a command that was entered.
-use Rattle.std.proofs.Common.{◌≡◌, ◌<◌, ◌||◌, Bool, cond, true, false, refl, subst, sym, arith, true≢false, List, [], ◌∷◌, length, Option, Some, None, is_some, option_map}
+use Rattle.std.proofs.Common.{◌≡◌, ◌<◌, ◌||◌, Bool, cond, true, false, refl, subst, sym, arith, true≢false, List, [], ◌∷◌, length, Option, Some, None}
 use Rattle.std.specs.Prelude.{IfSome, IsSome, IsSomeAnd, find, option_and_then, slice_get}
 use Rattle.std.specs.Option.{option_map_or}
 use Rattle.std.specs.Str.{bytes_eq}

@@ -1,18 +1,17 @@
 -- A use of an argument that is no fault leaves each row with values that its argument takes.
-use Rattle.std.proofs.Common.{◌≡◌, ◌∙◌, ◌&&◌, ◌<◌, ◌==◌, ℕ, Bool, cond, true, false, refl, sym, ap, subst, arith, true≢false, List, [], ◌∷◌, ◌++◌, length, Option, Some, None, length-append}
+use Rattle.std.proofs.Common.{◌≡◌, ◌∙◌, ◌<◌, ℕ, Bool, cond, true, false, refl, sym, ap, subst, arith, List, [], ◌∷◌, ◌++◌, length, Option, Some, None, length-append}
 use Rattle.std.specs.Prelude.{IsSomeAnd, nat_lt}
 use Rattle.std.specs.Str.{bytes_eq}
 use Rattle.std.proofs.lemmas.Slice.Eq.{bytes_eq-Decides}
 use Rattle.clap.specs.Facts.{parser_of_value, unwrap_or_range}
-use Rattle.clap.specs.Kinds.{or_else, range_kinds, value_kinds, values_kinds}
-use Rattle.clap.specs.Walk.{Row, Rule, Text, action_of, arg_by_id, at_row, is_empty, more_values, most_values, reading_by, stronger, used_as, values_or_missing, with_values, without}
-use Rattle.clap.specs.Faults.{action_fault, use_fault, values_fault}
+use Rattle.clap.specs.Kinds.{range_kinds, value_kinds, values_kinds}
+use Rattle.clap.specs.Walk.{Row, Rule, Text, action_of, arg_by_id, at_row, more_values, most_values, reading_by, stronger, used_as, values_or_missing, with_values, without}
+use Rattle.clap.specs.Faults.{action_fault, values_fault}
 use Rattle.clap.specs.declared.builder.action.ArgAction.{ArgAction}
 use Rattle.clap.specs.declared.builder.action.ArgAction.TheVariants.{Set, Append, Help}
 use Rattle.clap.specs.declared.builder.action.ArgAction.TheVariants as action
 use Rattle.clap.specs.declared.builder.value_parser.ValueParser.{ValueParser}
 use Rattle.clap.specs.declared.parser.matches.ValueSource.TheVariants.{CommandLine}
-use Rattle.clap.specs.declared.builder.value_parser.Reading.{Reading}
 use Rattle.ix.specs.Entered.{Each, RowFits, ValuesFit}
 use Rattle.ix.proofs.EachLemmas.{each_append, neither, nor}
 use Rattle.ix.proofs.Walks.{KeepsRows}

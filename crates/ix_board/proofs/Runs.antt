@@ -1,5 +1,5 @@
 -- Runs: how they are put together, and what they make of one place.
-use Rattle.std.proofs.Common.{◌≡◌, ◌≢◌, ◌⊎◌, ℕ, ◌+◌, ◌<◌, Bool, true, false, cond, eqb, List, [], ◌∷◌, ◌++◌, length, refl, sym, ap, subst, ◌∙◌, inl, inr, ⊎_elim, length-set, arith}
+use Rattle.std.proofs.Common.{◌≡◌, ◌≢◌, ◌⊎◌, ℕ, ◌+◌, ◌<◌, eq-eqb, ne_eqb, Bool, true, false, cond, eqb, List, [], ◌∷◌, ◌++◌, length, refl, sym, ap, subst, ◌∙◌, inl, inr, ⊎_elim, length-set, arith}
 use Rattle.std.specs.Prelude.{Some, slice_get}
 use Rattle.std.specs.List.{Contains, count_by}
 use Rattle.ix_board.specs.declared.step.Step.{Step}
@@ -134,3 +134,21 @@ module _ {P : Type 0} where
         | false ↦ λ d. later d
       ] in
       both c
+
+  -- ---- the steps of one worker, as a run grows at its end
+
+  pub steps_by-snoc_same : (w : ℕ) (run : Run P) (s : Step P) → steps_by w (run ++ (w, s) ∷ []) ≡ steps_by w run ++ s ∷ []
+  steps_by-snoc_same w [] s = rw (eq-eqb w w refl)
+  steps_by-snoc_same w (e ∷ run) s =
+      let X = steps_by w (run ++ (w, s) ∷ []) in
+      let Y = steps_by w run in
+      let ih : X ≡ Y ++ s ∷ [] = steps_by-snoc_same w run s in
+      elim (eqb e.0 w) as (λ t. cond t (e.1 ∷ X) X ≡ cond t (e.1 ∷ Y) Y ++ s ∷ []) [ true ↦ ap (λ (l : List (Step P)). e.1 ∷ l) ih | false ↦ ih ]
+
+  pub steps_by-snoc_other : (v w : ℕ) (run : Run P) (s : Step P) → v ≢ w → steps_by v (run ++ (w, s) ∷ []) ≡ steps_by v run
+  steps_by-snoc_other v w [] s n = let m : w ≢ v = (λ e. n (sym e)) in rw (ne_eqb w v m)
+  steps_by-snoc_other v w (e ∷ run) s n =
+      let X = steps_by v (run ++ (w, s) ∷ []) in
+      let Y = steps_by v run in
+      let ih : X ≡ Y = steps_by-snoc_other v w run s n in
+      elim (eqb e.0 v) as (λ t. cond t (e.1 ∷ X) X ≡ cond t (e.1 ∷ Y) Y) [ true ↦ ap (λ (l : List (Step P)). e.1 ∷ l) ih | false ↦ ih ]

@@ -1,3 +1,11 @@
+pub mod CompleteLemmas
+pub mod Cuts
+pub mod Entries
+pub mod GrammarLemmas
 pub mod LexemeLists
 pub mod Lexing
 pub mod Readings
+pub mod Results
+pub mod RunSigns
+pub mod SoundLemmas
+pub mod Stars

@@ -3,15 +3,18 @@
 #![tactic(auto)]
 
 mod error;
+mod grammar;
+mod judge;
+mod laws;
 mod lexeme;
-
-pub use error::QueryError;
-pub use lexeme::{Lexeme, Sign, lexemes};
-//! tree means. `Query::parse` reads a text, and answers its tree or the first fault in it.
-#![tactic(auto)]
-
+mod parse;
+mod parser;
 mod query;
 mod tree;
 
+pub use error::QueryError;
+pub use laws::lexemes_cut_the_text;
+pub use grammar::{a_text_has_one_tree, queries_are_those_of_the_grammar};
+pub use lexeme::{Lexeme, Sign, lexemes};
 pub use query::{Query, Term};
 pub use tree::{Boxed, Items};

@@ -3,6 +3,7 @@
 ghost use Rattle.std.specs.Prelude.{◌≡◌, string_bytes};
 
 use crate::tree::{Boxed, Items};
+use ix_gram::Pattern;
 use std::marker::Model;
 
 /// A word as the index has it: folded and normalized, 1 to 255 bytes of UTF-8.
@@ -50,6 +51,8 @@ pub enum Query {
         second: Term,
         distance: u32,
     },
+    /// A token that matches the pattern.
+    Pattern(Pattern),
     /// Each of two or more parts.
     And(Items<Query>),
     /// One of two or more parts.

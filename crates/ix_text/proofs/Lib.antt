@@ -1,3 +1,7 @@
+pub mod CollectionLaws
+pub mod CollectionLemmas
+pub mod CollectionTold
+pub mod PartsLemmas
 pub mod SinkLemmas
 pub mod FoldLemmas
 pub mod FoldTables
@@ -5,5 +9,5 @@ pub mod StopSetLemmas
 pub mod StopTextLemmas
 pub mod TermLemmas
 pub mod TokenLemmas
-pub mod CollectionLemmas
-pub mod PartsLemmas
+pub mod TokensTold
+pub mod WindowLemmas

@@ -1,8 +1,10 @@
 //! Collection texts: named documents, each on one line.
-ghost use Rattle.std.specs.Prelude.{◌≡◌, ◌<◌, Contains, map, IfNone, IfSome, MatchOption};
+ghost use Rattle.std.specs.Prelude.{◌≡◌, ◌<◌, ◌⊎◌, ℕ, List, Contains, map, IfNone, IfSome, MatchOption};
 ghost use Rattle.std.proofs.Props.{props};
 ghost use Rattle.ix_text.specs.CollectionFaults.{IsCutAtFirst};
-ghost use Rattle.ix_text.specs.Collections.{IsName};
+ghost use Rattle.ix_text.specs.CollectionLaws.{FaultsExcludeDocuments, HasDocumentsOrFault, HasOneFault, HasOneListOfDocuments};
+ghost use Rattle.ix_text.specs.Collections.{NamedText, IsName};
+ghost use Rattle.ix_text.specs.declared.collection.CollectionError.{CollectionError};
 
 use memchr::memchr;
 use simdutf8::compat::from_utf8;
@@ -83,6 +85,8 @@ impl<'a> Collection<'a> {
     pub fn read(alloc: Global, bytes: &'a [u8]) -> Result<Collection<'a>, CollectionError>
         ensures documents { IfOk result (λ documents. IsCollectionText bytes.now documents) }
         ensures fault { IfErr result (λ error. (error ≡ CollectionError.Memory) ⊎ IsCollectionFault bytes.now error) }
+        ensures accepted { (documents : List NamedText) → IsCollectionText bytes.now documents
+            → (result ≡ Ok documents) ⊎ (result ≡ Err CollectionError.Memory) }
     {
         if bytes.len() > MAX_BYTES {
             return Err(CollectionError::TooLarge);
@@ -187,4 +191,87 @@ fn cut_at(text: &str, byte: u8) -> Option<(&str, &str)>
 {
     let at = memchr(byte, text.as_bytes())?;
     Some((&text[..at], &text[at + 1..]))
+}
+
+/// A text has one list of documents or one fault, and never both.
+pub fn has_documents_or_a_fault()
+    ensures one_list { HasOneListOfDocuments }
+    ensures one_fault { HasOneFault }
+    ensures refused { FaultsExcludeDocuments }
+    ensures complete { HasDocumentsOrFault }
+{}
+
+#[cfg(test)]
+mod tests {
+    use super::*;
+    use std::test::Fail;
+
+    #[test]
+    fn reads_documents(rt: HostRuntime) -> Result<(), Fail> {
+        let text = "a\tx y\nписьмо от 名前\t\nb\t\ty\tz\n";
+        let want = [("a", "x y"), ("письмо от 名前", ""), ("b", "\ty\tz")];
+        let collection = Collection::read(rt.alloc(), text.as_bytes())?;
+        assert_eq!(rt; collection.docs().len(), 3);
+        for (doc, (name, text)) in collection.docs().iter().zip(want) {
+            assert_eq!(rt; doc.name, name);
+            assert_eq!(rt; doc.text, text);
+        }
+        let empty = Collection::read(rt.alloc(), b"")?;
+        assert_eq!(rt; empty.docs().len(), 0);
+        Ok(())
+    }
+
+    #[test]
+    fn refuses_other_texts(rt: HostRuntime) -> Result<(), Fail> {
+        let cases: [(&[u8], &str); 11] = [
+            (b"x\n", "NoTab(1)"),
+            (b"\ty\n", "Name(1)"),
+            (b"a\tb", "NoLineEnd(1)"),
+            (b"\x61\x09\xff\x0a", "NotUtf8(2)"),
+            (b"a\tb\n\n", "NoTab(2)"),
+            (b"a\tb\nx", "NoTab(2)"),
+            (b"a\tb\n\tc", "Name(2)"),
+            (b"a\tb\nc\td", "NoLineEnd(2)"),
+            (b"a\tb\n\tc\nx\ny\tz", "Name(2)"),
+            (b"x\na\t\xe5\x90", "NotUtf8(4)"),
+            (b"\xff", "NotUtf8(0)"),
+        ];
+        for (bytes, want) in cases {
+            let refusal = Collection::read(rt.alloc(), bytes).err().ok_or(want)?;
+            let line = format!(in rt.alloc(); "{refusal}")?;
+            assert_eq!(rt; line.as_str(), want);
+        }
+        Ok(())
+    }
+
+    #[test]
+    fn names_have_255_bytes_at_most(rt: HostRuntime) -> Result<(), Fail> {
+        let mut longest = vec![in rt.alloc(); b'n'; 255]?;
+        longest.extend_from_slice(b"\tt\n")?;
+        let collection = Collection::read(rt.alloc(), &longest)?;
+        assert_eq!(rt; collection.docs().len(), 1);
+        assert_eq!(rt; collection.docs()[0].name.len(), 255);
+        let mut longer = vec![in rt.alloc(); b'n'; 256]?;
+        longer.extend_from_slice(b"\tt\n")?;
+        let refusal = Collection::read(rt.alloc(), &longer).err();
+        assert_eq!(rt; refusal, Some(CollectionError::Name(1)));
+        Ok(())
+    }
+
+    #[test]
+    fn errors_have_numbers_and_names(rt: HostRuntime) -> Result<(), Fail> {
+        let cases = [
+            (CollectionError::TooLarge, 1, "TooLarge"),
+            (CollectionError::NotUtf8(2), 2, "NotUtf8(2)"),
+            (CollectionError::NoTab(1), 3, "NoTab(1)"),
+            (CollectionError::Name(10), 4, "Name(10)"),
+            (CollectionError::NoLineEnd(7), 5, "NoLineEnd(7)"),
+            (CollectionError::Memory, 6, "Memory"),
+        ];
+        for (error, number, line) in cases {
+            assert_eq!(rt; error.number(), number);
+            assert_eq!(rt; format!(in rt.alloc(); "{error}")?.as_str(), line);
+        }
+        Ok(())
+    }
 }

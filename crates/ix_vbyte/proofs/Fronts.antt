@@ -152,6 +152,10 @@ pub cut_at_once : (bytes : List ℕ) → slice_get bytes 0 ≡ None → IsCut by
 cut_at_once [] none = record { unmarked = All-nil (λ x. x < 128); fits = rw value_of-none (lit< tt); no_zero = λ h. cc }
 cut_at_once (b ∷ bytes) none = absurd (cc)
 
+-- the first byte is not 0
+pub no_zero : (bytes : List ℕ) (byte : ℕ) → slice_get bytes 0 ≡ Some byte → (byte ≡ 0 → ⊥) → slice_get bytes 0 ≢ Some 0
+no_zero bytes byte some other h = let same : byte ≡ 0 = cc in other same
+
 -- the first byte is a code
 pub starts_at_once : (bytes : List ℕ) (byte : ℕ) → slice_get bytes 0 ≡ Some byte → 128 ≤ byte → byte < 256 → StartsWithCode bytes (byte % 128) 1
 starts_at_once [] byte some marked fits = absurd (cc)

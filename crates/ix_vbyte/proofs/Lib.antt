@@ -1,5 +1,5 @@
-pub mod Values
-pub mod Widths
 pub mod Fronts
 pub mod Gaps
 pub mod Postings
+pub mod Values
+pub mod Widths

@@ -1,6 +1,6 @@
 pub mod Code
-pub mod Reading
 pub mod Decoded
-pub mod Numbers
 pub mod Gaps
+pub mod Numbers
 pub mod Postings
+pub mod Reading

@@ -28,24 +28,27 @@ pub fn decode(bytes: &[u8]) -> Result<(u32, usize), VbError>
     read(bytes)
 }
 
-/// The same, as what was found in one fact.
+/// The same, as what was found in one fact. Most codes have one byte, and they take no loop.
 #[inline]
 fn read(bytes: &[u8]) -> Result<(u32, usize), VbError>
     ensures { Finds bytes.now result }
 {
     match bytes.first() {
-        None => Err(VbError::Cut),
-        Some(0) => Err(VbError::LeadingZero),
         Some(&byte) if byte >= 128 => Ok((u32::from(byte % 128), 1)),
-        Some(_) => read_groups(bytes),
+        _ => read_groups(bytes),
     }
 }
 
-/// The same for bytes whose first byte is not `00`.
+/// The same, seven bits at a time.
 fn read_groups(bytes: &[u8]) -> Result<(u32, usize), VbError>
-    requires { ¬ StartsWithZero bytes.now }
     ensures { Finds bytes.now result }
 {
+    let Some(&first) = bytes.first() else {
+        return Err(VbError::Cut);
+    };
+    if first == 0 {
+        return Err(VbError::LeadingZero);
+    }
     let mut number: u32 = 0;
     for (place, &byte) in bytes.iter().enumerate() {
         if number >= 1 << 25 {

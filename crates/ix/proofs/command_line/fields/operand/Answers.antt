@@ -1,5 +1,5 @@
 -- What `get_str` reads is the first value of the row, which is there.
-use Rattle.std.proofs.Common.{◌≡◌, ◌∙◌, ap, sym, Option, Some, None, true, option_map, is_some, refl, Bor, List, ℕ}
+use Rattle.std.proofs.Common.{◌≡◌, ◌∙◌, ap, sym, Option, Some, None, true, option_map, is_some, refl, Bor}
 use Rattle.clap.specs.Words.{Text, first_of, found_of, rows_of}
 use Rattle.clap.proofs.WalkLemmas.{first_value-rows}
 use Rattle.ix.proofs.command_line.fields.operand.Goals as goal

@@ -2,7 +2,6 @@
 use Rattle.std.proofs.Common.{◌∙◌}
 use Rattle.clap.specs.Words.{found_of}
 use Rattle.clap.proofs.WalkLemmas.{first_value-rows}
-use Rattle.ix.proofs.NoFault.{entered_unless_fault}
 use Rattle.ix.proofs.command_line.fields.option.Goals as goal
 
 pub returns : goal.returns

@@ -1,0 +1,2 @@
+pub mod PatternErrors
+pub mod Patterns

@@ -1,0 +1,148 @@
+//! Patterns and the terms that match them.
+
+ghost use Rattle.std.specs.Prelude.{◌≡◌, ◌<◌, ◌↔◌, length, IsTrue, IfOk, OnOk, IsErrOf};
+ghost use Rattle.ix_gram.specs.Patterns.{pieces_of, HasStar, HasPiece, Matches};
+
+use crate::error::PatternError;
+use ix_text::term_of;
+use std::alloc::Global;
+use std::marker::Model;
+
+/// What stands for any characters.
+const STAR: char = '*';
+
+/// A pattern: two or more pieces, each in the form that terms have (IIR 3.2).
+#[derive(Debug, Drop)]
+pub struct Pattern {
+    first: String,
+    inner: Vec<String>,
+    last: String,
+}
+
+impl Model for Pattern {
+    ghost use Rattle.std.specs.Prelude.{ℕ, List, [], ◌∷◌, ◌++◌, map, string_bytes};
+
+    ghost Value = { List (List ℕ) };
+
+    ghost view = { λ p. string_bytes p.first ∷ (map string_bytes p.inner.items ++ string_bytes p.last ∷ []) };
+}
+
+impl Pattern {
+    /// Reads a text with a star and something else: its pieces are what stands between its stars, each brought to the
+    /// form that terms have.
+    ///
+    /// `NoStar`: the text has no star. `BareStar`: it is nothing but stars.
+    pub fn read(alloc: Global, text: &str) -> Result<Pattern, PatternError>
+        ensures pieces { IfOk result (λ pattern. pattern ≡ pieces_of text.now) }
+        ensures with_star { OnOk result (HasStar text.now) }
+        ensures with_piece { OnOk result (HasPiece text.now) }
+        ensures no_star { IsErrOf result PatternError.NoStar ↔ ¬ (HasStar text.now) }
+        ensures bare_star { IsErrOf result PatternError.BareStar ↔ (HasStar text.now × ¬ (HasPiece text.now)) }
+    {
+        let Some((first, mut rest)) = text.split_once(STAR) else {
+            return Err(PatternError::NoStar);
+        };
+        if !has_piece(text) {
+            return Err(PatternError::BareStar);
+        }
+        let first = term_of(alloc, first)?;
+        let mut inner = Vec::new(alloc);
+        while let Some((piece, after)) = rest.split_once(STAR) {
+            inner.push(term_of(alloc, piece)?)?;
+            rest = after;
+        }
+        let last = term_of(alloc, rest)?;
+        Ok(Pattern { first, inner, last })
+    }
+
+    /// Whether the term is the first piece, any characters, the second piece, and so on, and the last piece at its end.
+    ///
+    /// Takes no memory. The front piece must stand at the front; each inner piece is then looked for from the left,
+    /// and the last piece must stand at the end of what is left.
+    pub fn matches(&self, term: &str) -> bool
+        ensures { IsTrue result ↔ Matches term.now self.now }
+    {
+        let Some(mut rest) = term.strip_prefix(self.first.as_str()) else {
+            return false;
+        };
+        for piece in &self.inner {
+            let Some((_, after)) = rest.split_once(piece.as_str()) else {
+                return false;
+            };
+            rest = after;
+        }
+        rest.ends_with(self.last.as_str())
+    }
+}
+
+// Whether the text has something other than stars.
+fn has_piece(text: &str) -> bool
+    ensures { IsTrue result ↔ HasPiece text.now }
+{
+    text.bytes().any(|byte| byte != b'*')
+}
+
+#[cfg(test)]
+mod tests {
+    use super::Pattern;
+    use crate::error::PatternError;
+    use std::alloc::Global;
+    use std::process::Abort;
+    use std::test::Fail;
+
+    /// Which of the terms match the pattern, as one word of `y` and `n`.
+    fn answers(alloc: Global, pattern: &str, terms: &str) -> Result<String, Fail> {
+        let pattern = Pattern::read(alloc, pattern)?;
+        let mut answers = String::new(alloc);
+        for term in terms.split(' ') {
+            answers.push_str(if pattern.matches(term) { "y" } else { "n" })?;
+        }
+        Ok(answers)
+    }
+
+    #[test]
+    fn terms_match(rt: HostRuntime) -> Result<(), Fail> {
+        let alloc = rt.alloc();
+        for (pattern, terms, want) in [
+            ("red*", "red redo retired rd", "yynn"),
+            ("re*d", "red redo retired d", "ynyn"),
+            ("re*ed", "red reed retired ed", "nyyn"),
+            ("a*", "a an b ba", "yynn"),
+            ("a*a", "a aa aba ab", "nyyn"),
+            ("aba*aba", "aba ababa abaaba abaxaba", "nnyy"),
+            ("*b*", "b abc ac bb", "yyny"),
+            ("a**b", "ab aéb a ba", "yynn"),
+            ("*a*b*a*", "aba xaxbxax abb baa", "yynn"),
+            // A piece is folded as a term is, and one that begins with a combining mark stands behind any character.
+            ("É*", "é été e ée", "yyny"),
+            ("x*\u{301}y", "x\u{301}y xa\u{301}y xáy xy", "yynn"),
+            ("STRASSE*", "strasse strassen straße s", "yynn"),
+        ] {
+            let got = answers(alloc, pattern, terms)?;
+            assert_eq!(rt; got.as_str(), want, "{pattern}");
+        }
+        Ok(())
+    }
+
+    fn fault(rt: &impl Abort, alloc: Global, text: &str) -> PatternError {
+        Pattern::read(alloc, text).expect_err(rt, "no pattern")
+    }
+
+    #[test]
+    fn texts_that_are_no_patterns(rt: HostRuntime) -> Result<(), Fail> {
+        let alloc = rt.alloc();
+        for (text, number, name) in [
+            ("", 1, "NoStar"),
+            ("red", 1, "NoStar"),
+            ("*", 2, "BareStar"),
+            ("**", 2, "BareStar"),
+        ] {
+            let error = fault(&rt, alloc, text);
+            assert_eq!(rt; error.number(), number, "{text}");
+            let printed = format!(in alloc; "{error}")?;
+            assert_eq!(rt; printed.as_str(), name, "{text}");
+        }
+        assert_eq!(rt; PatternError::Memory.number(), 3);
+        Ok(())
+    }
+}

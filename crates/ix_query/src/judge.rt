@@ -1,0 +1,274 @@
+//! What a run or a quoted text stands for.
+
+ghost use Rattle.std.specs.Prelude.{◌≡◌, true, map, reverse, IfOk, if◌then◌else◌};
+ghost use Rattle.std.specs.List.{list_any};
+ghost use Rattle.unicode_segmentation.specs.Word.{words};
+ghost use Rattle.ix_text.specs.TokenLists.{entry_of_term};
+ghost use Rattle.ix_query.specs.Judgement.{is_star, entry_reading, entries_reading, phrase_reading, drop_holes, strip_holes, pattern_reading, plain as plain_run, quoted as quoted_text, beside as beside_near};
+ghost use Rattle.ix_query.specs.QueryErrors.{Gives};
+
+use crate::error::QueryError;
+use crate::query::{Query, Term};
+use crate::tree::Items;
+use ix_gram::{Pattern, PatternError};
+use ix_text::{StopList, term_of};
+use std::alloc::{AllocError, Global};
+use unicode_segmentation::UnicodeSegmentation;
+
+// The most bytes that a term may have.
+const LONGEST: usize = 255;
+
+fn has_star(text: &str) -> bool
+    ensures { result ≡ list_any is_star text.now }
+{
+    text.as_bytes().contains(&b'*')
+}
+
+fn words_of<'a>(alloc: Global, text: &'a str) -> Result<Vec<&'a str>, AllocError>
+    ensures { IfOk result (λ list. map (λ word. word.now) list.items ≡ words text.now) }
+{
+    text.unicode_words().collect(alloc)
+}
+
+// Whether the term is one of 1 to 255 bytes and no stop term.
+#[tactic(auto, unfolding(ix_text::specs::TokenLists::entry_of_term))]
+fn has_entry(stop: &StopList, term: &str) -> bool
+    ensures { entry_of_term stop.now term.now ≡ (if result then Some term.now else None) }
+{
+    if term.is_empty() || LONGEST < term.len() {
+        return false;
+    }
+    !stop.contains(term)
+}
+
+// The entry of a word: its term, or a hole where it is a stop word.
+#[tactic(auto, unfolding(crate::specs::Judgement::entry_reading))]
+fn entry(alloc: Global, stop: &StopList, word: &str) -> Result<Option<Term>, QueryError>
+    ensures { Gives (λ entry. entry) result (entry_reading stop.now word.now) }
+{
+    let term = term_of(alloc, word)?;
+    if LONGEST < term.len() {
+        return Err(QueryError::LongTerm);
+    }
+    if has_entry(stop, term.as_str()) {
+        Ok(Some(Term::new(term)))
+    } else {
+        Ok(None)
+    }
+}
+
+fn entries(alloc: Global, stop: &StopList, words: &[&str]) -> Result<Vec<Option<Term>>, QueryError>
+    ensures { Gives (λ list. list.items) result (entries_reading stop.now (map (λ word. word.now) words.now)) }
+{
+    let mut entries = Vec::new(alloc);
+    for word in words {
+        entries.push(entry(alloc, stop, word)?)?;
+    }
+    Ok(entries)
+}
+
+fn pop_holes(entries: &mut Vec<Option<Term>>)
+    ensures { entries.new.items ≡ reverse (drop_holes (reverse entries.old.items)) }
+{
+    while let Some(None) = entries.last() {
+        entries.pop();
+    }
+}
+
+// Takes the holes off both ends.
+fn strip(mut entries: Vec<Option<Term>>) -> Vec<Option<Term>>
+    ensures { result.items ≡ strip_holes entries.items }
+{
+    entries.reverse();
+    pop_holes(&mut entries);
+    entries.reverse();
+    pop_holes(&mut entries);
+    entries
+}
+
+// The phrase of the words of a text.
+#[tactic(auto, unfolding(crate::specs::Judgement::phrase_reading))]
+fn phrase(alloc: Global, stop: &StopList, text: &str) -> Result<Query, QueryError>
+    ensures { Gives (λ query. query) result (phrase_reading stop.now text.now) }
+{
+    let words = words_of(alloc, text)?;
+    if words.is_empty() {
+        return Err(QueryError::NoWord);
+    }
+    let entries = strip(entries(alloc, stop, words.as_slice())?);
+    if entries.is_empty() {
+        return Err(QueryError::OnlyStopWords);
+    }
+    Ok(Query::Phrase(Items::from_vec(entries)))
+}
+
+// The pattern of a run with a star.
+fn pattern(alloc: Global, run: &str) -> Result<Query, QueryError>
+    requires { list_any is_star run.now ≡ true }
+    ensures { Gives (λ query. query) result (pattern_reading run.now) }
+{
+    match Pattern::read(alloc, run) {
+        Ok(pattern) => Ok(Query::Pattern(pattern)),
+        Err(PatternError::BareStar) => Err(QueryError::BareStar),
+        Err(PatternError::Memory) => Err(QueryError::Memory),
+        Err(PatternError::NoStar) => unreachable!("the run has a star"),
+    }
+}
+
+/// What a run that stands beside no NEAR stands for: with a star the pattern of its pieces, else the phrase of
+/// its words.
+///
+/// # Errors
+/// `BareStar` for nothing but stars; without a star `NoWord`, `LongTerm` and `OnlyStopWords`, tested in this
+/// order; or `Memory`.
+#[tactic(auto, unfolding(crate::specs::Judgement::plain))]
+pub fn plain(alloc: Global, stop: &StopList, run: &str) -> Result<Query, QueryError>
+    ensures { Gives (λ query. query) result (plain_run stop.now run.now) }
+{
+    if has_star(run) {
+        pattern(alloc, run)
+    } else {
+        phrase(alloc, stop, run)
+    }
+}
+
+/// What a quoted text stands for: the phrase of its words.
+///
+/// # Errors
+/// `StarInPhrase`, `NoWord`, `LongTerm` and `OnlyStopWords`, tested in this order; or `Memory`.
+#[tactic(auto, unfolding(crate::specs::Judgement::quoted))]
+pub fn quoted(alloc: Global, stop: &StopList, text: &str) -> Result<Query, QueryError>
+    ensures { Gives (λ query. query) result (quoted_text stop.now text.now) }
+{
+    if has_star(text) {
+        return Err(QueryError::StarInPhrase);
+    }
+    phrase(alloc, stop, text)
+}
+
+/// What a run beside NEAR stands for: the term of its one word.
+///
+/// # Errors
+/// `NearWord` for a star or another number of words than one, then `LongTerm`, then `NearWord` for a stop
+/// word; or `Memory`.
+#[tactic(auto, unfolding(crate::specs::Judgement::beside))]
+pub fn beside(alloc: Global, stop: &StopList, run: &str) -> Result<Term, QueryError>
+    ensures { Gives (λ term. term) result (beside_near stop.now run.now) }
+{
+    if has_star(run) {
+        return Err(QueryError::NearWord);
+    }
+    let words = words_of(alloc, run)?;
+    match words.as_slice() {
+        [word] => entry(alloc, stop, word)?.ok_or(QueryError::NearWord),
+        _ => Err(QueryError::NearWord),
+    }
+}
+
+#[cfg(test)]
+mod tests {
+    use super::{beside, plain, quoted};
+    use crate::error::QueryError;
+    use crate::query::Query;
+    use ix_text::StopList;
+    use std::alloc::Global;
+    use std::test::Fail;
+
+    // The terms of a phrase, with `_` for a hole, or the query or the error as it is printed.
+    fn shown(alloc: Global, read: Result<Query, QueryError>) -> Result<String, Fail> {
+        let mut shown = String::new(alloc);
+        match read {
+            Ok(Query::Phrase(entries)) => {
+                for entry in entries.as_slice() {
+                    match entry {
+                        Some(term) => shown.push_str(term.as_str())?,
+                        None => shown.push_str("_")?,
+                    }
+                    shown.push_str(" ")?;
+                }
+            }
+            Ok(query) => {
+                let printed = format!(in alloc; "{query:?}")?;
+                shown.push_str(printed.as_str())?;
+            }
+            Err(error) => {
+                let printed = format!(in alloc; "{error}")?;
+                shown.push_str(printed.as_str())?;
+            }
+        }
+        Ok(shown)
+    }
+
+    // A word of so many letters.
+    fn long_word(alloc: Global, letters: u16) -> Result<String, Fail> {
+        let mut word = String::new(alloc);
+        for _ in 0..letters {
+            word.push_str("z")?;
+        }
+        Ok(word)
+    }
+
+    #[test]
+    fn runs_and_quoted_texts(rt: HostRuntime) -> Result<(), Fail> {
+        let alloc = rt.alloc();
+        let stop = StopList::empty(alloc);
+        for (run, want) in [
+            ("fox", "fox "),
+            ("e+mail", "e mail "),
+            ("STRASSE", "strasse "),
+            ("Stra\u{df}e", "strasse "),
+            ("...", "NoWord"),
+            ("*", "BareStar"),
+            ("***", "BareStar"),
+            ("Inter*", "Pattern(Pattern { first: \"inter\", inner: [], last: \"\" })"),
+        ] {
+            let got = shown(alloc, plain(alloc, &stop, run))?;
+            assert_eq!(rt; got.as_str(), want, "{run}");
+        }
+        for (text, want) in [
+            ("New York", "new york "),
+            ("", "NoWord"),
+            (" ... ", "NoWord"),
+            ("a*", "StarInPhrase"),
+            ("*", "StarInPhrase"),
+        ] {
+            let got = shown(alloc, quoted(alloc, &stop, text))?;
+            assert_eq!(rt; got.as_str(), want, "{text}");
+        }
+        Ok(())
+    }
+
+    #[test]
+    fn words_beside_near(rt: HostRuntime) -> Result<(), Fail> {
+        let alloc = rt.alloc();
+        let stop = StopList::empty(alloc);
+        let term = beside(alloc, &stop, "Fox")?;
+        assert_eq!(rt; term.as_str(), "fox");
+        for run in ["e+mail", "a*", "*", "..."] {
+            let error = beside(alloc, &stop, run).expect_err(&rt, "a term");
+            assert_eq!(rt; error, QueryError::NearWord, "{run}");
+        }
+        Ok(())
+    }
+
+    #[test]
+    fn the_longest_terms(rt: HostRuntime) -> Result<(), Fail> {
+        let alloc = rt.alloc();
+        let stop = StopList::empty(alloc);
+        let held = long_word(alloc, 255)?;
+        let term = beside(alloc, &stop, held.as_str())?;
+        assert_eq!(rt; term.as_str(), held.as_str());
+        let long = long_word(alloc, 256)?;
+        let error = beside(alloc, &stop, long.as_str()).expect_err(&rt, "a term");
+        assert_eq!(rt; error, QueryError::LongTerm);
+        let got = shown(alloc, plain(alloc, &stop, long.as_str()))?;
+        assert_eq!(rt; got.as_str(), "LongTerm");
+        let phrase = format!(in alloc; "a {long} b")?;
+        let got = shown(alloc, quoted(alloc, &stop, phrase.as_str()))?;
+        assert_eq!(rt; got.as_str(), "LongTerm");
+        let run = format!(in alloc; "a+{long}")?;
+        let error = beside(alloc, &stop, run.as_str()).expect_err(&rt, "a term");
+        assert_eq!(rt; error, QueryError::NearWord);
+        Ok(())
+    }
+}
