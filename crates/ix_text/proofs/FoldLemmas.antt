@@ -15,7 +15,7 @@ use Rattle.unicode_normalization.specs.Order.{is_reorderable, sink, canonical_or
 use Rattle.unicode_normalization.proofs.ComposeLemmas.{list_all-append, flat_map-final}
 use Rattle.unicode_normalization.proofs.DecomposeLemmas.{is_empty-true, or_itself-some, IsFull-decompose, decompose-final, decompose-syllable}
 use Rattle.unicode_normalization.proofs.FormsLemmas.{nfc_from_nfd}
-use Rattle.unicode_normalization.proofs.HangulLemmas.{is_among_from, is_syllable-true, decompose_hangul-two, decompose_hangul-three}
+use Rattle.unicode_normalization.proofs.HangulLemmas.{is_among-true, is_among_from, is_syllable-true, decompose_hangul-two, decompose_hangul-three}
 use Rattle.unicode_normalization.proofs.OrderLemmas.{is_reorderable-true, sink-past, sink-stays, sink-nil, sink_all, canonical_order-append, canonical_order-cons, canonical_order-nil, canonical_order-exchange, list_all-canonical_order}
 use Rattle.unicode_normalization.proofs.TableFacts.{is_final}
 use Rattle.caseless.specs.Caseless.{default_case_fold}
@@ -24,7 +24,7 @@ use Rattle.ix_text.specs.IotaSubscript.{may_hold_iota}
 use Rattle.ix_text.specs.Terms.{folded}
 use Rattle.ix_text.proofs.FoldTables.{folding_agrees, folding_starter, folding_no_hangul, is_no_iota, parts_no_iota}
 
-parts : ℕ → List ℕ
+unfoldable pub parts : ℕ → List ℕ
 parts = decompose Nfd
 
 -- ---- characters that fold to themselves
@@ -32,8 +32,12 @@ parts = decompose Nfd
 unfolded : (c : ℕ) → is_empty (full_folding c) ≡ true → full_fold c ≡ c ∷ []
 unfolded c none = ap (or_unfolded c) (is_empty-true (full_folding c) none)
 
-is_jamo : ℕ → Bool
+unfoldable pub is_jamo : ℕ → Bool
 is_jamo = is_among 0x1100 0x100
+
+pub is_jamo-below : (c : ℕ) → is_jamo c ≡ true → c < 0x1200
+unfolding is_jamo
+is_jamo-below c jamo = (is_among-true 0x1100 0x100 c jamo).1
 
 true_of_or : (a b : Bool) → (a || b) ≡ true → (a ≡ true) ⊎ (b ≡ true)
 true_of_or true b h = inl refl
@@ -84,11 +88,11 @@ parts_of_parts : (c : ℕ) → flat_map parts (parts c) ≡ parts c
 unfolding parts
 parts_of_parts c = flat_map-final (decompose Nfd) (is_final Nfd) (decompose-final Nfd) (decompose Nfd c) (parts_final c)
 
-parts-other : (c : ℕ) → is_syllable c ≡ false → parts c ≡ or_itself c (canonical_decomposition c)
+pub parts-other : (c : ℕ) → is_syllable c ≡ false → parts c ≡ or_itself c (canonical_decomposition c)
 unfolding parts decompose
 parts-other c other = cond-false _ _ _ other
 
-parts_jamos : (c : ℕ) → is_syllable c ≡ true → list_all is_jamo (parts c) ≡ true
+pub parts_jamos : (c : ℕ) → is_syllable c ≡ true → list_all is_jamo (parts c) ≡ true
 unfolding parts
 parts_jamos c syllable = ap (list_all is_jamo) (decompose-syllable Nfd c syllable) ∙ hangul_jamos c syllable
 

@@ -5,6 +5,7 @@ pub mod PartsLemmas
 pub mod SinkLemmas
 pub mod FoldLemmas
 pub mod FoldTables
+pub mod LawfulLemmas
 pub mod StopSetLemmas
 pub mod StopTextLemmas
 pub mod TermLemmas
