@@ -3,6 +3,9 @@ pub mod CollectionLemmas
 pub mod CollectionTold
 pub mod PartsLemmas
 pub mod SinkLemmas
+pub mod FoldLemmas
+pub mod FoldTables
+pub mod LawfulLemmas
 pub mod StopSetLemmas
 pub mod StopTextLemmas
 pub mod TermLemmas
