@@ -1,11 +1,11 @@
 pub mod CollectionLaws
 pub mod CollectionLemmas
 pub mod CollectionTold
-pub mod PartsLemmas
-pub mod SinkLemmas
 pub mod FoldLemmas
 pub mod FoldTables
 pub mod LawfulLemmas
+pub mod PartsLemmas
+pub mod SinkLemmas
 pub mod StopSetLemmas
 pub mod StopTextLemmas
 pub mod TermLemmas
