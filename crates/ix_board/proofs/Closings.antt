@@ -7,9 +7,12 @@ use mathlib.Core.Option as maybe
 use mathlib.Core.Option.{some-injective, some-ne-none}
 use lib.ListN.{get_elem?}
 use Rattle.atomic_table.specs.Table.{Final, Seen}
+use Rattle.ix_board.specs.declared.step.Step.{Step}
+use Rattle.ix_board.specs.declared.step.Step.TheVariants.{Deliver, GiveUp}
 use Rattle.ix_board.specs.declared.rule.Member.{Member}
 use Rattle.ix_board.specs.declared.rule.Crew.{Crew}
-use Rattle.ix_board.specs.Machine.{held_after, first_held}
+use Rattle.ix_board.specs.Machine.{Place, open_place, held_by, done_by, given_up_by, steps_by, piece_of, opening, held_after, first_held}
+use Rattle.ix_board.specs.Laws.{left_by}
 use Rattle.ix_board.specs.Crews.{crew, times_in}
 use Rattle.ix_board.specs.Kept.{IsKept}
 use Rattle.ix_board.specs.Desks.{BoardView, DeskView, place_held, last_steps, settled, ClosesWith}
@@ -17,6 +20,13 @@ use Rattle.ix_board.specs.Ends.{EndsWith}
 use Rattle.ix_board.specs.Rooms.{RoomAmong}
 use Rattle.ix_board.specs.Seats.{settled_member, AreIdle}
 use Rattle.ix_board.proofs.Counting.{all_there, not_in, if_same}
+use Rattle.std.specs.List.{Contains}
+use Rattle.std.proofs.lemmas.List.Elements.{Contains-append_left, Contains-append_cases}
+use mathlib.Core.Logic.{dite}
+use native.Mathlib.Decide.{dec_lt}
+use Rattle.ix_board.proofs.SliceGets.{contains_cases}
+use Rattle.ix_board.proofs.Runs.{delivered_stands, contains_by, contains_steps}
+use Rattle.ix_board.proofs.BoardLaws.{done_as_delivered}
 use Rattle.ix_board.proofs.DeskSteps.{held_after-append}
 use Rattle.ix_board.proofs.Endings.{ends, get-map}
 
@@ -87,17 +97,66 @@ module _ {P : Type 0} where
       let t = desk_there b desks slots ended len 0 h in
       none t.0 t.1 t.2 t.3
 
+  -- the place with a piece is done with it
+  piece_is_done : (p : Place P) (x : P) → piece_of p ≡ Some x → (w : ℕ) × (p ≡ done_by w x)
+  piece_is_done open_place x e = absurd (none-some x e)
+  piece_is_done (held_by w) x e = absurd (none-some x e)
+  piece_is_done (done_by w y) x e = (w, ap (done_by w) (same_Some y x e))
+  piece_is_done (given_up_by w) x e = absurd (none-some x e)
+
+  -- what a desk does as it is handed back delivers nothing
+  not_delivered_last : (o : Option ℕ) (k : ℕ) (x : P) → Contains (last_steps o) (Deliver k x) → ⊥
+  not_delivered_last None k x c = let h : c.0 < 0 = c.1 in absurd (omega arith)
+  not_delivered_last (Some j) k x c = ⊎_elim (λ e. absurd (cc)) (λ d. let h : d.0 < 0 = d.1 in absurd (omega arith)) (contains_cases (GiveUp j) [] (Deliver k x) c)
+
+  closed_delivered : (b : BoardView) (desks : List (DeskView P)) (slots : List (Option P)) → EndsWith b.count b.workers (map settled_member desks) slots
+      → (i : ℕ) (d : DeskView P) (k : ℕ) (x : P) → slice_get desks i ≡ Some d → Contains d.steps (Deliver k x) → slice_get slots k ≡ Some (Some x)
+  closed_delivered b desks slots ended i d k x at c =
+      let known = (ended.steps i (settled_member d) (get-map settled_member desks i d at)).1 in
+      let C : List (Step P) → Type 0 = λ l. Contains l (Deliver k x) in
+      let in_run = contains_by d.number ended.run (Deliver k x) (subst C (sym known) (Contains-append_left d.steps (last_steps (place_held d)) (Deliver k x) c)) in
+      let done = delivered_stands (opening b.count b.workers) ended.run k d.number x ended.possible in_run in
+      ap (λ (l : List (Option P)). slice_get l k) ended.pieces ∙ get-map piece_of (left_by b.count b.workers ended.run) k (done_by d.number x) done
+
+  closed_by_delivery : (b : BoardView) (desks : List (DeskView P)) (slots : List (Option P)) → EndsWith b.count b.workers (map settled_member desks) slots → length desks ≡ b.workers
+      → (k : ℕ) (x : P) → slice_get slots k ≡ Some (Some x) → (i : ℕ) × (d : DeskView P) × (slice_get desks i ≡ Some d) × Contains d.steps (Deliver k x)
+  closed_by_delivery b desks slots ended len k x at =
+      let p = got-map piece_of (left_by b.count b.workers ended.run) k (Some x) (sym (ap (λ (l : List (Option P)). slice_get l k) ended.pieces) ∙ at) in
+      let done = piece_is_done p.0 x p.2 in
+      let in_run = (done_as_delivered P b.count b.workers k done.0 x ended.run ended.possible).0 (p.1 ∙ ap Some done.1) in
+      let by_w = contains_steps done.0 ended.run (Deliver k x) in_run in
+      dite (dec_lt done.0 b.workers)
+      (λ h.
+      let t = desk_there b desks slots ended len done.0 h in
+      let known = (ended.steps t.0 (settled_member t.1) (get-map settled_member desks t.0 t.1 t.2)).1 in
+      let N : ℕ → Type 0 = λ w. Contains (steps_by w ended.run) (Deliver k x) in
+      let C : List (Step P) → Type 0 = λ l. Contains l (Deliver k x) in
+      let own = subst C known (subst N (sym t.3) by_w) in (
+        t.0,
+        t.1,
+        t.2,
+        ⊎_elim (λ l. l) (λ r. absurd (not_delivered_last (place_held t.1) k x r)) (Contains-append_cases t.1.steps (last_steps (place_held t.1)) (Deliver k x) own),
+      ))
+      (λ n.
+      let h : b.workers ≤ done.0 = omega arith in
+      let C : List (Step P) → Type 0 = λ l. Contains l (Deliver k x) in
+      let none = subst C (ended.strangers done.0 h) by_w in
+      let l : none.0 < 0 = none.1 in
+      absurd (omega arith))
+
   pub closes : (b : BoardView) (desks : List (DeskView P)) (slots : List (Option P)) → EndsWith b.count b.workers (map settled_member desks) slots → length desks ≡ b.workers → ClosesWith b desks slots
   closes b desks slots ended len =
       record {
         run = ended.run;
         possible = ended.possible;
-        pieces_are = ended.pieces;
         by_desks = λ i d e. ended.steps i (settled_member d) (get-map settled_member desks i d e);
         by_no_other = ended.strangers;
         each_worker = desk_there b desks slots ended len;
         apart = λ i j d e at_i at_j same.
             once_at (map settled_member desks) i j (settled_member d) (settled_member e) (ended.once d.number) (get-map settled_member desks i d at_i) (get-map settled_member desks j e at_j) same;
+        pieces_are = ended.pieces;
+        delivered = closed_delivered b desks slots ended;
+        by_delivery = closed_by_delivery b desks slots ended len;
       }
 
   -- ---- while the desks are handed back

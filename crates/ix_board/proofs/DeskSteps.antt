@@ -17,6 +17,7 @@ use Rattle.ix_board.specs.Crews.{desk_crew, slots_of, Seated}
 use Rattle.ix_board.specs.Tours.{HasPassed}
 use Rattle.ix_board.specs.Desks.{BoardView, DeskView, with_steps, place_held, LooksThenClaims, LooksOnly}
 use Rattle.ix_board.specs.Seats.{number_in, steps_in}
+use Rattle.ix_board.proofs.Holders.{first_held_itself}
 use Rattle.ix_board.specs.DeskFields.{board_of, desk_view, IsSoundDesk}
 
 -- every step of the list is a try
@@ -49,14 +50,20 @@ module _ {P : Type 0} where
       r)
       seen
 
+  -- a worker has seen its first place
+  pub own_is_seen : (count workers n k : ℕ) (steps : List (Step P)) → k ≡ n → k < count → n < workers → HasSeen count workers n steps k
+  own_is_seen count workers n k steps own in_count is_worker =
+      let N : ℕ → Type 0 = λ j. j < count → first_held count workers n ≡ Some j in
+      inr (inr (subst N (sym own) (λ h. first_held_itself count workers n h is_worker) in_count))
+
   -- a desk after the step t, with its seat, the place that it then holds, and its tour
   pub sound_after : (d : Inside P) (seat : Seat (Option P) (Crew P)) (held : Option ℕ) (tour : Tour) (t : Step P) (b : BoardView) → board_of d ≡ b → IsSoundDesk d
       → seat.table_id ≡ d.seat.table_id
       → seat.me ≡ (desk_crew b.count b.workers (number_in d.seat.me.0) (steps_in d.seat.me.0 ++ t ∷ []), slots_of held)
       → held ≡ held_then d.held t
       → ((k : ℕ) → held ≡ Some k → k < d.tour.count)
-      → tour.count ≡ d.tour.count
-      → ((k : ℕ) → k < d.tour.count → HasPassed tour k → HasPassed d.tour k ⊎ (t ≡ Look k) ⊎ (t ≡ Claim k))
+      → (tour.count ≡ d.tour.count) × (tour.own ≡ d.tour.own)
+      → ((k : ℕ) → k < d.tour.count → HasPassed tour k → HasPassed d.tour k ⊎ (k ≡ d.tour.own) ⊎ (t ≡ Look k) ⊎ (t ≡ Claim k))
       → cond (is_try t) 1 0 + tour.left ≤ d.tour.left
       → IsSoundDesk (record { seat = seat; number = d.number; held = held; tour = tour; room = d.room })
   sound_after d seat held tour t b same sound table me_is held_is in_count tour_is passes fewer =
@@ -67,26 +74,55 @@ module _ {P : Type 0} where
       let B : BoardView → Type 0 = λ v. seat.me ≡ (desk_crew v.count v.workers n (steps ++ t ∷ []), slots_of held) in
       let mine : seat.me ≡ (desk_crew c w n (steps ++ t ∷ []), slots_of held) = subst B (sym same) me_is in
       let M : Seated P → Type 0 = λ m. IsSoundDesk (record { seat = record { marker = seat.marker; table_id = seat.table_id; id = seat.id; me = m }; number = d.number; held = held; tour = tour; room = d.room }) in
-      let fits : d.tour.count ≡ c = sound.tour_fits in
+      let fits : d.tour.count ≡ c = sound.tour_fits.0 in
       subst M (sym mine) (record {
         seated = (refl, refl);
         numbered = sound.numbered;
         holds = held_is ∙ (ap (λ (h : Option ℕ). held_then h t) sound.holds ∙ sym (held_after-append (first_held c w n) steps (t ∷ [])));
         holds_place = λ k e. let h = in_count k e in omega arith;
-        tour_fits = tour_is ∙ fits;
+        tour_fits = (tour_is.0 ∙ fits, tour_is.1 ∙ sound.tour_fits.1);
+        is_worker = sound.is_worker;
         passed = λ k h p.
             ⊎_elim
             (λ old. seen_still c w d.number k steps (t ∷ []) (sound.passed k h old))
             (λ new.
             ⊎_elim
-            (λ l. inl (let L : Step P → Type 0 = λ x. Contains (steps ++ t ∷ []) x in subst L l (Contains-push steps t)))
-            (λ l. inr (inl (let L : Step P → Type 0 = λ x. Contains (steps ++ t ∷ []) x in subst L l (Contains-push steps t))))
+            (λ own. seen_still c w d.number k steps (t ∷ []) (own_is_seen c w d.number k steps (own ∙ sound.tour_fits.1) h sound.is_worker))
+            (λ tried.
+            let L : Step P → Type 0 = λ x. Contains (steps ++ t ∷ []) x in
+            ⊎_elim
+            (λ l. inl (subst L l (Contains-push steps t)))
+            (λ l. inr (inl (subst L l (Contains-push steps t))))
+            tried)
             new)
             (passes k (omega arith) p);
         few_tries = omega (arith, sum_by_push (λ (x : Step P). cond (is_try x) 1 0) steps t, sound.few_tries);
         has_room = sound.has_room;
         empty = sound.empty;
       })
+
+  -- a desk whose tour passed no place but its own
+  pub sound_past_own : (d : Inside P) (tour : Tour) → IsSoundDesk d → (tour.count ≡ d.tour.count) × (tour.own ≡ d.tour.own) → tour.left ≤ d.tour.left
+      → ((k : ℕ) → k < d.tour.count → HasPassed tour k → (k ≡ d.tour.own) ⊎ HasPassed d.tour k)
+      → IsSoundDesk (record { seat = d.seat; number = d.number; held = d.held; tour = tour; room = d.room })
+  sound_past_own d tour sound tour_is fewer passes =
+      let fits : d.tour.count ≡ d.seat.me.0.count = sound.tour_fits.0 in
+      record {
+        seated = sound.seated;
+        numbered = sound.numbered;
+        holds = sound.holds;
+        holds_place = sound.holds_place;
+        tour_fits = (tour_is.0 ∙ sound.tour_fits.0, tour_is.1 ∙ sound.tour_fits.1);
+        is_worker = sound.is_worker;
+        passed = λ k h p.
+            ⊎_elim
+            (λ own. own_is_seen d.seat.me.0.count d.seat.me.0.workers d.number k (steps_in d.seat.me.0) (own ∙ sound.tour_fits.1) h sound.is_worker)
+            (λ old. sound.passed k h old)
+            (passes k (omega arith) p);
+        few_tries = omega (arith, sound.few_tries);
+        has_room = sound.has_room;
+        empty = sound.empty;
+      }
 
   -- ---- several steps
 

@@ -21,7 +21,8 @@ pub record IsSoundDesk {P : Type 0} (d : Inside P) : Type 0 where
   pub numbered : d.number ≡ number_in d.seat.me.0
   pub holds : d.held ≡ held_in (board_of d) d.seat.me.0
   pub holds_place : (k : ℕ) → d.held ≡ Some k → k < d.seat.me.0.count
-  pub tour_fits : d.tour.count ≡ d.seat.me.0.count
+  pub tour_fits : (d.tour.count ≡ d.seat.me.0.count) × (d.tour.own ≡ d.number)
+  pub is_worker : d.number < d.seat.me.0.workers
   pub passed : (k : ℕ) → k < d.seat.me.0.count → HasPassed d.tour k → HasSeen d.seat.me.0.count d.seat.me.0.workers d.number (steps_in d.seat.me.0) k
   pub few_tries : count_by is_try (steps_in d.seat.me.0) + d.tour.left ≤ d.seat.me.0.count
   pub has_room : d.number ≡ 0 → HasRoom d.seat.me.0.count d.room

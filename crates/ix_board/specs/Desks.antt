@@ -1,9 +1,9 @@
 -- Boards and desks as contracts see them, and what closing a board gives.
 use Rattle.std.specs.Prelude.{◌≡◌, ℕ, ◌<◌, ◌≤◌, List, [], ◌∷◌, ◌++◌, map, Option, Some, None, slice_get}
-use Rattle.std.specs.List.{range_with_len}
+use Rattle.std.specs.List.{range_with_len, Contains}
 use Rattle.atomic_table.specs.Seated.{TableId}
 use Rattle.ix_board.specs.declared.step.Step.{Step}
-use Rattle.ix_board.specs.declared.step.Step.TheVariants.{Claim, GiveUp, Look}
+use Rattle.ix_board.specs.declared.step.Step.TheVariants.{Claim, Deliver, GiveUp, Look}
 use Rattle.ix_board.specs.Machine.{Run, first_held, steps_by, held_after, piece_of}
 use Rattle.ix_board.specs.Laws.{left_by, IsPossible, HasSeen}
 
@@ -57,12 +57,15 @@ module _ {P : Type 0} where
   abbrev pub settled : DeskView P → List (Step P)
   settled d = d.steps ++ last_steps (place_held d)
 
--- One possible run has just the steps of these desks, once handed back, and the pieces are those of the places that it leaves.
+-- One possible run has just the steps of these desks, once handed back, each worker of the board having one of them, and the pieces are those of the places that it leaves.
+-- So place k has the piece that a deliver step on k names, and none where no desk made such a step.
 pub record ClosesWith {P : Type 0} (board : BoardView) (desks : List (DeskView P)) (pieces : List (Option P)) : Type 0 where
   pub run : Run P
   pub possible : IsPossible board.count board.workers run
-  pub pieces_are : pieces ≡ map piece_of (left_by board.count board.workers run)
   pub by_desks : (i : ℕ) (d : DeskView P) → slice_get desks i ≡ Some d → (d.number < board.workers) × (steps_by d.number run ≡ settled d)
   pub by_no_other : (w : ℕ) → board.workers ≤ w → steps_by w run ≡ []
   pub each_worker : (w : ℕ) → w < board.workers → (i : ℕ) × (d : DeskView P) × (slice_get desks i ≡ Some d) × (d.number ≡ w)
   pub apart : (i j : ℕ) (d e : DeskView P) → slice_get desks i ≡ Some d → slice_get desks j ≡ Some e → d.number ≡ e.number → i ≡ j
+  pub pieces_are : pieces ≡ map piece_of (left_by board.count board.workers run)
+  pub delivered : (i : ℕ) (d : DeskView P) (k : ℕ) (x : P) → slice_get desks i ≡ Some d → Contains d.steps (Deliver k x) → slice_get pieces k ≡ Some (Some x)
+  pub by_delivery : (k : ℕ) (x : P) → slice_get pieces k ≡ Some (Some x) → (i : ℕ) × (d : DeskView P) × (slice_get desks i ≡ Some d) × Contains d.steps (Deliver k x)

@@ -67,7 +67,7 @@ impl<P> Desk<P> {
             seat,
             number,
             held: if number < count { Some(number) } else { None },
-            tour: Tour::from_section(count, workers, number),
+            tour: Tour::of_worker(count, workers, number),
             room,
         }
     }

@@ -1,9 +1,11 @@
 //! The order in which a desk goes over the places.
-ghost use Rattle.std.specs.Prelude.{◌≡◌, ℕ, ◌+◌, ◌<◌, ◌≤◌, IfSome, IfNone};
+ghost use Rattle.std.specs.Prelude.{◌≡◌, ℕ, ◌+◌, ◌<◌, ◌≤◌, ◌⊎◌, IfSome, IfNone, Some};
 
-/// Goes over all places in a circle, from some place on, each once. Desks that begin far from each other seldom meet.
+/// Goes over all places but its own in a circle, from some place on, each once. Desks that begin far from each other
+/// seldom meet.
 #[derive(Drop)]
 pub struct Tour {
+    own: usize,
     next: usize,
     left: usize,
     count: usize,
@@ -11,25 +13,29 @@ pub struct Tour {
 }
 
 impl Tour {
-    ghost use Rattle.ix_board.specs.Tours.{HasPassed, PassesOnly};
+    ghost use Rattle.ix_board.specs.Tours.{HasPassed};
 
-    /// The tour that begins in the section of this number, where the places are cut into as many sections.
-    pub fn from_section(count: usize, sections: usize, number: usize) -> Tour
-        requires { number < sections }
-        ensures { (result.count ≡ count) × (result.left ≡ count) × (result.next ≤ count) }
+    /// The tour of a worker, which begins in the section of its number where the places are cut into as many sections as
+    /// there are workers.
+    pub fn of_worker(count: usize, workers: usize, number: usize) -> Tour
+        requires { number < workers }
+        ensures { (result.count ≡ count) × (result.left ≡ count) × (result.next ≤ count) × (result.own ≡ number) }
     {
-        let section = count / sections;
+        let section = count / workers;
         Tour {
+            own: number,
             next: number * section,
             left: count,
             count,
         }
     }
 
-    /// The next place, or none where each place was passed.
-    pub fn next_place(&mut self) -> Option<usize>
-        ensures some { IfSome result (λ k. (k < self.old.count) × (self.new.left + 1 ≡ self.old.left) × (self.new.count ≡ self.old.count) × PassesOnly self.old self.new k) }
-        ensures none { IfNone result ((self.new ≡ self.old) × ((k : ℕ) → k < self.old.count → HasPassed self.old k)) }
+    // The next place of the circle, or none where each was passed.
+    fn pass(&mut self) -> Option<usize>
+        ensures same { (self.new.count ≡ self.old.count) × (self.new.own ≡ self.old.own) × (self.new.left ≤ self.old.left) }
+        ensures some { IfSome result (λ k. (k < self.old.count) × (self.new.left + 1 ≡ self.old.left)) }
+        ensures passes { (j : ℕ) → j < self.old.count → HasPassed self.new j → (result ≡ Some j) ⊎ HasPassed self.old j }
+        ensures none { IfNone result ((j : ℕ) → j < self.old.count → HasPassed self.new j) }
     {
         if self.left == 0 {
             return None;
@@ -42,5 +48,22 @@ impl Tour {
             place + 1
         };
         Some(place)
+    }
+
+    /// The next place that is not its own, or none where each was passed.
+    pub fn next_place(&mut self) -> Option<usize>
+        ensures same { (self.new.count ≡ self.old.count) × (self.new.own ≡ self.old.own) × (self.new.left ≤ self.old.left) }
+        ensures some { IfSome result (λ k. (k < self.old.count) × (self.new.left + 1 ≤ self.old.left)) }
+        ensures passes { (j : ℕ) → j < self.old.count → HasPassed self.new j → (result ≡ Some j) ⊎ (j ≡ self.old.own) ⊎ HasPassed self.old j }
+        ensures none { IfNone result ((j : ℕ) → j < self.old.count → HasPassed self.new j) }
+    {
+        let Some(place) = self.pass() else {
+            return None;
+        };
+        if place == self.own {
+            self.pass()
+        } else {
+            Some(place)
+        }
     }
 }

@@ -4,8 +4,11 @@ pub mod Entries
 pub mod GrammarLemmas
 pub mod LexemeLists
 pub mod Lexing
+pub mod PositionLemmas
 pub mod Readings
 pub mod Results
 pub mod RunSigns
+pub mod SatisfactionLemmas
+pub mod ScanLemmas
 pub mod SoundLemmas
 pub mod Stars

@@ -5,3 +5,5 @@ pub mod Lexemes
 pub mod Machine
 pub mod Parsing
 pub mod QueryErrors
+pub mod Satisfaction
+pub mod Scans

@@ -1,6 +1,9 @@
 pub mod CollectionLaws
 pub mod CollectionLemmas
 pub mod CollectionTold
+pub mod FoldLemmas
+pub mod FoldTables
+pub mod LawfulLemmas
 pub mod PartsLemmas
 pub mod SinkLemmas
 pub mod StopSetLemmas

@@ -5,6 +5,7 @@ pub mod CollectionLaws
 pub mod CollectionText
 pub mod Collections
 pub mod Docs
+pub mod IotaSubscript
 pub mod Parts
 pub mod PartsLaws
 pub mod Sinks

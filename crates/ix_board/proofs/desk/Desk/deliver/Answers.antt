@@ -10,11 +10,11 @@ pub invariant_of-self : goal.invariant_of-self
 invariant_of-self g c =
     let done = c.finish_place.ensures in
     sound_after c.self.inside c.finish_place.new.seat None c.self.inside.tour (Deliver c.in-Some.place c.args.piece) c.args.board.now (ap (λ (d : DeskView _). d.board) c.self.view_is ∙ c.requires.board) c.self.invariant
-    done.table done.done refl (λ k e. absurd (none-some k e)) refl (λ k h p. inl p) (omega arith)
+    done.table done.done refl (λ k e. absurd (none-some k e)) (refl, refl) (λ k h p. inl p) (omega arith)
 
 pub returns-clause-free : goal.returns-clause-free
 returns-clause-free g c =
     let done = c.finish_place.ensures in
     held_is_told _ (
     sound_after c.self.inside c.finish_place.new.seat None c.self.inside.tour (Deliver c.in-Some.place c.args.piece) c.args.board.now (ap (λ (d : DeskView _). d.board) c.self.view_is ∙ c.requires.board) c.self.invariant
-    done.table done.done refl (λ k e. absurd (none-some k e)) refl (λ k h p. inl p) (omega arith))
+    done.table done.done refl (λ k e. absurd (none-some k e)) (refl, refl) (λ k h p. inl p) (omega arith))
