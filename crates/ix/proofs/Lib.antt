@@ -1,3 +1,4 @@
+pub mod AskLemmas
 pub mod Building
 pub mod EachLemmas
 pub mod Matched

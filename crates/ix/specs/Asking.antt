@@ -7,7 +7,7 @@ use Rattle.ix_text.specs.Collections.{NamedText, collection_of}
 use Rattle.ix_text.specs.Sinks.{AppendsFront}
 use Rattle.ix_query.specs.declared.query.Query.{Query}
 use Rattle.ix_query.specs.Grammar.{Reads}
-use Rattle.ix_query.specs.Satisfaction.{IsScan}
+use Rattle.ix_query.specs.Scans.{IsScan}
 use Rattle.ix_query.specs.Machine.{query_of}
 use Rattle.ix_text.specs.declared.collection.CollectionError.{CollectionError}
 use Rattle.ix_text.specs.declared.collection.CollectionError.TheVariants as collection
@@ -17,43 +17,66 @@ use Rattle.ix.specs.NameLines.{name_lines}
 use Rattle.ix.specs.declared.ask.AskError.{AskError}
 use Rattle.ix.specs.declared.ask.AskError.TheVariants as asking
 
--- These documents of the collection text satisfy this reading of the query, and no others.
-pub record Finds (text : List ℕ) (stop : List (List ℕ)) (query : List ℕ) (documents : List NamedText) (numbers : List ℕ) : Type 0 where
-  pub read : IsCollectionText text documents
+-- The query reads as a tree, and these are the numbers of exactly the documents that satisfy it, ascending.
+pub record AreFound (stop : List (List ℕ)) (query : List ℕ) (documents : List NamedText) (numbers : List ℕ) : Type 0 where
   pub tree : Query
   pub parsed : Reads stop query tree
   pub scanned : IsScan (collection_of stop documents) tree numbers
 
--- The names of exactly these documents went out, and `count` is how many.
-pub record IsAnswered (text : List ℕ) (stop : List (List ℕ)) (query : List ℕ) (old new : Option (List ℕ)) (count : ℕ) : Type 0 where
+-- The lines are the names of exactly the documents of the collection text that satisfy the query, and `count` is how many.
+pub record IsAnswer (text : List ℕ) (stop : List (List ℕ)) (query lines : List ℕ) (count : ℕ) : Type 0 where
   pub documents : List NamedText
   pub numbers : List ℕ
-  pub found : Finds text stop query documents numbers
-  pub written : Appends old new (name_lines documents numbers)
+  pub read : IsCollectionText text documents
+  pub found : AreFound stop query documents numbers
+  pub named : lines ≡ name_lines documents numbers
   pub counted : count ≡ length numbers
+
+-- The answer went out whole.
+pub record IsAnswered (text : List ℕ) (stop : List (List ℕ)) (query : List ℕ) (old new : Option (List ℕ)) (count : ℕ) : Type 0 where
+  pub lines : List ℕ
+  pub answer : IsAnswer text stop query lines count
+  pub written : Appends old new lines
+
+-- A beginning of the answer went out.
+pub record IsCutShort (text : List ℕ) (stop : List (List ℕ)) (query : List ℕ) (old new : Option (List ℕ)) : Type 0 where
+  pub lines : List ℕ
+  pub count : ℕ
+  pub answer : IsAnswer text stop query lines count
+  pub front : AppendsFront old new lines
 
 -- The bytes are no collection text, and this is their fault; or memory ran out.
 abbrev pub RefusesCollection : List ℕ → CollectionError → Type 0
 RefusesCollection text error = (error ≡ collection.Memory) ⊎ IsCollectionFault text error
 
--- The text is no query, and this is its first fault; or memory ran out.
-abbrev pub RefusesQuery : List (List ℕ) → List ℕ → QueryError → Type 0
-RefusesQuery stop query error = Fails error (query_of stop query)
-
 -- The bytes are a collection text.
 abbrev pub IsCollection : List ℕ → Type 0
 IsCollection text = (documents : List NamedText) × IsCollectionText text documents
 
--- A beginning of the names went out.
-pub record IsCutShort (text : List ℕ) (stop : List (List ℕ)) (query : List ℕ) (old new : Option (List ℕ)) : Type 0 where
-  pub documents : List NamedText
-  pub numbers : List ℕ
-  pub found : Finds text stop query documents numbers
-  pub front : AppendsFront old new (name_lines documents numbers)
+-- Why the documents were not read.
+abbrev pub RefusesText : List ℕ → AskError → Type 0
+RefusesText text (asking.Collection error) = RefusesCollection text error
+RefusesText text (asking.Query error) = ⊥
+RefusesText text asking.Write = ⊥
+RefusesText text asking.Memory = ⊥
+
+-- Why the numbers were not found: the text is no query, with this first fault, or memory ran out.
+abbrev pub RefusesInQuery : List (List ℕ) → List ℕ → AskError → Type 0
+RefusesInQuery stop query (asking.Collection error) = ⊥
+RefusesInQuery stop query (asking.Query error) = Fails error (query_of stop query)
+RefusesInQuery stop query asking.Write = ⊥
+RefusesInQuery stop query asking.Memory = Unit {0}
+
+-- Why there is no answer, before anything was written.
+abbrev pub Refuses : List ℕ → List (List ℕ) → List ℕ → AskError → Type 0
+Refuses text stop query (asking.Collection error) = RefusesCollection text error
+Refuses text stop query (asking.Query error) = IsCollection text × Fails error (query_of stop query)
+Refuses text stop query asking.Write = ⊥
+Refuses text stop query asking.Memory = Unit {0}
 
 -- Why a question was refused, and what went out.
 abbrev pub Leaves : List ℕ → List (List ℕ) → List ℕ → Option (List ℕ) → Option (List ℕ) → AskError → Type 0
-Leaves text stop query old new (asking.Collection error) = RefusesCollection text error × Keeps old new
-Leaves text stop query old new (asking.Query error) = IsCollection text × RefusesQuery stop query error × Keeps old new
+Leaves text stop query old new (asking.Collection error) = Refuses text stop query (asking.Collection error) × Keeps old new
+Leaves text stop query old new (asking.Query error) = Refuses text stop query (asking.Query error) × Keeps old new
 Leaves text stop query old new asking.Write = IsCutShort text stop query old new
 Leaves text stop query old new asking.Memory = Keeps old new

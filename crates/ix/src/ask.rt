@@ -1,6 +1,11 @@
 //! A question to a collection, from its bytes to the names that are written.
-ghost use Rattle.std.specs.Prelude.{IfOk, IfErr};
-ghost use Rattle.ix.specs.Asking.{IsAnswered, Leaves};
+ghost use Rattle.std.specs.Prelude.{◌≡◌, ◌^◌, ◌<◌, ◌≤◌, length, All, IfOk, IfErr, OnOk, OnErr};
+ghost use Rattle.std.specs.Io.KnownBytes.{Appends};
+ghost use Rattle.ix_text.specs.CollectionText.{IsCollectionText};
+ghost use Rattle.ix_text.specs.Collections.{collection_of};
+ghost use Rattle.ix_text.specs.Sinks.{AppendsFront};
+ghost use Rattle.ix.specs.Asking.{AreFound, IsAnswer, IsAnswered, Leaves, Refuses, RefusesInQuery, RefusesText};
+ghost use Rattle.ix_query.specs.Scans.{IsScan};
 
 use crate::names::name_lines_of;
 use ix_query::{Query, QueryError, scan};
@@ -41,13 +46,90 @@ pub fn ask<W: Write>(
     ensures answered { IfOk result (IsAnswered collection.now stop.now query.now (W.contents out.old) (W.contents out.new)) }
     ensures refused { IfErr result (Leaves collection.now stop.now query.now (W.contents out.old) (W.contents out.new)) }
 {
-    let documents = Collection::read(alloc, collection).map_err(AskError::Collection)?;
-    let tree = Query::parse(alloc, query, stop).map_err(AskError::Query)?;
-    let numbers = scan(alloc, documents.docs(), stop, &tree)?;
+    let answer = find_answer(alloc, collection, stop, query)?;
+    match write(&answer.lines, out) {
+        Ok(()) => Ok(answer.count),
+        Err(WriteRefused) => Err(AskError::Write),
+    }
+}
+
+/// The lines of the names that were found, and how many there are.
+#[derive(Drop)]
+struct Answer {
+    lines: Vec<u8>,
+    count: usize,
+}
+
+/// What the collection text answers to the query.
+fn find_answer(
+    alloc: Global,
+    collection: &[u8],
+    stop: &StopList,
+    query: &str,
+) -> Result<Answer, AskError>
+    ensures found { IfOk result (λ answer. IsAnswer collection.now stop.now query.now answer.lines.items answer.count) }
+    ensures refused { IfErr result (Refuses collection.now stop.now query.now) }
+{
+    let documents = read(alloc, collection)?;
+    let numbers = numbers_of(alloc, &documents, stop, query)?;
     let lines = name_lines_of(alloc, documents.docs(), &numbers)?;
-    put_all(out, &lines)?;
-    flush(out)?;
-    Ok(numbers.len())
+    let count = numbers.len();
+    Ok(Answer { lines, count })
+}
+
+/// The documents of a collection text.
+fn read(alloc: Global, bytes: &[u8]) -> Result<Collection<'_>, AskError>
+    ensures documents { IfOk result (IsCollectionText bytes.now) }
+    ensures few { IfOk result (λ documents. length documents ≤ 2 ^ 32) }
+    ensures refused { IfErr result (RefusesText bytes.now) }
+{
+    match Collection::read(alloc, bytes) {
+        Ok(documents) => Ok(documents),
+        Err(error) => Err(AskError::Collection(error)),
+    }
+}
+
+/// The numbers of the documents that satisfy the query.
+fn numbers_of(
+    alloc: Global,
+    documents: &Collection<'_>,
+    stop: &StopList,
+    query: &str,
+) -> Result<Vec<u32>, AskError>
+    requires { length documents.now ≤ 2 ^ 32 }
+    ensures found { IfOk result (λ numbers. AreFound stop.now query.now documents.now numbers.items) }
+    ensures below { IfOk result (λ numbers. All (λ number. number < length documents.now) numbers.items) }
+    ensures refused { IfErr result (RefusesInQuery stop.now query.now) }
+{
+    match Query::parse(alloc, query, stop) {
+        Ok(tree) => scanned(alloc, documents, stop, &tree),
+        Err(error) => Err(AskError::Query(error)),
+    }
+}
+
+/// The numbers of the documents that satisfy the tree.
+fn scanned(
+    alloc: Global,
+    documents: &Collection<'_>,
+    stop: &StopList,
+    tree: &Query,
+) -> Result<Vec<u32>, AskError>
+    requires { length documents.now ≤ 2 ^ 32 }
+    ensures scanned { IfOk result (λ numbers. IsScan (collection_of stop.now documents.now) tree.now numbers.items) }
+    ensures below { IfOk result (λ numbers. All (λ number. number < length documents.now) numbers.items) }
+    ensures memory { IfErr result (λ error. error ≡ AskError.Memory) }
+{
+    let numbers = scan(alloc, documents.docs(), stop, tree)?;
+    Ok(numbers)
+}
+
+/// Writes the bytes and flushes.
+fn write<W: Write>(bytes: &[u8], out: &mut W) -> Result<(), WriteRefused>
+    ensures whole { OnOk result (Appends (W.contents out.old) (W.contents out.new) bytes.now) }
+    ensures front { OnErr result (AppendsFront (W.contents out.old) (W.contents out.new) bytes.now) }
+{
+    put_all(out, bytes)?;
+    flush(out)
 }
 
 impl From<AllocError> for AskError {
@@ -58,16 +140,5 @@ impl From<AllocError> for AskError {
 
     fn from(_error: AllocError) -> AskError {
         AskError::Memory
-    }
-}
-
-impl From<WriteRefused> for AskError {
-    ghost use Rattle.std.specs.Prelude.{◌≡◌};
-    ghost use Rattle.ix.specs.declared.ask.AskError.TheVariants.{Write as Refused};
-
-    ghost from_gives = { λ _ error. error ≡ Refused };
-
-    fn from(_error: WriteRefused) -> AskError {
-        AskError::Write
     }
 }

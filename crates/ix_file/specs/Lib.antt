@@ -1,2 +1,3 @@
 pub mod IndexText
+pub mod Laws
 pub mod Sections

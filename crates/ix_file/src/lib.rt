@@ -1,12 +1,7 @@
-//! The index text: its definition, the writer that streams it, and the reader that accepts exactly such texts.
+//! The index text: a collection as postings lists, names, a dictionary and grams, in a plain and in a front-coded version.
+//! Today this is its definition and what holds of it; its writer and its exact reader are to come.
 #![tactic(auto)]
 
-ghost use Rattle.std.specs.Prelude.{◌≡◌};
-ghost use Rattle.ix_file.specs.IndexText.{IsIndexText};
+mod laws;
 
-/// A place-holder until the first call stands.
-pub fn stub(x: usize) -> usize
-    ensures { result ≡ x }
-{
-    x
-}
+pub use laws::{index_text_has_one_version, index_text_has_sixty_four_bytes};

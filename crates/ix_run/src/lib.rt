@@ -1,13 +1,7 @@
-//! Runs: a block of documents inverted and sorted, as a value, as a source of postings, and as a text that is
-//! written and read.
+//! Runs: a block of documents inverted and sorted. Today this is the definition of the run text and what holds of it;
+//! the run as a value, its writer and its exact reader are to come.
 #![tactic(auto)]
 
-ghost use Rattle.std.specs.Prelude.{◌≡◌};
-ghost use Rattle.ix_run.specs.RunText.{IsRunText};
+mod laws;
 
-/// A place-holder until the first call stands.
-pub fn stub(x: usize) -> usize
-    ensures { result ≡ x }
-{
-    x
-}
+pub use laws::run_text_has_eighteen_bytes;

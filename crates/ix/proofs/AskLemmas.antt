@@ -1,0 +1,32 @@
+-- How many documents a collection text has, and which numbers a scan gives.
+use Rattle.std.proofs.Common.{◌≡◌, ℕ, suc, ◌+◌, ◌<◌, ◌≤◌, ◌^◌, List, [], ◌∷◌, ◌++◌, map, length, get_or, All, Contains, refl, sym, ap, ◌∙◌, arith, length-append, subst}
+use Rattle.std.proofs.lemmas.List.{length-map}
+use Rattle.std.proofs.lemmas.List.Elements.{Contains-get_or}
+use Rattle.std.proofs.lemmas.Option.{slice_get_within}
+use Rattle.std.specs.List.{flat_map}
+use Rattle.ix_text.specs.Collections.{Collection, Document, NamedText, collection_of}
+use Rattle.ix_text.specs.CollectionText.{IsCollectionText, line_of}
+use Rattle.ix_text.specs.TokenLists.{token_list}
+use Rattle.ix_query.specs.declared.query.Query.{Query}
+use Rattle.ix_query.specs.Scans.{IsScan}
+
+-- a line has a byte
+pub length-lines : (documents : List NamedText) → length documents ≤ length (flat_map line_of documents)
+length-lines [] = omega arith
+length-lines (d ∷ documents) =
+    omega (arith, length-lines documents, length-append (line_of d) (flat_map line_of documents), length-append d.name (9 ∷ (d.text ++ 10 ∷ [])))
+
+-- so there are few documents
+pub few_documents : (text : List ℕ) (documents : List NamedText) → IsCollectionText text documents → length documents ≤ 2 ^ 32
+few_documents text documents is =
+    let lines : length text ≡ length (flat_map line_of documents) = ap length is.lines in
+    omega (arith, is.size, lines, length-lines documents)
+
+-- the numbers of a scan are numbers of documents
+pub numbers_below : (stop : List (List ℕ)) (documents : List NamedText) (query : Query) (numbers : List ℕ) → IsScan (collection_of stop documents) query numbers → All (λ number. number < length documents) numbers
+unfolding collection_of
+numbers_below stop documents query numbers scanned = λ k d below.
+    let view = λ (d : NamedText). let document : Document = record { name = d.name; tokens = token_list stop d.text } in document in
+    let found = (scanned.exact (get_or numbers k d)).0 (Contains-get_or numbers k d below) in
+    let within : get_or numbers k d < length (map view documents) = slice_get_within (map view documents) (get_or numbers k d) found.document found.numbered in
+    omega (arith, within, length-map documents view)

@@ -1,0 +1,13 @@
+-- What every index text shows of itself.
+use Rattle.std.specs.Prelude.{◌≡◌, ℕ, ◌≤◌, List, length}
+use Rattle.ix_text.specs.Collections.{Collection}
+use Rattle.ix_file.specs.IndexText.{IsIndexText}
+use Rattle.ix_file.specs.Sections.{Version, Plain, FrontCoded}
+
+-- an index text has at least the bytes of its marks and its trailer
+abbrev pub HasSixtyFourBytes : Type 0
+HasSixtyFourBytes = (version : Version) (collection : Collection) (bytes : List ℕ) → IsIndexText version collection bytes → 64 ≤ length bytes
+
+-- no text is an index text of both versions
+abbrev pub HasOneVersion : Type 0
+HasOneVersion = (one other : Collection) (bytes : List ℕ) → IsIndexText Plain one bytes → ¬ (IsIndexText FrontCoded other bytes)
