@@ -1,6 +1,7 @@
 pub mod Cuts
 pub mod CompleteLemmas
 pub mod Entries
+pub mod Faults
 pub mod GrammarLemmas
 pub mod LexemeLists
 pub mod Lexing
@@ -9,3 +10,4 @@ pub mod RunSigns
 pub mod Results
 pub mod SoundLemmas
 pub mod Stars
+pub mod Strips

@@ -5,3 +5,4 @@ pub mod Lexemes
 pub mod Machine
 pub mod Parsing
 pub mod QueryErrors
+pub mod Stripping
