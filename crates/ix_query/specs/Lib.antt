@@ -6,3 +6,5 @@ pub mod Machine
 pub mod Parsing
 pub mod QueryErrors
 pub mod Stripping
+pub mod Satisfaction
+pub mod Scans
