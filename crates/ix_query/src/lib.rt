@@ -17,7 +17,6 @@ mod tree;
 pub use error::QueryError;
 pub use grammar::{a_text_has_one_tree, queries_are_those_of_the_grammar};
 pub use laws::{faults_are_the_first, lexemes_cut_the_text, phrases_have_no_hole_at_an_end};
-pub use laws::lexemes_cut_the_text;
 pub use lexeme::{Lexeme, Sign, lexemes};
 pub use query::{Query, Term};
 pub use satisfaction::{satisfies, what_queries_ask};
