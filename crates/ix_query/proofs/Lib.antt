@@ -1,4 +1,5 @@
 pub mod CompleteLemmas
+pub mod FaultLemmas
 pub mod GrammarLemmas
 pub mod Entries
 pub mod LexemeLists
