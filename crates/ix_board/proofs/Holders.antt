@@ -154,3 +154,9 @@ module _ {P : Type 0} where
   -- the place k is held by w exactly where w's own steps tell so
   pub holders : (count workers : ℕ) (run : Run P) → MayRun (opening count workers) run → Tells (places_after (opening count workers) run) (λ w. held_after (first_held count workers w) (steps_by w run))
   holders count workers run may = tells_after (opening count workers) (first_held count workers) run (opening_tells count workers) may
+
+-- a worker whose first place there is begins with it
+pub first_held_itself : (count workers w : ℕ) → w < count → w < workers → first_held count workers w ≡ Some w
+first_held_itself count workers w a b =
+    let c : (ltb w count && ltb w workers) ≡ true = grind (arith, nat_tests) in
+    rw c

@@ -1,5 +1,15 @@
+pub mod Advances
+pub mod BoardCalls
 pub mod BoardLaws
+pub mod Closings
+pub mod Counting
+pub mod DeskPlays
+pub mod DeskSteps
+pub mod Endings
+pub mod FreshDesks
 pub mod Holders
+pub mod Openings
 pub mod Runs
+pub mod SeatMoves
 pub mod SliceGets
 pub mod Turns

@@ -1,11 +1,12 @@
 -- Runs: how they are put together, and what they make of one place.
-use Rattle.std.proofs.Common.{◌≡◌, ◌≢◌, ◌⊎◌, ℕ, ◌+◌, ◌<◌, Bool, true, false, cond, eqb, List, [], ◌∷◌, ◌++◌, length, refl, sym, ap, subst, ◌∙◌, inl, inr, ⊎_elim, length-set, arith}
+use Rattle.std.proofs.Common.{◌≡◌, ◌≢◌, ◌⊎◌, ℕ, ◌+◌, ◌<◌, eq-eqb, ne_eqb, Bool, true, false, cond, eqb, List, [], ◌∷◌, ◌++◌, length, refl, sym, ap, subst, ◌∙◌, inl, inr, ⊎_elim, length-set, arith}
 use Rattle.std.specs.Prelude.{Some, slice_get}
 use Rattle.std.specs.List.{Contains, count_by}
 use Rattle.ix_board.specs.declared.step.Step.{Step}
 use Rattle.ix_board.specs.declared.step.Step.TheVariants.{Claim, Deliver, GiveUp, Look}
 use Rattle.ix_board.specs.Machine.{Place, open_place, held_by, done_by, given_up_by, Run, after, May, MayRun, places_after, steps_by}
 use Rattle.ix_board.specs.Laws.{claims, finishes, times_held, times_finished}
+use native.Mathlib.Decide.{ℕ_discrete}
 use Rattle.std.proofs.lemmas.Option.{same_Some}
 use Rattle.std.proofs.lemmas.List.Sums.{sum_by-cons}
 use Rattle.ix_board.proofs.SliceGets.{contains_there, contains_cases}
@@ -134,3 +135,48 @@ module _ {P : Type 0} where
         | false ↦ λ d. later d
       ] in
       both c
+
+  -- ---- the steps of one worker, as a run grows at its end
+
+  pub steps_by-snoc_same : (w : ℕ) (run : Run P) (s : Step P) → steps_by w (run ++ (w, s) ∷ []) ≡ steps_by w run ++ s ∷ []
+  steps_by-snoc_same w [] s = rw (eq-eqb w w refl)
+  steps_by-snoc_same w (e ∷ run) s =
+      let X = steps_by w (run ++ (w, s) ∷ []) in
+      let Y = steps_by w run in
+      let ih : X ≡ Y ++ s ∷ [] = steps_by-snoc_same w run s in
+      elim (eqb e.0 w) as (λ t. cond t (e.1 ∷ X) X ≡ cond t (e.1 ∷ Y) Y ++ s ∷ []) [ true ↦ ap (λ (l : List (Step P)). e.1 ∷ l) ih | false ↦ ih ]
+
+  pub steps_by-snoc_other : (v w : ℕ) (run : Run P) (s : Step P) → v ≢ w → steps_by v (run ++ (w, s) ∷ []) ≡ steps_by v run
+  steps_by-snoc_other v w [] s n = let m : w ≢ v = (λ e. n (sym e)) in rw (ne_eqb w v m)
+  steps_by-snoc_other v w (e ∷ run) s n =
+      let X = steps_by v (run ++ (w, s) ∷ []) in
+      let Y = steps_by v run in
+      let ih : X ≡ Y = steps_by-snoc_other v w run s n in
+      elim (eqb e.0 v) as (λ t. cond t (e.1 ∷ X) X ≡ cond t (e.1 ∷ Y) Y) [ true ↦ ap (λ (l : List (Step P)). e.1 ∷ l) ih | false ↦ ih ]
+
+  -- a step that a worker made stands in the run, and the other way round
+  pub contains_by : (w : ℕ) (run : Run P) (s : Step P) → Contains (steps_by w run) s → Contains run (w, s)
+  contains_by w [] s c = let l : c.0 < 0 = c.1 in absurd (omega arith)
+  contains_by w (e ∷ run) s c =
+      let later = λ (d : Contains (steps_by w run) s). contains_there e run (w, s) (contains_by w run s d) in
+      elim (ℕ_discrete e.0 w) [
+        | yes x ↦
+            let M : Bool → Type 0 = λ t. Contains (cond t (e.1 ∷ steps_by w run) (steps_by w run)) s in
+            ⊎_elim (λ here. (0, omega arith, λ i. (x i, here i))) later (contains_cases e.1 (steps_by w run) s (subst M (eq-eqb e.0 w x) c))
+        | no n ↦
+            let M : Bool → Type 0 = λ t. Contains (cond t (e.1 ∷ steps_by w run) (steps_by w run)) s in
+            later (subst M (ne_eqb e.0 w n) c)
+      ]
+
+  pub contains_steps : (w : ℕ) (run : Run P) (s : Step P) → Contains run (w, s) → Contains (steps_by w run) s
+  contains_steps w [] s c = let l : c.0 < 0 = c.1 in absurd (omega arith)
+  contains_steps w (e ∷ run) s c =
+      let M : Bool → Type 0 = λ t. Contains (cond t (e.1 ∷ steps_by w run) (steps_by w run)) s in
+      ⊎_elim
+      (λ here.
+      let x : e.0 ≡ w = (λ i. (here i).0) in
+      subst M (sym (eq-eqb e.0 w x)) (0, omega arith, λ i. (here i).1))
+      (λ later.
+      let d = contains_steps w run s later in
+      elim (eqb e.0 w) as M [ true ↦ contains_there e.1 (steps_by w run) s d | false ↦ d ])
+      (contains_cases e run (w, s) c)

@@ -28,12 +28,12 @@ module _ {P : Type 0} where
   finishes k (GiveUp j) = j == k
   finishes k (Look j) = false
 
-  -- The step is a look.
-  abbrev pub is_look : Step P → Bool
-  is_look (Claim j) = false
-  is_look (Deliver j x) = false
-  is_look (GiveUp j) = false
-  is_look (Look j) = true
+  -- The step tried to claim a place: it claimed it, or looked at it.
+  abbrev pub is_try : Step P → Bool
+  is_try (Claim j) = true
+  is_try (Deliver j x) = false
+  is_try (GiveUp j) = false
+  is_try (Look j) = true
 
   -- How often a place was claimed or held first: once, unless it is open.
   abbrev pub times_held : Place P → ℕ

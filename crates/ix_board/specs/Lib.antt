@@ -1,2 +1,12 @@
+pub mod Attempts
+pub mod Crews
+pub mod DeskFields
+pub mod Desks
+pub mod Ends
+pub mod Kept
 pub mod Laws
 pub mod Machine
+pub mod Rooms
+pub mod Seats
+pub mod Starts
+pub mod Tours

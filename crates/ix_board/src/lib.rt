@@ -3,11 +3,21 @@
 // Nothing here locks or waits: each step is one compare-exchange.
 #![tactic(auto)]
 
+mod board;
+mod close;
+mod desk;
 mod laws;
+mod memory;
+mod open;
+pub mod rule;
 mod step;
+mod tour;
 
+pub use board::Board;
+pub use desk::Desk;
 pub use laws::{
     claimed_once, done_keeps_its_piece, finished_once, held_by_one, never_open_again,
     seen_is_not_open,
 };
+pub use memory::Memory;
 pub use step::Step;

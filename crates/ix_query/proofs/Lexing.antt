@@ -11,7 +11,7 @@ use Rattle.std.proofs.lemmas.Str.Parse.{IsNumeralModel, numerals_by_value, tells
 use Rattle.ix_query.specs.declared.error.QueryError.TheVariants.{OpenQuote, BadNear}
 use Rattle.ix_query.specs.Lexemes.{Near, Quoted, ends_run, is_quotation_mark, near_reading, quoted_reading}
 
-own : IsNumeralModel (λ digits. all_ascii_digits digits ≡ true) (digits_value 10)
+pub own : IsNumeralModel (λ digits. all_ascii_digits digits ≡ true) (digits_value 10)
 own = numerals_by_value _ tells_all_ascii_digits
 
 not_both : {X : Type 0} (b c : Bool) (x y : X) → (b ≡ true → c ≡ true → ⊥) → cond (b && c) x y ≡ y

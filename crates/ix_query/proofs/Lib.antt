@@ -1,10 +1,16 @@
 pub mod CompleteLemmas
 pub mod FaultLemmas
 pub mod GrammarLemmas
+pub mod Cuts
 pub mod Entries
+pub mod GrammarLemmas
 pub mod LexemeLists
 pub mod Lexing
+pub mod PositionLemmas
 pub mod Readings
 pub mod Results
+pub mod RunSigns
+pub mod SatisfactionLemmas
+pub mod ScanLemmas
 pub mod SoundLemmas
 pub mod Stars

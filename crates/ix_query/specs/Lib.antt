@@ -1,7 +1,10 @@
 pub mod Faults
+pub mod Cutting
 pub mod Grammar
 pub mod Judgement
 pub mod Lexemes
 pub mod Machine
 pub mod Parsing
 pub mod QueryErrors
+pub mod Satisfaction
+pub mod Scans

@@ -5,10 +5,13 @@
 mod error;
 mod grammar;
 mod judge;
+mod laws;
 mod lexeme;
 mod parse;
 mod parser;
 mod query;
+mod satisfaction;
+mod scans;
 mod tree;
 
 pub use error::QueryError;
@@ -16,6 +19,10 @@ pub use grammar::{
     a_text_has_one_tree, an_unexpected_lexeme_is_the_first, queries_are_those_of_the_grammar,
     the_end_comes_too_soon,
 };
+pub use grammar::{a_text_has_one_tree, queries_are_those_of_the_grammar};
+pub use laws::lexemes_cut_the_text;
 pub use lexeme::{Lexeme, Sign, lexemes};
 pub use query::{Query, Term};
+pub use satisfaction::{satisfies, what_queries_ask};
+pub use scans::{a_query_has_one_scan, scan};
 pub use tree::{Boxed, Items};

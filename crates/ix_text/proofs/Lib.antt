@@ -1,9 +1,13 @@
 pub mod CollectionLaws
 pub mod CollectionLemmas
 pub mod CollectionTold
+pub mod FoldLemmas
+pub mod FoldTables
+pub mod LawfulLemmas
 pub mod PartsLemmas
 pub mod SinkLemmas
 pub mod StopSetLemmas
+pub mod StopTextLemmas
 pub mod TermLemmas
 pub mod TokenLemmas
 pub mod TokensTold

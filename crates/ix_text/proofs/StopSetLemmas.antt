@@ -1,15 +1,16 @@
 -- Stop sets: the empty one, one of ready texts, and what a binary search finds in one.
-use Rattle.std.proofs.Common.{◌≡◌, ℕ, ◌+◌, ◌<◌, ◌↔◌, List, [], ◌∷◌, map, length, get_or, Result, Ok, Err, is_ok, false, Ordering, Less, Equal, Greater, IsTrue, All, Contains, refl, sym, ap, inl, inr, ◌∙◌, arith, String, string_bytes}
+use Rattle.std.proofs.Common.{◌≡◌, ℕ, ◌+◌, ◌<◌, ◌↔◌, Bool, true, false, cond, bytes_eq, List, [], ◌∷◌, map, length, get_or, Result, Ok, Err, is_ok, Ordering, Less, Equal, Greater, IsTrue, All, Contains, refl, sym, ap, ap₂, inl, inr, ◌∙◌, arith, String, string_bytes}
 use Rattle.std.proofs.lemmas.List.{get_or-map, length-map}
 use Rattle.std.proofs.lemmas.List.Elements.{All-nil, All-cons, All-head, All-tail}
-use Rattle.std.proofs.lemmas.List.Sorted.{searchable_from_sorted}
+use Rattle.std.proofs.lemmas.List.Kept.{Contains-dedup, Contains-from_dedup, IsStrictlySortedBy-dedup}
+use Rattle.std.proofs.lemmas.List.Sorted.{searchable_from_sorted, IsPermutation-map, IsPermutation-sym, Contains-permutation}
 use Rattle.std.proofs.lemmas.Bool.{cases_lt}
-use Rattle.std.proofs.lemmas.Cmp.{nat_list_cmp_total, tied_itself}
+use Rattle.std.proofs.lemmas.Cmp.{nat_list_cmp_total, nat_list_eq_equiv, tied_itself}
 use Rattle.std.proofs.lemmas.Map.Keys.{Less-from_sorted}
 use Rattle.std.proofs.lemmas.Str.{IsUtf8-string_bytes}
 use Rattle.std.specs.Cmp.Lexicographic.{slice_cmp, bytes_decides}
-use Rattle.std.specs.List.{HoldsAt}
-use Rattle.std.specs.List.Sorted.{IsStrictlySortedBy, IsSearchInRange, IsBinarySearchResult, IsPartitionPoint, IsSortedBy}
+use Rattle.std.specs.List.{HoldsAt, dedup, dedup_from}
+use Rattle.std.specs.List.Sorted.{IsStrictlySortedBy, IsSearchInRange, IsBinarySearchResult, IsPartitionPoint, IsPermutation, IsSorted, IsSortedBy}
 use Rattle.std.specs.Ordering.{nat_cmp, is_lt, is_eq, ordering_reverse}
 use Rattle.std.proofs.lemmas.Map.Text.{is_eq-slice_cmp}
 use Rattle.ix_text.specs.ByteOrder.{IsAscending}
@@ -76,3 +77,47 @@ module _ {X : Type 0} (bytes : X → List ℕ) (xs : List X) (term : List ℕ) w
   searched up (Ok i) low tie = (λ _. found i low tie, λ _. refl)
   searched up (Err i) low parted =
       (λ e. absurd cc, λ has. absurd (apart xs i (parted (searchable_from_sorted nat_list_cmp_total bytes xs term (sorted_by_bytes up))) has))
+
+-- ---- a list of texts put in order, with each that stands more than once but once
+
+module _ {X : Type 0} (bytes : X → List ℕ) where
+  abbrev same_bytes : X → X → Bool
+  same_bytes x y = bytes_eq (bytes x) (bytes y)
+
+  map-cond : (b : Bool) (xs ys : List X) → map bytes (cond b xs ys) ≡ cond b (map bytes xs) (map bytes ys)
+  map-cond true xs ys = refl
+  map-cond false xs ys = refl
+
+  map-dedup_from : (x : X) (xs : List X) → map bytes (dedup_from same_bytes x xs) ≡ dedup_from bytes_eq (bytes x) (map bytes xs)
+  map-dedup_from x [] = refl
+  map-dedup_from x (y ∷ ys) =
+      map-cond (same_bytes y x) (dedup_from same_bytes x ys) (x ∷ dedup_from same_bytes y ys)
+      ∙ ap₂ (λ kept new. cond (same_bytes y x) kept (bytes x ∷ new)) (map-dedup_from x ys) (map-dedup_from y ys)
+
+  map-dedup : (xs : List X) → map bytes (dedup same_bytes xs) ≡ dedup bytes_eq (map bytes xs)
+  map-dedup [] = refl
+  map-dedup (x ∷ xs) = map-dedup_from x xs
+
+  sorted-map : (xs : List X) → IsSorted (λ x y. slice_cmp nat_cmp (bytes x) (bytes y)) xs → IsSorted (slice_cmp nat_cmp) (map bytes xs)
+  sorted-map [] sorted k d low high = absurd (omega arith)
+  sorted-map (x ∷ xs) sorted k d low high =
+      let within : k + 1 < length (x ∷ xs) = rw length-map at high in
+      let first = get_or-map bytes (x ∷ xs) k x d (omega arith) in
+      let second = get_or-map bytes (x ∷ xs) (k + 1) x d within in
+      rw (first, second) (sorted k x low within)
+
+  pub ascending_from_sort : (sorted kept : List X) → kept ≡ dedup same_bytes sorted → IsSorted (λ x y. slice_cmp nat_cmp (bytes x) (bytes y)) sorted → IsAscending (map bytes kept)
+  ascending_from_sort sorted kept is up =
+      rw (is, map-dedup) (IsStrictlySortedBy-dedup nat_list_cmp_total (λ x y. sym (is_eq-slice_cmp x y)) (map bytes sorted) (sorted-map sorted up))
+
+  pub same_from_sort : (given sorted kept : List X) → kept ≡ dedup same_bytes sorted → IsPermutation given sorted → (term : List ℕ) → Contains (map bytes kept) term ↔ Contains (map bytes given) term
+  same_from_sort given sorted kept is moved term =
+      let moved_bytes = IsPermutation-map bytes given sorted moved in
+      let kept_bytes : map bytes kept ≡ dedup bytes_eq (map bytes sorted) = ap (map bytes) is ∙ map-dedup sorted in (
+        λ has.
+            Contains-permutation (map bytes sorted) (map bytes given) term (IsPermutation-sym (map bytes given) (map bytes sorted) moved_bytes)
+            (Contains-from_dedup bytes_eq (map bytes sorted) term (rw kept_bytes at has)),
+        λ has.
+            rw kept_bytes
+            (Contains-dedup nat_list_eq_equiv (λ x y. (bytes_decides x y).0) (map bytes sorted) term (Contains-permutation (map bytes given) (map bytes sorted) term moved_bytes has)),
+      )

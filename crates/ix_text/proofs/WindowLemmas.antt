@@ -1,9 +1,11 @@
 -- The first window of three characters of a text, at its bytes.
-use Rattle.std.proofs.Common.{◌≡◌, ℕ, ◌+◌, ◌-◌, List, [], ◌∷◌, ◌++◌, length, take, map, sym, ap, subst, ◌∙◌, arith, append_assoc, length-append, IsUtf8}
+use Rattle.std.proofs.Common.{refl, ◌<◌, ◌≤◌, ◌≡◌, ℕ, ◌+◌, ◌-◌, List, [], ◌∷◌, ◌++◌, length, take, map, sym, ap, subst, ◌∙◌, arith, append_assoc, length-append, IsUtf8, zero, suc, drop, slice_get, Some, None, ⊎_elim}
 use Rattle.std.specs.Char.{encode_utf8}
 use Rattle.std.specs.Str.{chars, encode_utf8_all, IsCharBoundary}
 use Rattle.std.proofs.lemmas.List.{take_at}
 use Rattle.std.proofs.lemmas.Str.{chars-nil, chars_past_char, IsUtf8-past_char, IsCharBoundary-at_seam}
+use Rattle.std.proofs.lemmas.Bool.{cases_lt, lt-ltb, le-ltb}
+use Rattle.ix_text.specs.WindowLaws.{TrigramsStandByPlace}
 use Rattle.ix_text.specs.Windows.{windows_of_three, trigram_list}
 
 -- of the characters
@@ -60,3 +62,27 @@ trigrams-first text next last rest a b c u is is' is'' =
     let whole = three text next last rest a b c is is' is'' in
     let front : take (length text - length rest) text ≡ encode_utf8_all (a ∷ b ∷ c ∷ []) = front_of text (encode_utf8_all (a ∷ b ∷ c ∷ [])) rest whole in
     trigrams_of text (a ∷ b ∷ c ∷ chars rest) all ∙ heads (sym front) (sym (trigrams_of next (b ∷ c ∷ chars rest) later))
+
+-- ---- the windows by their places
+
+window_at : (cs : List ℕ) (k : ℕ) → k + 2 < length cs → slice_get (map encode_utf8_all (windows_of_three cs)) k ≡ Some (encode_utf8_all (take 3 (drop k cs)))
+window_at [] k within = absurd (omega arith)
+window_at (a ∷ []) k within = absurd (omega arith)
+window_at (a ∷ b ∷ []) k within = absurd (omega arith)
+window_at (a ∷ b ∷ c ∷ cs) zero within = refl
+window_at (a ∷ b ∷ c ∷ cs) (suc k) within = window_at (b ∷ c ∷ cs) k (omega arith)
+
+no_window_at : (cs : List ℕ) (k : ℕ) → length cs ≤ k + 2 → slice_get (map encode_utf8_all (windows_of_three cs)) k ≡ None
+no_window_at [] k past = refl
+no_window_at (a ∷ []) k past = refl
+no_window_at (a ∷ b ∷ []) k past = refl
+no_window_at (a ∷ b ∷ c ∷ cs) zero past = absurd (omega arith)
+no_window_at (a ∷ b ∷ c ∷ cs) (suc k) past = no_window_at (b ∷ c ∷ cs) k (omega arith)
+
+pub trigrams_by_place : TrigramsStandByPlace
+unfolding trigram_list
+trigrams_by_place text k =
+    ⊎_elim
+    (λ (within : k + 2 < length (chars text)). rw lt-ltb (window_at (chars text) k within))
+    (λ (past : length (chars text) ≤ k + 2). rw le-ltb (no_window_at (chars text) k past))
+    (cases_lt (k + 2) (length (chars text)))

@@ -1,8 +1,8 @@
 //! Collection texts: named documents, each on one line.
 ghost use Rattle.std.specs.Prelude.{◌≡◌, ◌<◌, ◌⊎◌, ℕ, List, Contains, map, IfNone, IfSome, MatchOption};
 ghost use Rattle.std.proofs.Props.{props};
-ghost use Rattle.ix_text.specs.CollectionFaults.{IsCutAtFirst, IsCollectionFault};
-ghost use Rattle.ix_text.specs.CollectionText.{IsCollectionText};
+ghost use Rattle.ix_text.specs.CollectionFaults.{IsCutAtFirst};
+ghost use Rattle.ix_text.specs.CollectionLaws.{FaultsExcludeDocuments, HasDocumentsOrFault, HasOneFault, HasOneListOfDocuments};
 ghost use Rattle.ix_text.specs.Collections.{NamedText, IsName};
 ghost use Rattle.ix_text.specs.declared.collection.CollectionError.{CollectionError};
 
@@ -85,6 +85,8 @@ impl<'a> Collection<'a> {
     pub fn read(alloc: Global, bytes: &'a [u8]) -> Result<Collection<'a>, CollectionError>
         ensures documents { IfOk result (λ documents. IsCollectionText bytes.now documents) }
         ensures fault { IfErr result (λ error. (error ≡ CollectionError.Memory) ⊎ IsCollectionFault bytes.now error) }
+        ensures accepted { (documents : List NamedText) → IsCollectionText bytes.now documents
+            → (result ≡ Ok documents) ⊎ (result ≡ Err CollectionError.Memory) }
     {
         if bytes.len() > MAX_BYTES {
             return Err(CollectionError::TooLarge);
@@ -193,10 +195,10 @@ fn cut_at(text: &str, byte: u8) -> Option<(&str, &str)>
 
 /// A text has one list of documents or one fault, and never both.
 pub fn has_documents_or_a_fault()
-    ensures one_list { (text : List ℕ) (one other : List NamedText) → IsCollectionText text one → IsCollectionText text other → one ≡ other }
-    ensures one_fault { (text : List ℕ) (one other : CollectionError) → IsCollectionFault text one → IsCollectionFault text other → one ≡ other }
-    ensures refused { (text : List ℕ) (documents : List NamedText) (fault : CollectionError) → IsCollectionFault text fault → ¬ (IsCollectionText text documents) }
-    ensures complete { (text : List ℕ) → ((documents : List NamedText) × IsCollectionText text documents) ⊎ ((fault : CollectionError) × IsCollectionFault text fault) }
+    ensures one_list { HasOneListOfDocuments }
+    ensures one_fault { HasOneFault }
+    ensures refused { FaultsExcludeDocuments }
+    ensures complete { HasDocumentsOrFault }
 {}
 
 #[cfg(test)]

@@ -1,9 +1,19 @@
-ghost use Rattle.std.specs.Prelude.{◌≡◌, ◌↔◌, ◌^◌, ◌≤◌, [], map, length, All, Contains, IsTrue, string_bytes};
+ghost use Rattle.std.specs.Prelude.{◌≡◌, ◌≢◌, ◌↔◌, ℕ, ◌^◌, ◌≤◌, ◌⊎◌, List, [], ◌∷◌, ◌++◌, map, length, All, Contains, IsTrue, IfOk, IfErr, OnOk, MatchOption, string_bytes};
+ghost use Rattle.unicode_segmentation.specs.Word.{words};
 ghost use Rattle.ix_text.specs.ByteOrder.{IsAscending};
 ghost use Rattle.ix_text.specs.StopSets.{IsStopSet, HasTermSize};
+ghost use Rattle.ix_text.specs.StopText.{IsStopText, stop_terms_of};
+ghost use Rattle.ix_text.specs.StopFaults.{IsStopLine, IsStopLineFault, IsStopFault};
 
-use std::alloc::Global;
+use crate::term_of;
+use crate::token::has_term_size;
+use std::alloc::{AllocError, AllocFailed, Global};
 use std::marker::Model;
+use thiserror::Error;
+use unicode_segmentation::UnicodeSegmentation;
+
+/// The most bytes that a stop text may have.
+const MAX_BYTES: usize = 1 << 28;
 
 /// The terms of the words that are left out of token lists (IIR 2.2.2), ascending by their bytes, each once.
 #[derive(Drop)]
@@ -42,6 +52,28 @@ impl StopList {
         StopList { terms }
     }
 
+    /// Reads a stop text of at most 2^28 bytes: cut at every LF, each line that is not empty holds one word. The
+    /// size is tested first, and then the lines in order; the first fault is the error, or `Memory`.
+    pub fn read(alloc: Global, text: &str) -> Result<StopList, StopError>
+        ensures terms { IfOk result (λ stop. IsStopText text.now stop) }
+        ensures fault { IfErr result (λ error. (error ≡ StopError.Memory) ⊎ IsStopFault text.now error) }
+    {
+        if text.len() > MAX_BYTES {
+            return Err(StopError::TooLarge);
+        }
+        let mut terms = Vec::new(alloc);
+        let mut number = 1;
+        let mut left = text;
+        while let Some((line, next)) = left.split_once('\n') {
+            read_line(alloc, &mut terms, line, number)?;
+            number += 1;
+            left = next;
+        }
+        read_line(alloc, &mut terms, left, number)?;
+        sort(&mut terms);
+        Ok(StopList::from_sorted(terms))
+    }
+
     /// The terms, ascending by their bytes. Takes no memory.
     pub fn terms(&self) -> &[String]
         ensures value { map string_bytes result.now ≡ self.now }
@@ -57,5 +89,107 @@ impl StopList {
         self.terms
             .binary_search_by(|held| held.as_str().cmp(&term))
             .is_ok()
+    }
+}
+
+/// Adds the term of the one word of a line, if the line is not empty. The line has this number.
+fn read_line(
+    alloc: Global,
+    terms: &mut Vec<String>,
+    line: &str,
+    number: usize,
+) -> Result<(), StopError>
+    ensures terms { OnOk result (map string_bytes terms.new.items ≡ map string_bytes terms.old.items ++ stop_terms_of (line.now ∷ [])) }
+    ensures line { OnOk result (IsStopLine line.now) }
+    ensures fault { IfErr result (λ error. (error ≡ StopError.Memory) ⊎ IsStopLineFault line.now number error) }
+{
+    if line.is_empty() {
+        return Ok(());
+    }
+    let Some(word) = only_word(line) else {
+        return Err(StopError::NotOneWord(number));
+    };
+    let term = term_of(alloc, word)?;
+    if !has_term_size(&term) {
+        return Err(StopError::LongWord(number));
+    }
+    terms.push(term)?;
+    Ok(())
+}
+
+/// The word of a line that holds exactly one.
+fn only_word(line: &str) -> Option<&str>
+    ensures { MatchOption result (length (words line.now) ≢ 1) (λ word. words line.now ≡ word.now ∷ []) }
+{
+    let mut words = line.unicode_words();
+    let word = words.next()?;
+    match words.next() {
+        None => Some(word),
+        Some(_) => None,
+    }
+}
+
+/// Puts the terms in the order of their bytes, and each that stands more than once but once.
+fn sort(terms: &mut Vec<String>)
+    ensures ascending { IsAscending (map string_bytes terms.new.items) }
+    ensures same { (term : List ℕ) → Contains (map string_bytes terms.new.items) term ↔ Contains (map string_bytes terms.old.items) term }
+    ensures fewer { length terms.new.items ≤ length terms.old.items }
+{
+    terms.sort_unstable();
+    terms.dedup();
+}
+
+/// Why a text is no stop text. Lines are counted from 1.
+#[derive(Debug, PartialEq, Eq, Drop, Error)]
+pub enum StopError {
+    /// The line holds something, but not exactly one word.
+    #[error("NotOneWord({0})")]
+    NotOneWord(usize),
+    /// The term of the line's word has not 1 to 255 bytes.
+    #[error("LongWord({0})")]
+    LongWord(usize),
+    /// Memory was refused.
+    #[error("Memory")]
+    Memory,
+    /// The text has more than 2^28 bytes.
+    #[error("TooLarge")]
+    TooLarge,
+}
+
+impl StopError {
+    ghost use Rattle.ix_text.specs.StopErrors.{stop_error_number};
+
+    /// The error's number in the list of this crate's stop text errors, from 1.
+    pub fn number(&self) -> u8
+        ensures { result ≡ stop_error_number self.now }
+    {
+        match self {
+            StopError::NotOneWord(_) => 1,
+            StopError::LongWord(_) => 2,
+            StopError::Memory => 3,
+            StopError::TooLarge => 4,
+        }
+    }
+}
+
+impl<T: Drop> From<AllocFailed<T>> for StopError {
+    ghost use Rattle.std.specs.Prelude.{◌≡◌};
+    ghost use Rattle.ix_text.specs.declared.stop.StopError.TheVariants.{Memory};
+
+    ghost from_gives = { λ _ e. e ≡ Memory };
+
+    fn from(_error: AllocFailed<T>) -> StopError {
+        StopError::Memory
+    }
+}
+
+impl From<AllocError> for StopError {
+    ghost use Rattle.std.specs.Prelude.{◌≡◌};
+    ghost use Rattle.ix_text.specs.declared.stop.StopError.TheVariants.{Memory};
+
+    ghost from_gives = { λ _ e. e ≡ Memory };
+
+    fn from(_error: AllocError) -> StopError {
+        StopError::Memory
     }
 }

@@ -1,5 +1,7 @@
-ghost use Rattle.std.specs.Prelude.{◌≡◌, ◌↔◌, map, length, option_map, string_bytes, string_len, IsTrue, IfOk};
-ghost use Rattle.ix_text.specs.StopSets.{HasTermSize};
+ghost use Rattle.std.specs.Prelude.{◌≡◌, ℕ, ◌≤◌, List, All, map, length, option_map, string_bytes, IsUtf8, IfOk};
+ghost use Rattle.ix_text.specs.CollectionText.{IsCollectionText};
+ghost use Rattle.ix_text.specs.Collections.{NamedText, collection_of, IsLawful, IsLawfulEntry};
+ghost use Rattle.ix_text.specs.StopSets.{IsStopSet};
 ghost use Rattle.ix_text.specs.Terms.{term_of_word};
 ghost use Rattle.ix_text.specs.TokenLists.{entry_of_term, is_term_size, token_list};
 
@@ -36,3 +38,10 @@ pub(crate) fn has_term_size(term: &str) -> bool
 {
     0 < term.len() && term.len() <= 255
 }
+
+/// A law: token lists are lawful and short, and the collection of a collection text under a stop set is lawful.
+pub fn lawful_collection()
+    ensures entries { (stop : List (List ℕ)) (text : List ℕ) → IsUtf8 text → All (IsLawfulEntry stop) (token_list stop text) }
+    ensures short { (stop : List (List ℕ)) (text : List ℕ) → IsUtf8 text → length (token_list stop text) ≤ length text }
+    ensures collection { (stop : List (List ℕ)) (bytes : List ℕ) (texts : List NamedText) → IsStopSet stop → IsCollectionText bytes texts → IsLawful (collection_of stop texts) }
+{}

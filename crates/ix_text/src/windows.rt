@@ -1,6 +1,7 @@
 //! The windows of three characters of a text: its trigrams (IIR 3.2.2).
 ghost use Rattle.std.specs.Prelude.{◌≡◌, [], ◌∷◌, IfNone, IfSome};
 ghost use Rattle.std.specs.Iterator.{YieldsFirstRef, item_count};
+ghost use Rattle.ix_text.specs.WindowLaws.{TrigramsStandByPlace};
 ghost use Rattle.ix_text.specs.Windows.{trigram_list};
 
 use std::marker::Model;
@@ -27,6 +28,12 @@ pub fn trigrams(text: &str) -> TrigramWindows<'_>
 {
     TrigramWindows { rest: text }
 }
+
+/// The trigram at a place is the text's three characters from there on. The function does nothing: what it ensures is
+/// a fact about the definitions.
+pub fn trigrams_stand_by_place()
+    ensures { TrigramsStandByPlace }
+{}
 
 impl<'a> Iterator for TrigramWindows<'a> {
     type Item = &'a str;

@@ -1,7 +1,7 @@
 -- What stands at the front of some bytes, byte by byte, and that it is one thing at most.
 use Rattle.std.proofs.Common.{◌≡◌, ◌≢◌, ℕ, zero, suc, ◌+◌, ◌*◌, ◌%◌, ◌^◌, ◌<◌, ◌≤◌, List, [], ◌∷◌, ◌++◌, length, take, drop, get_or, Result, Ok, Err, refl, sym, ap, ap₂, ◌∙◌, subst, arith, rules, lit<, add-one, zero-lt-suc, ◌↔◌, IsErr, IfOk, slice_get, Some, None, take-append-drop}
-use Rattle.std.proofs.lemmas.List.{append_assoc, take_more, drop_more, take_at, length-take-le, length-append}
-use Rattle.std.proofs.lemmas.List.Elements.{All-nil, All-head, All-tail}
+use Rattle.std.proofs.lemmas.List.{append_assoc, take_more, drop_more, take_at, take_all, length-take-le, length-append}
+use Rattle.std.proofs.lemmas.List.Elements.{All-nil, All-more, All-head, All-tail}
 use Rattle.ix_vbyte.specs.Code.{value_of, AreUnmarked, IsCode, code_of}
 use Rattle.ix_vbyte.specs.Reading.{StartsWithCode, StartsWithZero, IsTooBig, IsCut}
 use Rattle.ix_vbyte.specs.Decoded.{HasFault, Finds}
@@ -10,7 +10,7 @@ use Rattle.ix_vbyte.specs.declared.errors.VbError.TheVariants.{Cut, LeadingZero,
 use Rattle.ix_vbyte.proofs.Values.{value_of-none, length-code_of, value_of-push, value_of-append_ge, code_of-apart, code_of-code, IsCode-code_of}
 
 -- one byte more was read
-pub value_of-take : (bytes : List ℕ) (place : ℕ) → place < length bytes → value_of (take (place + 1) bytes) ≡ value_of (take place bytes) * 128 + get_or bytes place 0 % 128
+value_of-take : (bytes : List ℕ) (place : ℕ) → place < length bytes → value_of (take (place + 1) bytes) ≡ value_of (take place bytes) * 128 + get_or bytes place 0 % 128
 value_of-take bytes place within = ap value_of (take_more bytes place 0 within) ∙ value_of-push (take place bytes) (get_or bytes place 0)
 
 first-take : (bytes : List ℕ) (count : ℕ) → slice_get (take (suc count) bytes) 0 ≡ slice_get bytes 0
@@ -18,7 +18,7 @@ first-take [] count = refl
 first-take (b ∷ bytes) count = refl
 
 -- a marked byte ends a code
-pub starts : (bytes : List ℕ) (place number : ℕ) → place < length bytes → AreUnmarked (take place bytes) → value_of (take place bytes) * 128 + get_or bytes place 0 % 128 ≡ number → number < 2 ^ 32 → 128 ≤ get_or bytes place 0 → get_or bytes place 0 < 256 → slice_get bytes 0 ≢ Some 0 → StartsWithCode bytes number (place + 1)
+starts : (bytes : List ℕ) (place number : ℕ) → place < length bytes → AreUnmarked (take place bytes) → value_of (take place bytes) * 128 + get_or bytes place 0 % 128 ≡ number → number < 2 ^ 32 → 128 ≤ get_or bytes place 0 → get_or bytes place 0 < 256 → slice_get bytes 0 ≢ Some 0 → StartsWithCode bytes number (place + 1)
 starts bytes place number within unmarked value fits marked byte no_zero = record {
   within = omega arith;
   code = record {
@@ -37,7 +37,7 @@ starts bytes place number within unmarked value fits marked byte no_zero = recor
 }
 
 -- a byte that 32 bits have no room for
-pub too_big : (bytes : List ℕ) (place : ℕ) → place < length bytes → AreUnmarked (take place bytes) → 2 ^ 25 ≤ value_of (take place bytes) → slice_get bytes 0 ≢ Some 0 → IsTooBig bytes
+too_big : (bytes : List ℕ) (place : ℕ) → place < length bytes → AreUnmarked (take place bytes) → 2 ^ 25 ≤ value_of (take place bytes) → slice_get bytes 0 ≢ Some 0 → IsTooBig bytes
 too_big bytes place within unmarked above no_zero = record {
   front = take place bytes;
   last = get_or bytes place 0;
@@ -157,12 +157,12 @@ pub no_zero : (bytes : List ℕ) (byte : ℕ) → slice_get bytes 0 ≡ Some byt
 no_zero bytes byte some other h = let same : byte ≡ 0 = cc in other same
 
 -- the first byte is a code
-pub starts_at_once : (bytes : List ℕ) (byte : ℕ) → slice_get bytes 0 ≡ Some byte → 128 ≤ byte → byte < 256 → StartsWithCode bytes (byte % 128) 1
-starts_at_once [] byte some marked fits = absurd (cc)
-starts_at_once (b ∷ bytes) byte some marked fits =
+pub read_first : (bytes : List ℕ) (byte low : ℕ) → slice_get bytes 0 ≡ Some byte → 128 ≤ byte → get_or bytes 0 0 < 256 → low ≡ byte % 128 → StartsWithCode bytes low 1
+read_first [] byte low some marked fits is = absurd (cc)
+read_first (b ∷ bytes) byte low some marked fits is =
     let same : b ≡ byte = cc in
     let nothing : value_of [] ≡ 0 = value_of-none in
-    starts (b ∷ bytes) 0 (byte % 128) (zero-lt-suc (length bytes)) (All-nil (λ x. x < 128)) (omega arith) (omega arith) (omega arith) (omega arith) (λ h. let z : b ≡ 0 = cc in absurd (omega arith))
+    starts (b ∷ bytes) 0 low (zero-lt-suc (length bytes)) (All-nil (λ x. x < 128)) (omega arith) (omega arith) (omega arith) fits (λ h. let z : b ≡ 0 = cc in absurd (omega arith))
 
 -- what a reading that finds what is there tells a caller
 pub found_code : (bytes : List ℕ) (r : Result (ℕ × ℕ) VbError) → Finds bytes r → (n count : ℕ) → (r ≡ Ok (n, count)) ↔ StartsWithCode bytes n count
@@ -190,3 +190,40 @@ found_size bytes (Ok a) f =
     let bounds = length-code_of a.0 f.code.fits in
     (omega arith, omega arith, within)
 found_size bytes (Err e) f = tt
+
+-- the bytes below `place` neither end a code nor begin with 00, and stand for `number`
+pub record HasRead (bytes : List ℕ) (place number : ℕ) : Type 0 where
+  pub unmarked : AreUnmarked (take place bytes)
+  pub value : value_of (take place bytes) ≡ number
+  pub no_zero : slice_get bytes 0 ≢ Some 0
+
+pub read_none : (bytes : List ℕ) → slice_get bytes 0 ≢ Some 0 → HasRead bytes 0 0
+read_none bytes no_zero = record { unmarked = All-nil (λ byte. byte < 128); value = value_of-none; no_zero = no_zero }
+
+pub read_more : (bytes : List ℕ) (place number low : ℕ) → HasRead bytes place number → place < length bytes → get_or bytes place 0 < 128 → low ≡ get_or bytes place 0 % 128 → HasRead bytes (place + 1) (number * 128 + low)
+read_more bytes place number low so_far within unmarked is = record {
+  unmarked = All-more (λ byte. byte < 128) bytes place 0 within so_far.unmarked unmarked;
+  value = value_of-take bytes place within ∙ ap₂ (λ n m. n * 128 + m) so_far.value (sym is);
+  no_zero = so_far.no_zero;
+}
+
+pub read_code : (bytes : List ℕ) (place number low : ℕ) → HasRead bytes place number → place < length bytes → number < 2 ^ 25 → 128 ≤ get_or bytes place 0 → get_or bytes place 0 < 256 → low ≡ get_or bytes place 0 % 128 → StartsWithCode bytes (number * 128 + low) (place + 1)
+read_code bytes place number low so_far within fits marked byte is =
+    starts bytes place (number * 128 + low) within so_far.unmarked (ap₂ (λ n m. n * 128 + m) so_far.value (sym is)) (omega arith) marked byte so_far.no_zero
+
+pub read_big : (bytes : List ℕ) (place number : ℕ) → HasRead bytes place number → place < length bytes → 2 ^ 25 ≤ number → IsTooBig bytes
+read_big bytes place number so_far within above =
+    let value : value_of (take place bytes) ≡ number = so_far.value in
+    too_big bytes place within so_far.unmarked (omega arith) so_far.no_zero
+
+pub read_all : (bytes : List ℕ) (place number : ℕ) → HasRead bytes place number → length bytes ≤ place → number < 2 ^ 32 → IsCut bytes
+read_all bytes place number so_far end fits =
+    let value : value_of (take place bytes) ≡ number = so_far.value in
+    let whole : take place bytes ≡ bytes = take_all place bytes end in
+    record {
+      unmarked = subst AreUnmarked whole so_far.unmarked;
+      fits = subst (λ xs. value_of xs < 2 ^ 32) whole (omega arith);
+      no_zero = so_far.no_zero;
+    }
+
+pub ruleset reads = (cut_at_once, no_zero, read_none, read_more, read_code, read_big, read_all)

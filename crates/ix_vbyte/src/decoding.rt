@@ -40,6 +40,7 @@ fn read(bytes: &[u8]) -> Result<(u32, usize), VbError>
 }
 
 /// The same, seven bits at a time.
+#[tactic(auto, using(crate::proofs::Fronts::reads))]
 fn read_groups(bytes: &[u8]) -> Result<(u32, usize), VbError>
     ensures { Finds bytes.now result }
 {

@@ -1,5 +1,5 @@
 //! The code of a number, as bytes held in place and at the end of others.
-ghost use Rattle.std.specs.Prelude.{◌≡◌, ◌≤◌, ◌<◌, ◌+◌, ◌%◌, ◌/◌, ◌++◌, length, OnOk, OnErr};
+ghost use Rattle.std.specs.Prelude.{◌≡◌, ◌≤◌, ◌<◌, ◌+◌, ◌%◌, ◌/◌, ◌++◌, length, OnOk, OnErr, vec_capacity, vec_len};
 ghost use Rattle.std.specs.Int.Digits.{digits_of};
 ghost use Rattle.arrayvec.specs.ArrayVec.{array_vec_len};
 ghost use Rattle.ix_vbyte.specs.Code.{IsCode, code_of};
@@ -9,7 +9,7 @@ use std::alloc::AllocError;
 use std::marker::Model;
 
 /// The code of one number: one to five bytes, held in place.
-#[derive(Drop)]
+#[derive(Debug, Drop, Eq, PartialEq)]
 pub struct Code {
     bytes: ArrayVec<u8, 5>,
 }
@@ -20,6 +20,8 @@ impl Model for Code {
     ghost Value = { List ℕ };
 
     ghost view = { λ c. c.bytes.items };
+
+    ghost inverse = { λ bytes. record { bytes = record { items = bytes } } };
 }
 
 impl Code {
@@ -100,12 +102,15 @@ pub fn code_len(n: u32) -> usize
     }
 }
 
-/// Appends the code of a number. Where memory is refused, nothing was appended.
+/// Appends the code of a number. Where memory is refused, which it is only where the code finds no room,
+/// nothing was appended.
 #[inline]
 #[tactic(auto, using(crate::proofs::Widths::widths))]
 pub fn push_code(out: &mut Vec<u8>, n: u32) -> Result<(), AllocError>
     ensures ok { OnOk result (out.new.items ≡ out.old.items ++ code_of n) }
     ensures err { OnErr result (out.new.items ≡ out.old.items) }
+    ensures full { OnErr result (vec_capacity out.old < vec_len out.old + length (code_of n)) }
+    ensures capacity { vec_capacity out.old ≤ vec_capacity out.new }
 {
     if n < 128 {
         out.push(last(n))?;
@@ -121,6 +126,8 @@ fn push_long(out: &mut Vec<u8>, n: u32) -> Result<(), AllocError>
     requires { 128 ≤ n }
     ensures ok { OnOk result (out.new.items ≡ out.old.items ++ code_of n) }
     ensures err { OnErr result (out.new.items ≡ out.old.items) }
+    ensures full { OnErr result (vec_capacity out.old < vec_len out.old + length (code_of n)) }
+    ensures capacity { vec_capacity out.old ≤ vec_capacity out.new }
 {
     let low = [group(n >> 14), group(n >> 7), last(n)];
     if n < 1 << 14 {
