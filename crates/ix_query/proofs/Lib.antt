@@ -3,6 +3,7 @@ pub mod FaultLemmas
 pub mod GrammarLemmas
 pub mod Cuts
 pub mod Entries
+pub mod Faults
 pub mod GrammarLemmas
 pub mod LexemeLists
 pub mod Lexing
@@ -14,3 +15,4 @@ pub mod SatisfactionLemmas
 pub mod ScanLemmas
 pub mod SoundLemmas
 pub mod Stars
+pub mod Strips

@@ -6,5 +6,6 @@ pub mod Lexemes
 pub mod Machine
 pub mod Parsing
 pub mod QueryErrors
+pub mod Stripping
 pub mod Satisfaction
 pub mod Scans
