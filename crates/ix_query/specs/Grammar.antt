@@ -9,7 +9,8 @@
 use Rattle.std.specs.Prelude.{◌≡◌, ℕ, suc, ◌<◌, List, [], ◌∷◌, Ok}
 use Rattle.ix_query.specs.declared.query.Query.{Query}
 use Rattle.ix_query.specs.declared.query.Query.TheVariants as tree
-use Rattle.ix_query.specs.Lexemes.{Sign, Lexeme, At, lexemes_of}
+use Rattle.ix_query.specs.Cutting.{AreLexemes}
+use Rattle.ix_query.specs.Lexemes.{Sign, Lexeme, At}
 use Rattle.ix_query.specs.Judgement.{plain, quoted, beside}
 
 -- One part is itself, and several are joined.
@@ -62,8 +63,9 @@ mutual
         IsAnd stop k from part middle → AreOrs stop k middle parts rest → whole ≡ joined_by tree.Or (part ∷ parts) →
         IsOr stop k from whole rest
 
--- Under the stop list the text reads as this query: all of its lexemes are one part by the grammar, with nothing around it.
+-- Under the stop list the text reads as this query: it is cut into lexemes, and all of them are the query by the grammar,
+-- with nothing open around it.
 pub record Reads (stop : List (List ℕ)) (text : List ℕ) (query : Query) : Type 0 where
   pub lexemes : List Lexeme
-  pub cut : lexemes_of text ≡ Ok lexemes
+  pub cut : AreLexemes 0 text lexemes
   pub derived : IsOr stop 0 lexemes query []

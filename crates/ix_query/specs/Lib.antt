@@ -1,11 +1,11 @@
-pub mod Faults
 pub mod Cutting
+pub mod Faults
 pub mod Grammar
 pub mod Judgement
 pub mod Lexemes
 pub mod Machine
 pub mod Parsing
 pub mod QueryErrors
-pub mod Stripping
 pub mod Satisfaction
 pub mod Scans
+pub mod Stripping
