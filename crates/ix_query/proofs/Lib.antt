@@ -1,6 +1,7 @@
 pub mod CompleteLemmas
 pub mod Cuts
 pub mod Entries
+pub mod FaultLemmas
 pub mod Faults
 pub mod GrammarLemmas
 pub mod LexemeLists

@@ -1,4 +1,5 @@
 pub mod Cutting
+pub mod Faults
 pub mod Grammar
 pub mod Judgement
 pub mod Lexemes
