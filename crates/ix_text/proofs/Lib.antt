@@ -7,6 +7,7 @@ pub mod FoldLemmas
 pub mod FoldTables
 pub mod LawfulLemmas
 pub mod StopSetLemmas
+pub mod StopTextLaws
 pub mod StopTextLemmas
 pub mod TermLemmas
 pub mod TokenLemmas
