@@ -4,6 +4,7 @@ ghost use Rattle.ix_text.specs.ByteOrder.{IsAscending};
 ghost use Rattle.ix_text.specs.StopSets.{IsStopSet, HasTermSize};
 ghost use Rattle.ix_text.specs.StopText.{IsStopText, stop_terms_of};
 ghost use Rattle.ix_text.specs.StopFaults.{IsStopLine, IsStopLineFault, IsStopFault};
+ghost use Rattle.ix_text.specs.StopLaws.{FaultsExcludeStopSet, HasOneStopFault, HasOneStopSet, HasStopSetOrFault};
 
 use crate::term_of;
 use crate::token::has_term_size;
@@ -57,6 +58,7 @@ impl StopList {
     pub fn read(alloc: Global, text: &str) -> Result<StopList, StopError>
         ensures terms { IfOk result (λ stop. IsStopText text.now stop) }
         ensures fault { IfErr result (λ error. (error ≡ StopError.Memory) ⊎ IsStopFault text.now error) }
+        ensures accepted { (stop : List (List ℕ)) → IsStopText text.now stop → (result ≡ Ok stop) ⊎ (result ≡ Err StopError.Memory) }
     {
         if text.len() > MAX_BYTES {
             return Err(StopError::TooLarge);
@@ -138,6 +140,14 @@ fn sort(terms: &mut Vec<String>)
     terms.sort_unstable();
     terms.dedup();
 }
+
+/// A law: a text has one stop set or one fault, and never both.
+pub fn has_stop_set_or_a_fault()
+    ensures one_set { HasOneStopSet }
+    ensures one_fault { HasOneStopFault }
+    ensures refused { FaultsExcludeStopSet }
+    ensures complete { HasStopSetOrFault }
+{}
 
 /// Why a text is no stop text. Lines are counted from 1.
 #[derive(Debug, PartialEq, Eq, Drop, Error)]
