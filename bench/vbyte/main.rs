@@ -14,14 +14,18 @@ enum VbError {
 #[inline]
 fn decode(bytes: &[u8]) -> Result<(u32, usize), VbError> {
     match bytes.first() {
-        None => Err(VbError::Cut),
-        Some(0) => Err(VbError::LeadingZero),
         Some(&byte) if byte >= 128 => Ok((u32::from(byte % 128), 1)),
-        Some(_) => read_groups(bytes),
+        _ => read_groups(bytes),
     }
 }
 
 fn read_groups(bytes: &[u8]) -> Result<(u32, usize), VbError> {
+    let Some(&first) = bytes.first() else {
+        return Err(VbError::Cut);
+    };
+    if first == 0 {
+        return Err(VbError::LeadingZero);
+    }
     let mut number: u32 = 0;
     for (place, &byte) in bytes.iter().enumerate() {
         if number >= 1 << 25 {

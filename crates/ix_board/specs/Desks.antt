@@ -32,6 +32,10 @@ module _ {P : Type 0} where
   abbrev pub with_steps : DeskView P → List (Step P) → DeskView P
   with_steps d more = record { board = d.board; number = d.number; steps = d.steps ++ more }
 
+  -- The same worker's desk of the same board.
+  abbrev pub IsSameDesk : DeskView P → DeskView P → Type 0
+  IsSameDesk old new = (new.board ≡ old.board) × (new.number ≡ old.number)
+
   -- The place that a desk holds, by its own steps.
   abbrev pub place_held : DeskView P → Option ℕ
   place_held d = held_after (first_held d.board.count d.board.workers d.number) d.steps

@@ -3,7 +3,7 @@ ghost use Rattle.std.specs.Prelude.{◌≡◌, ℕ, ◌+◌, ◌<◌, ◌≤◌,
 ghost use Rattle.std.specs.List.{count_by};
 ghost use Rattle.ix_board.specs.declared.step.Step.TheVariants.{Claim, Deliver, GiveUp, Look};
 ghost use Rattle.ix_board.specs.Laws.{is_try};
-ghost use Rattle.ix_board.specs.Desks.{fresh_desk, with_steps, place_held, LooksThenClaims, LooksOnly, HasSeenAll, settled};
+ghost use Rattle.ix_board.specs.Desks.{fresh_desk, with_steps, IsSameDesk, place_held, LooksThenClaims, LooksOnly, HasSeenAll, settled};
 ghost use Rattle.ix_board.specs.Seats.{IsDeskSeat, IsCrewSeat, number_in, steps_in, settled_member};
 ghost use Rattle.ix_board.specs.Rooms.{HasRoom, RoomAmong};
 ghost use Rattle.ix_board.specs.Machine.{first_held};
@@ -105,6 +105,7 @@ impl<P> Desk<P> {
         ensures some { IfSome result (λ k. (k < board.now.count) × LooksThenClaims self.old self.new k) }
         ensures none { IfNone result (LooksOnly self.old self.new × HasSeenAll self.new) }
         ensures held { place_held self.new ≡ result }
+        ensures same { IsSameDesk self.old self.new }
         ensures few_steps { length self.new.steps ≤ length self.old.steps + board.now.count }
         ensures few_tries { count_by is_try self.new.steps ≤ board.now.count }
     {
@@ -123,6 +124,7 @@ impl<P> Desk<P> {
         requires held { IsSome (place_held self.old) }
         ensures delivered { IfSome (place_held self.old) (λ k. self.new ≡ with_steps self.old (Deliver k piece ∷ [])) }
         ensures free { place_held self.new ≡ None }
+        ensures same { IsSameDesk self.old self.new }
     {
         let Some(place) = self.held else {
             unreachable!()
@@ -137,6 +139,7 @@ impl<P> Desk<P> {
         requires held { IsSome (place_held self.old) }
         ensures given_up { IfSome (place_held self.old) (λ k. self.new ≡ with_steps self.old (GiveUp k ∷ [])) }
         ensures free { place_held self.new ≡ None }
+        ensures same { IsSameDesk self.old self.new }
     {
         let Some(place) = self.held else {
             unreachable!()

@@ -1,6 +1,6 @@
-// The claim board: a row of places, each of which is done by at most one worker, and the desks that workers claim them with.
-// A desk is seen as the list of the steps that it made, and `specs/Machine.antt` says what a board is after any steps of any desks.
-// Nothing here locks or waits: each step is one compare-exchange.
+//! The claim board: a row of places, each of which is done by at most one worker, and the desks that workers claim them with.
+//! A desk is seen as the list of the steps that it made, and `specs/Machine.antt` says what a board is after any steps of any desks.
+//! Nothing here locks or waits: each step is one compare-exchange.
 #![tactic(auto)]
 
 mod board;
@@ -9,8 +9,10 @@ mod desk;
 mod laws;
 mod memory;
 mod open;
-pub mod rule;
+mod rule;
 mod step;
+#[cfg(test)]
+mod tests;
 mod tour;
 
 pub use board::Board;

@@ -1,5 +1,5 @@
 //! Opening a board: the room for it, for its desks and for what closing it gives.
-ghost use Rattle.std.specs.Prelude.{◌≡◌, ◌+◌, ◌<◌, ◌≤◌, [], length, IfOk};
+ghost use Rattle.std.specs.Prelude.{◌≡◌, ◌+◌, ◌<◌, ◌≤◌, [], length, IfOk, All, vec_len};
 ghost use Rattle.ix_board.specs.Starts.{AreFirstWords};
 ghost use Rattle.ix_board.specs.Desks.{fresh_desks};
 ghost use Rattle.ix_board.specs.Rooms.{HasRoom};
@@ -56,7 +56,9 @@ fn seat_all<P>(
     requires workers { (workers ≡ board.now.workers) × (0 < workers) }
     requires pieces { HasRoom board.now.count pieces }
     requires desks { HasRoom workers desks }
-    ensures { result.items ≡ fresh_desks board.now workers }
+    ensures desks { result.items ≡ fresh_desks board.now workers }
+    ensures as_many { vec_len result ≡ workers }
+    ensures own { All (λ d. d.board ≡ board.now) result.items }
 {
     let seat = board.deal(&mut dealer, 0);
     desks.push_reserved(Desk::new(board, seat, 0, workers, pieces));
@@ -79,6 +81,8 @@ impl<P> Board<P> {
         requires { (0 < workers) × (workers ≤ 64) }
         ensures board { IfOk result (λ r. (r.0.count ≡ count) × (r.0.workers ≡ workers)) }
         ensures desks { IfOk result (λ r. r.1.items ≡ fresh_desks r.0 workers) }
+        ensures as_many { IfOk result (λ r. vec_len r.1 ≡ workers) }
+        ensures own { IfOk result (λ r. All (λ d. d.board ≡ r.0) r.1.items) }
     {
         let words = first_words(alloc, count, workers)?;
         let (pieces, desks) = empty_rooms(alloc, count, workers)?;

@@ -13,7 +13,7 @@ use Rattle.ix_query.specs.Machine.{Frame, Negating, Inside, Operand, Operator, A
 use Rattle.ix_query.proofs.SoundLemmas.{IsSettled, pending_at, state_at, filled_at}
 
 -- The lexemes do not begin with NEAR.
-abbrev NotNear : List Lexeme → Type 0
+abbrev pub NotNear : List Lexeme → Type 0
 NotNear (At o (Sign.Near distance) ∷ rest) = ⊥
 NotNear rest = Unit {0}
 
@@ -32,7 +32,7 @@ module _ (stop : List (List ℕ)) where
   settled_fill (Inside xs ys ∷ frames) before parts part s = refl
 
   -- a run that no NEAR follows
-  run_turn : (rest : List Lexeme) (words : List ℕ) (frames : List Frame) (before parts : List Query) (part : Query) → NotNear rest → plain stop words ≡ Ok part → tree_from stop (state_at (AfterRun words) frames before parts) rest ≡ tree_from stop (filled_at frames before parts part) rest
+  pub run_turn : (rest : List Lexeme) (words : List ℕ) (frames : List Frame) (before parts : List Query) (part : Query) → NotNear rest → plain stop words ≡ Ok part → tree_from stop (state_at (AfterRun words) frames before parts) rest ≡ tree_from stop (filled_at frames before parts part) rest
   run_turn [] words frames before parts part n e = rw e refl
   run_turn (At o (Sign.Near distance) ∷ rest) words frames before parts part n e = absurd n
   run_turn (At o sign ∷ rest) words frames before parts part n e = rw e refl

@@ -1,21 +1,21 @@
 -- The two definitions of the lexemes of a text are one.
-use Rattle.std.proofs.Common.{◌≡◌, ◌≢◌, ℕ, zero, suc, ◌+◌, ◌-◌, ◌<◌, ◌≤◌, Bool, true, false, not, ◌&&◌, ◌||◌, cond, eqb, ltb, List, [], ◌∷◌, ◌++◌, length, get_or, take, drop, Option, Some, None, Result, Ok, Err, ◌⊎◌, inl, inr, refl, sym, ap, ◌∙◌, subst, arith, append_assoc, add-zero, get_or-take, take-append-drop, length-take-le, length-drop, length-append}
-use Rattle.std.specs.Prelude.{codes, All}
-use Rattle.std.specs.List.{position_or_len, before_first, prefix_len}
-use Rattle.std.proofs.lemmas.Bool.{eqb-true, eqb-false, eq-eqb, lt-ltb, ltb-true, not-false}
+use Rattle.std.proofs.Common.{◌≡◌, ◌≢◌, ℕ, zero, suc, ◌+◌, ◌-◌, ◌<◌, ◌≤◌, Bool, true, false, not, ◌||◌, cond, eqb, ltb, List, [], ◌∷◌, ◌++◌, length, take, drop, Option, Some, None, Result, Ok, Err, inl, inr, refl, sym, ap, ◌∙◌, subst, arith, append_assoc, add-zero, get_or-take, take-append-drop, length-take-le, length-drop, length-append}
+use Rattle.std.specs.Prelude.{All}
+use Rattle.std.specs.List.{position_or_len, before_first}
+use Rattle.std.proofs.lemmas.Bool.{eqb-true, eqb-false, lt-ltb, ltb-true}
 use Rattle.std.proofs.lemmas.List.{take_more}
-use Rattle.std.proofs.lemmas.List.Elements.{All-head, All-tail, All-from_get_or}
+use Rattle.std.proofs.lemmas.List.Elements.{All-head, All-tail}
 use Rattle.std.proofs.lemmas.List.Sums.{prefix_len-le-length, fails_before_first, passes_at_first}
 use Rattle.std.proofs.Math.Seq.{drop-append_seam, take-append_seam}
 use Rattle.ix_query.specs.declared.error.QueryError.{QueryError}
 use Rattle.ix_query.specs.declared.error.QueryError.TheVariants.{OpenQuote}
 use Rattle.ix_query.specs.QueryErrors.{◌>>=◌}
 use Rattle.ix_query.specs.Cutting.{IsRunOf, EndsRun, IsLexeme, opened, closed, quoted, run, AreLexemes, none, space, lexeme}
-use Rattle.ix_query.specs.Lexemes.{Sign, Open, Close, Quoted, Lexeme, At, ends_run, is_quotation_mark, run_reading, run_front, quoted_reading, front_reading, with_sign, lexemes_from, lexemes_of}
+use Rattle.ix_query.specs.Lexemes.{Sign, Quoted, Lexeme, At, ends_run, is_quotation_mark, run_reading, run_front, quoted_reading, front_reading, with_sign, lexemes_from, lexemes_of}
 use Rattle.ix_query.proofs.LexemeLists.{skipped_dropped}
 use Rattle.ix_query.proofs.RunSigns.{chosen, never, run_sound, run_complete}
 
-bind_ok : {A B : Type 0} (r : Result A QueryError) (f : A → Result B QueryError) (y : B) → (r >>= f) ≡ Ok y → (x : A) × (r ≡ Ok x) × (f x ≡ Ok y)
+pub bind_ok : {A B : Type 0} (r : Result A QueryError) (f : A → Result B QueryError) (y : B) → (r >>= f) ≡ Ok y → (x : A) × (r ≡ Ok x) × (f x ≡ Ok y)
 bind_ok (Ok x) f y is = (x, refl, is)
 bind_ok (Err e) f y is = absurd (cc)
 
@@ -26,11 +26,11 @@ ok_is : {A : Type 0} {x y : A} → fine x ≡ fine y → x ≡ y
 ok_is is = cc
 
 -- what a reading of the front tells: a space, or a lexeme with so many bytes more
-data FrontIs (b : ℕ) (rest : List ℕ) : Option Sign → ℕ → Type 0 where
+pub data FrontIs (b : ℕ) (rest : List ℕ) : Option Sign → ℕ → Type 0 where
   gap : b ≡ 32 → FrontIs b rest None 0
   sign : {s : Sign} {others : ℕ} → IsLexeme s (b ∷ take others rest) (drop others rest) → others ≤ length rest → FrontIs b rest (Some s) others
 
-before_fails : (p : ℕ → Bool) (xs : List ℕ) → All (λ x. p x ≡ false) (before_first p xs)
+pub before_fails : (p : ℕ → Bool) (xs : List ℕ) → All (λ x. p x ≡ false) (before_first p xs)
 before_fails p xs = λ k d within.
     let front : length (before_first p xs) ≡ position_or_len p xs = length-take-le (position_or_len p xs) xs (prefix_len-le-length (λ x. not (p x)) xs) in
     ap p (get_or-take (position_or_len p xs) xs k d (omega arith)) ∙ fails_before_first p xs k d (omega arith)
@@ -39,7 +39,7 @@ ends_there_by : (b : ℕ) (rest : List ℕ) (here : Bool) → ends_run b ≡ her
 ends_there_by b rest true is there = is
 ends_there_by b rest false is there = let next : suc (position_or_len ends_run rest) ≡ 1 + position_or_len ends_run rest = omega arith in subst (λ (n : ℕ). EndsRun (drop n (b ∷ rest))) next there
 
-ends_there : (rest : List ℕ) → EndsRun (drop (position_or_len ends_run rest) rest)
+pub ends_there : (rest : List ℕ) → EndsRun (drop (position_or_len ends_run rest) rest)
 ends_there [] = tt
 ends_there (b ∷ rest) = ends_there_by b rest (ends_run b) refl (ends_there rest)
 
@@ -48,10 +48,10 @@ unfolding quoted_reading
 quoted_sound rest s others read =
     elim (chosen (ltb (position_or_len is_quotation_mark rest) (length rest)) (Ok (Some (Quoted (before_first is_quotation_mark rest)), position_or_len is_quotation_mark rest + 1)) (Err OpenQuote) (Ok (s, others)) read) [
       | inl p ↦
-        let within = ltb-true _ _ p.0 in
-        let mark = eqb-true _ 34 (passes_at_first is_quotation_mark rest 0 within) in
-        let spelled : 34 ∷ take (position_or_len is_quotation_mark rest + 1) rest ≡ 34 ∷ (before_first is_quotation_mark rest ++ 34 ∷ []) = ap (λ l. 34 ∷ l) (take_more rest (position_or_len is_quotation_mark rest) 0 within ∙ ap (λ x. before_first is_quotation_mark rest ++ x ∷ []) mark) in
-        subst (λ (q : Option Sign × ℕ). FrontIs 34 rest q.0 q.1) (ok_is p.1) (sign (quoted (λ k d inside. eqb-false _ 34 (before_fails is_quotation_mark rest k d inside)) spelled) (omega arith))
+          let within = ltb-true _ _ p.0 in
+          let mark = eqb-true _ 34 (passes_at_first is_quotation_mark rest 0 within) in
+          let spelled : 34 ∷ take (position_or_len is_quotation_mark rest + 1) rest ≡ 34 ∷ (before_first is_quotation_mark rest ++ 34 ∷ []) = ap (λ l. 34 ∷ l) (take_more rest (position_or_len is_quotation_mark rest) 0 within ∙ ap (λ x. before_first is_quotation_mark rest ++ x ∷ []) mark) in
+          subst (λ (q : Option Sign × ℕ). FrontIs 34 rest q.0 q.1) (ok_is p.1) (sign (quoted (λ k d inside. eqb-false _ 34 (before_fails is_quotation_mark rest k d inside)) spelled) (omega arith))
       | inr p ↦ absurd (cc)
     ]
 
@@ -66,21 +66,21 @@ run_front_sound b rest s others begins read =
     let meant = run_sound (b ∷ take (position_or_len ends_run rest) rest) f.0 (ap run_reading (sym front) ∙ f.1) in
     subst (λ (q : Option Sign × ℕ). FrontIs b rest q.0 q.1) (ap (λ n. (Some f.0, n)) (sym count) ∙ ok_is f.2) (sign (run (λ e. absurd (cc)) plain (ends_there rest) meant) (prefix_len-le-length (λ x. not (ends_run x)) rest))
 
-front_sound : (b : ℕ) (rest : List ℕ) (s : Option Sign) (others : ℕ) → front_reading b rest ≡ Ok (s, others) → FrontIs b rest s others
+pub front_sound : (b : ℕ) (rest : List ℕ) (s : Option Sign) (others : ℕ) → front_reading b rest ≡ Ok (s, others) → FrontIs b rest s others
 unfolding front_reading
 front_sound b rest s others read =
     elim (chosen (eqb b 32) _ _ _ read) [
       | inl p ↦ subst (λ (q : Option Sign × ℕ). FrontIs b rest q.0 q.1) (ok_is p.1) (gap (eqb-true b 32 p.0))
       | inr no_space ↦ elim (chosen (eqb b 40) _ _ _ no_space.1) [
-          | inl p ↦ subst (λ (q : Option Sign × ℕ). FrontIs b rest q.0 q.1) (ok_is p.1) (sign (opened (ap (λ x. x ∷ []) (eqb-true b 40 p.0))) (omega arith))
-          | inr no_open ↦ elim (chosen (eqb b 41) _ _ _ no_open.1) [
-              | inl p ↦ subst (λ (q : Option Sign × ℕ). FrontIs b rest q.0 q.1) (ok_is p.1) (sign (closed (ap (λ x. x ∷ []) (eqb-true b 41 p.0))) (omega arith))
-              | inr no_close ↦ elim (chosen (eqb b 34) _ _ _ no_close.1) [
-                  | inl p ↦ subst (λ (x : ℕ). FrontIs x rest s others) (sym (eqb-true b 34 p.0)) (quoted_sound rest s others p.1)
-                  | inr no_mark ↦ run_front_sound b rest s others (rw (no_space.0, no_mark.0, no_open.0, no_close.0) refl) no_mark.1
-                ]
-            ]
+        | inl p ↦ subst (λ (q : Option Sign × ℕ). FrontIs b rest q.0 q.1) (ok_is p.1) (sign (opened (ap (λ x. x ∷ []) (eqb-true b 40 p.0))) (omega arith))
+        | inr no_open ↦ elim (chosen (eqb b 41) _ _ _ no_open.1) [
+          | inl p ↦ subst (λ (q : Option Sign × ℕ). FrontIs b rest q.0 q.1) (ok_is p.1) (sign (closed (ap (λ x. x ∷ []) (eqb-true b 41 p.0))) (omega arith))
+          | inr no_close ↦ elim (chosen (eqb b 34) _ _ _ no_close.1) [
+            | inl p ↦ subst (λ (x : ℕ). FrontIs x rest s others) (sym (eqb-true b 34 p.0)) (quoted_sound rest s others p.1)
+            | inr no_mark ↦ run_front_sound b rest s others (rw (no_space.0, no_mark.0, no_open.0, no_close.0) refl) no_mark.1
+          ]
         ]
+      ]
     ]
 
 -- a reading of the front, and what follows it
@@ -105,13 +105,13 @@ unfolding lexemes_of
 cut_sound text lexemes read = sound_within (length text) 0 text lexemes (omega arith) read
 
 -- a list whose front fails, and whose rest begins with what passes
-place_at : (p : ℕ → Bool) (front rest : List ℕ) → All (λ x. p x ≡ false) front → position_or_len p rest ≡ 0 → position_or_len p (front ++ rest) ≡ length front
+pub place_at : (p : ℕ → Bool) (front rest : List ℕ) → All (λ x. p x ≡ false) front → position_or_len p rest ≡ 0 → position_or_len p (front ++ rest) ≡ length front
 place_at p [] rest fails here = here
 place_at p (x ∷ front) rest fails here =
     ap (λ b. cond (not b) (1 + position_or_len p (front ++ rest)) 0) (All-head (λ x. p x ≡ false) x front fails)
     ∙ ap (λ n. 1 + n) (place_at p front rest (All-tail (λ x. p x ≡ false) x front fails) here) ∙ omega arith
 
-ends_here : (rest : List ℕ) → EndsRun rest → position_or_len ends_run rest ≡ 0
+pub ends_here : (rest : List ℕ) → EndsRun rest → position_or_len ends_run rest ≡ 0
 ends_here [] ends = refl
 ends_here (b ∷ rest) ends = ap (λ x. cond (not x) (1 + position_or_len ends_run rest) 0) ends
 
@@ -135,7 +135,7 @@ quoted_complete text rest plain =
     ∙ ap (λ t. Ok (Some (Quoted t), length text + 1)) (take-append_seam text (34 ∷ rest))
     ∙ ap (λ n. Ok (Some (Quoted text), n)) count
 
-run_at : List ℕ → ℕ → Result (Option Sign × ℕ) QueryError
+unfoldable pub run_at : List ℕ → ℕ → Result (Option Sign × ℕ) QueryError
 run_at whole n = run_reading (take n whole) >>= λ sign. Ok (Some sign, n - 1)
 
 run_front_complete : (b : ℕ) (more rest : List ℕ) (s : Sign) → All (λ x. ends_run x ≡ false) (b ∷ more) → EndsRun rest → IsRunOf (b ∷ more) s → run_front (b ∷ (more ++ rest)) ≡ Ok (Some s, length more)
@@ -155,7 +155,7 @@ front_run b more rest s plain ends meant =
     rw (third.0, second.1, first.1, third.1) (run_front_complete b more rest s plain ends meant)
 
 -- the first byte of a lexeme, and the reading of it
-Reads : Sign → List ℕ → List ℕ → Type 0
+unfoldable pub Reads : Sign → List ℕ → List ℕ → Type 0
 Reads s bytes rest = (b : ℕ) × (more : List ℕ) × (bytes ≡ b ∷ more) × (front_reading b (more ++ rest) ≡ Ok (Some s, length more))
 
 run_reads : (bytes rest : List ℕ) (s : Sign) → bytes ≢ [] → All (λ x. ends_run x ≡ false) bytes → EndsRun rest → IsRunOf bytes s → Reads s bytes rest
@@ -163,18 +163,18 @@ unfolding Reads
 run_reads [] rest s some plain ends meant = absurd (some refl)
 run_reads (b ∷ more) rest s some plain ends meant = (b, more, refl, front_run b more rest s plain ends meant)
 
-reads : {s : Sign} {bytes rest : List ℕ} → IsLexeme s bytes rest → Reads s bytes rest
+pub reads : {s : Sign} {bytes rest : List ℕ} → IsLexeme s bytes rest → Reads s bytes rest
 unfolding Reads front_reading
 reads (opened is) = (40, [], is, refl)
 reads (closed is) = (41, [], is, refl)
 reads (quoted {text = text} {rest = rest} plain is) = (34, text ++ 34 ∷ [], is, quoted_complete text rest plain)
 reads (run {sign = s} {run = bytes} {rest = rest} some plain ends meant) = run_reads bytes rest s some plain ends meant
 
-lexeme_turn : (offset b : ℕ) (more rest : List ℕ) (s : Sign) (lexemes : List Lexeme) → front_reading b (more ++ rest) ≡ Ok (Some s, length more) → lexemes_from 0 (offset + suc (length more)) rest ≡ Ok lexemes → lexemes_from 0 offset (b ∷ (more ++ rest)) ≡ Ok (At offset s ∷ lexemes)
+pub lexeme_turn : (offset b : ℕ) (more rest : List ℕ) (s : Sign) → front_reading b (more ++ rest) ≡ Ok (Some s, length more) → lexemes_from 0 offset (b ∷ (more ++ rest)) ≡ (lexemes_from 0 (offset + suc (length more)) rest >>= λ found. Ok (At offset s ∷ found))
 unfolding lexemes_from
-lexeme_turn offset b more rest s lexemes front follow =
+lexeme_turn offset b more rest s front =
     let place : suc offset + length more ≡ offset + suc (length more) = omega arith in
-    let behind = skipped_dropped (length more) (suc offset) (more ++ rest) ∙ ap (lexemes_from 0 (suc offset + length more)) (drop-append_seam more rest) ∙ ap (λ o. lexemes_from 0 o rest) place ∙ follow in
+    let behind = skipped_dropped (length more) (suc offset) (more ++ rest) ∙ ap (lexemes_from 0 (suc offset + length more)) (drop-append_seam more rest) ∙ ap (λ o. lexemes_from 0 o rest) place in
     ap (λ r. r >>= λ f. lexemes_from f.1 (suc offset) (more ++ rest) >>= λ found. Ok (with_sign offset f.0 found)) front
     ∙ ap (λ r. r >>= λ found. Ok (At offset s ∷ found)) behind
 
@@ -187,7 +187,8 @@ complete_at (lexeme {offset = offset} {whole = whole} {bytes = bytes} {rest = re
     let further = complete_at follow in
     let count : offset + length bytes ≡ offset + suc (length f.1) = ap (λ l. offset + length l) f.2 in
     ap (lexemes_from 0 offset) (spelled ∙ ap (λ l. l ++ rest) f.2)
-    ∙ lexeme_turn offset f.0 f.1 rest s lexemes f.3 (ap (λ o. lexemes_from 0 o rest) (sym count) ∙ further)
+    ∙ lexeme_turn offset f.0 f.1 rest s f.3
+    ∙ ap (λ r. r >>= λ found. Ok (At offset s ∷ found)) (ap (λ o. lexemes_from 0 o rest) (sym count) ∙ further)
 
 pub cut_complete : (text : List ℕ) (lexemes : List Lexeme) → AreLexemes 0 text lexemes → lexemes_of text ≡ Ok lexemes
 unfolding lexemes_of

@@ -6,6 +6,7 @@ use Rattle.ix_query.specs.QueryErrors.{Gives}
 use Rattle.ix_query.specs.Lexemes.{lexemes_of}
 use Rattle.ix_query.specs.Grammar.{Reads}
 use Rattle.ix_query.specs.Machine.{tree_of, query_of}
+use Rattle.ix_query.proofs.Cuts.{cut_sound, cut_complete}
 use Rattle.ix_query.proofs.Results.{bind_ok}
 use Rattle.ix_query.proofs.SoundLemmas.{sound}
 use Rattle.ix_query.proofs.CompleteLemmas.{complete}
@@ -13,11 +14,11 @@ use Rattle.ix_query.proofs.CompleteLemmas.{complete}
 module _ (stop : List (List ℕ)) (text : List ℕ) where
   pub found : (query : Query) → query_of stop text ≡ Ok query → Reads stop text query
   unfolding query_of
-  found query e = let b = bind_ok (lexemes_of text) (tree_of stop) query e in record { lexemes = b.0; cut = b.1; derived = sound stop query b.0 b.2 }
+  found query e = let b = bind_ok (lexemes_of text) (tree_of stop) query e in record { lexemes = b.0; cut = cut_sound text b.0 b.1; derived = sound stop query b.0 b.2 }
 
   pub only : (query : Query) → Reads stop text query → query_of stop text ≡ Ok query
   unfolding query_of
-  only query r = rw r.cut (complete stop r.lexemes query r.derived)
+  only query r = let cut = cut_complete text r.lexemes r.cut in rw cut (complete stop r.lexemes query r.derived)
 
   pub unique : (one other : Query) → Reads stop text one → Reads stop text other → one ≡ other
   unique one other r s = let p = only one r in let q = only other s in cc

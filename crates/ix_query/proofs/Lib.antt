@@ -1,6 +1,8 @@
 pub mod CompleteLemmas
 pub mod Cuts
 pub mod Entries
+pub mod FaultLemmas
+pub mod Faults
 pub mod GrammarLemmas
 pub mod LexemeLists
 pub mod Lexing
@@ -12,3 +14,4 @@ pub mod SatisfactionLemmas
 pub mod ScanLemmas
 pub mod SoundLemmas
 pub mod Stars
+pub mod Strips

@@ -1,5 +1,7 @@
 -- How a text is cut into lexemes, by cases on what stands at its front.
 use Rattle.std.specs.Prelude.{◌≡◌, ◌≢◌, ℕ, suc, ◌+◌, ◌≤◌, true, false, List, [], ◌∷◌, ◌++◌, length, All, codes, decimal}
+use Rattle.ix_query.specs.declared.error.QueryError.{QueryError}
+use Rattle.ix_query.specs.declared.error.QueryError.TheVariants.{OpenQuote, BadNear}
 use Rattle.ix_query.specs.Lexemes.{Sign, Open, Close, And, Or, Not, Near, Quoted, Run, Lexeme, At, ends_run}
 
 -- a run, with what it stands for: a keyword, or itself
@@ -27,3 +29,14 @@ pub data AreLexemes : ℕ → List ℕ → List Lexeme → Type 0 where
   none : {offset : ℕ} → AreLexemes offset [] []
   space : {offset : ℕ} {bytes : List ℕ} {lexemes : List Lexeme} → AreLexemes (suc offset) bytes lexemes → AreLexemes offset (32 ∷ bytes) lexemes
   lexeme : {offset : ℕ} {whole bytes rest : List ℕ} {sign : Sign} {lexemes : List Lexeme} → IsLexeme sign bytes rest → whole ≡ bytes ++ rest → AreLexemes (offset + length bytes) rest lexemes → AreLexemes offset whole (At offset sign ∷ lexemes)
+
+-- What is no lexeme: a quotation mark with no other after it, and a run that begins with `NEAR/` and is no keyword.
+pub data IsFault : QueryError → List ℕ → Type 0 where
+  open_quote : {bytes rest : List ℕ} → All (λ b. b ≢ 34) rest → bytes ≡ 34 ∷ rest → IsFault OpenQuote bytes
+  bad_near : {bytes digits : List ℕ} (rest : List ℕ) → All (λ b. ends_run b ≡ false) digits → EndsRun rest → ((distance : ℕ) → 1 ≤ distance → distance ≤ 65535 → digits ≢ decimal distance) → bytes ≡ codes "NEAR/" ++ (digits ++ rest) → IsFault BadNear bytes
+
+-- The first fault: it stands behind lexemes and spaces alone.
+pub data HasFault : QueryError → List ℕ → Type 0 where
+  here : {fault : QueryError} {bytes : List ℕ} → IsFault fault bytes → HasFault fault bytes
+  behind_space : {fault : QueryError} {bytes : List ℕ} → HasFault fault bytes → HasFault fault (32 ∷ bytes)
+  behind_lexeme : {fault : QueryError} {whole bytes rest : List ℕ} {sign : Sign} → IsLexeme sign bytes rest → whole ≡ bytes ++ rest → HasFault fault rest → HasFault fault whole

@@ -1,4 +1,5 @@
 pub mod Cutting
+pub mod Faults
 pub mod Grammar
 pub mod Judgement
 pub mod Lexemes
@@ -7,3 +8,4 @@ pub mod Parsing
 pub mod QueryErrors
 pub mod Satisfaction
 pub mod Scans
+pub mod Stripping

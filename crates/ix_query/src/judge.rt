@@ -220,7 +220,10 @@ mod tests {
             ("...", "NoWord"),
             ("*", "BareStar"),
             ("***", "BareStar"),
-            ("Inter*", "Pattern(Pattern { first: \"inter\", inner: [], last: \"\" })"),
+            (
+                "Inter*",
+                "Pattern(Pattern { first: \"inter\", inner: [], last: \"\" })",
+            ),
         ] {
             let got = shown(alloc, plain(alloc, &stop, run))?;
             assert_eq!(rt; got.as_str(), want, "{run}");

@@ -222,12 +222,24 @@ mod tests {
             ("   ", ""),
             ("a b", "0 Run(\"a\"); 2 Run(\"b\"); "),
             ("a\"b\"c", "0 Run(\"a\"); 1 Quoted(\"b\"); 4 Run(\"c\"); "),
-            ("(é)ü )", "0 Open; 1 Run(\"é\"); 3 Close; 4 Run(\"ü\"); 7 Close; "),
-            ("\"\"(\" a (\"", "0 Quoted(\"\"); 2 Open; 3 Quoted(\" a (\"); "),
-            ("NOT AND OR NOTE and", "0 Not; 4 And; 8 Or; 11 Run(\"NOTE\"); 16 Run(\"and\"); "),
+            (
+                "(é)ü )",
+                "0 Open; 1 Run(\"é\"); 3 Close; 4 Run(\"ü\"); 7 Close; ",
+            ),
+            (
+                "\"\"(\" a (\"",
+                "0 Quoted(\"\"); 2 Open; 3 Quoted(\" a (\"); ",
+            ),
+            (
+                "NOT AND OR NOTE and",
+                "0 Not; 4 And; 8 Or; 11 Run(\"NOTE\"); 16 Run(\"and\"); ",
+            ),
             ("a NEAR/1 b", "0 Run(\"a\"); 2 Near(1); 9 Run(\"b\"); "),
             ("NEAR/65535(", "0 Near(65535); 10 Open; "),
-            ("NEAR near/5 xNEAR/5", "0 Run(\"NEAR\"); 5 Run(\"near/5\"); 12 Run(\"xNEAR/5\"); "),
+            (
+                "NEAR near/5 xNEAR/5",
+                "0 Run(\"NEAR\"); 5 Run(\"near/5\"); 12 Run(\"xNEAR/5\"); ",
+            ),
             ("\"NEAR/0\"", "0 Quoted(\"NEAR/0\"); "),
             ("a\tb\u{a0}c", "0 Run(\"a\\tb\\u{a0}c\"); "),
         ] {
@@ -245,8 +257,15 @@ mod tests {
             assert_eq!(rt; got.as_str(), "OpenQuote", "{text}");
         }
         for text in [
-            "a NEAR/0 b", "a NEAR/05 b", "a NEAR/65536 b", "NEAR/", "NEAR/+1", "NEAR/1x", "NEAR/4294967297",
-            "NEAR/1\u{661}", "NEAR/0 \"",
+            "a NEAR/0 b",
+            "a NEAR/05 b",
+            "a NEAR/65536 b",
+            "NEAR/",
+            "NEAR/+1",
+            "NEAR/1x",
+            "NEAR/4294967297",
+            "NEAR/1\u{661}",
+            "NEAR/0 \"",
         ] {
             let got = shown(alloc, text)?;
             assert_eq!(rt; got.as_str(), "BadNear", "{text}");

@@ -247,12 +247,8 @@ impl Pending {
     fn behind_or(self, alloc: Global) -> Result<Pending, QueryError>
         ensures { Gives pending_of result (Ok (machine.behind_or (pending_of self))) }
     {
-        let Pending {
-            frames,
-            mut ors,
-            ands,
-        } = self;
-        ors.push(all_of(ands))?;
+        let Pending { frames, ors, ands } = self;
+        let ors = completed(ors, ands)?;
         Ok(Pending {
             frames,
             ors,
@@ -331,11 +327,18 @@ fn under_nots(
 }
 
 /// The tree of a bracket's parts.
-fn joined(mut ors: Items<Query>, ands: Items<Query>) -> Result<Query, QueryError>
+fn joined(ors: Items<Query>, ands: Items<Query>) -> Result<Query, QueryError>
     ensures { Gives (λ q. q) result (Ok (joined_by Query.Or (ors ++ joined_by Query.And ands ∷ []))) }
 {
+    Ok(any_of(completed(ors, ands)?))
+}
+
+/// The complete parts between ORs, with the last one.
+fn completed(mut ors: Items<Query>, ands: Items<Query>) -> Result<Items<Query>, QueryError>
+    ensures { Gives (λ parts. parts) result (Ok (ors ++ joined_by Query.And ands ∷ [])) }
+{
     ors.push(all_of(ands))?;
-    Ok(any_of(ors))
+    Ok(ors)
 }
 
 /// One part is itself, and several are joined by AND.

@@ -7,6 +7,7 @@ pub mod LawfulLemmas
 pub mod PartsLemmas
 pub mod SinkLemmas
 pub mod StopSetLemmas
+pub mod StopTextLaws
 pub mod StopTextLemmas
 pub mod TermLemmas
 pub mod TokenLemmas

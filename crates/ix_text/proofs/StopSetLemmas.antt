@@ -31,7 +31,7 @@ terms_from_sizes (text ∷ texts) sizes =
     (terms_from_sizes texts (All-tail HasTermSize (string_bytes text) (map string_bytes texts) sizes))
 
 -- two texts tie just where they are one
-same_from_Equal : (xs ys : List ℕ) → slice_cmp nat_cmp xs ys ≡ Equal → xs ≡ ys
+pub same_from_Equal : (xs ys : List ℕ) → slice_cmp nat_cmp xs ys ≡ Equal → xs ≡ ys
 same_from_Equal xs ys tie = (bytes_decides xs ys).0 (sym (is_eq-slice_cmp xs ys) ∙ ap is_eq tie)
 
 Equal-itself : (xs ys : List ℕ) → xs ≡ ys → slice_cmp nat_cmp xs ys ≡ Equal

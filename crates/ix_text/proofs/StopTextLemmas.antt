@@ -20,7 +20,7 @@ use Rattle.ix_text.specs.TokenLists.{is_term_size}
 
 -- ---- the stop terms of lines
 
-words-nil : words [] ≡ []
+pub words-nil : words [] ≡ []
 unfolding unicode_segmentation
 words-nil = refl
 
@@ -95,14 +95,18 @@ joined-append (first ∷ next ∷ lines) line more =
     ∙ sym (append_assoc first (10 ∷ ended (next ∷ lines)) (joined_lines (line ∷ more)))
 
 -- a character goes to the front of the first line
-unfoldable put_front : ℕ → List (List ℕ) → List (List ℕ)
+unfoldable pub put_front : ℕ → List (List ℕ) → List (List ℕ)
 put_front b [] = (b ∷ []) ∷ []
 put_front b (line ∷ lines) = (b ∷ line) ∷ lines
 
 -- the text cut at every LF, of which there is one way with a line at least
-unfoldable lines_of : List ℕ → List (List ℕ)
+unfoldable pub lines_of : List ℕ → List (List ℕ)
 lines_of [] = [] ∷ []
 lines_of (b ∷ bs) = let rest = lines_of bs in cond (b == 10) ([] ∷ rest) (put_front b rest)
+
+pub lines_of-nil : lines_of [] ≡ [] ∷ []
+unfolding lines_of
+lines_of-nil = refl
 
 some_lines : (text : List ℕ) → 0 < length (lines_of text)
 unfolding lines_of put_front
@@ -163,7 +167,7 @@ unbroken-lines_of (b ∷ bs) =
     ]
 
 -- each text can be cut
-cut_at_line_feeds : (text : List ℕ) → IsCutAtLineFeeds text (lines_of text)
+pub cut_at_line_feeds : (text : List ℕ) → IsCutAtLineFeeds text (lines_of text)
 cut_at_line_feeds text = record { joined = sym (joined-lines_of text); unbroken = unbroken-lines_of text }
 
 lines_of-line : (line text : List ℕ) → ¬ (Contains line 10) → lines_of (line ++ 10 ∷ text) ≡ line ∷ lines_of text
@@ -185,7 +189,7 @@ lines_of-joined line (next ∷ lines) all =
     ∙ ap (λ l. line ∷ l) (lines_of-joined next lines (All-tail IsUnbroken line (next ∷ lines) all))
 
 -- and there is one way
-cut_is : (text line : List ℕ) (lines : List (List ℕ)) → IsCutAtLineFeeds text (line ∷ lines) → lines_of text ≡ line ∷ lines
+pub cut_is : (text line : List ℕ) (lines : List (List ℕ)) → IsCutAtLineFeeds text (line ∷ lines) → lines_of text ≡ line ∷ lines
 cut_is text line lines cut = ap lines_of cut.joined ∙ lines_of-joined line lines cut.unbroken
 
 -- what `split_once` gives at an LF

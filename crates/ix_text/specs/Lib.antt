@@ -11,6 +11,7 @@ pub mod PartsLaws
 pub mod Sinks
 pub mod StopErrors
 pub mod StopFaults
+pub mod StopLaws
 pub mod StopSets
 pub mod StopText
 pub mod Terms

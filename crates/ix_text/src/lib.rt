@@ -15,7 +15,7 @@ pub use collection::{Collection, CollectionError, Doc, has_documents_or_a_fault}
 pub use memory::Memory;
 pub use parts::{lawful_parts_have_collection, parts_tell_collection};
 pub use sink::{WriteRefused, flush, put_all};
-pub use stop::{StopError, StopList};
+pub use stop::{StopError, StopList, has_stop_set_or_a_fault};
 pub use term::{equal_terms_match, term_of};
 pub use token::{lawful_collection, tokens};
 pub use windows::{TrigramWindows, trigrams, trigrams_stand_by_place};

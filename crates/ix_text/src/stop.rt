@@ -4,6 +4,7 @@ ghost use Rattle.ix_text.specs.ByteOrder.{IsAscending};
 ghost use Rattle.ix_text.specs.StopSets.{IsStopSet, HasTermSize};
 ghost use Rattle.ix_text.specs.StopText.{IsStopText, stop_terms_of};
 ghost use Rattle.ix_text.specs.StopFaults.{IsStopLine, IsStopLineFault, IsStopFault};
+ghost use Rattle.ix_text.specs.StopLaws.{FaultsExcludeStopSet, HasOneStopFault, HasOneStopSet, HasStopSetOrFault};
 
 use crate::term_of;
 use crate::token::has_term_size;
@@ -57,6 +58,7 @@ impl StopList {
     pub fn read(alloc: Global, text: &str) -> Result<StopList, StopError>
         ensures terms { IfOk result (λ stop. IsStopText text.now stop) }
         ensures fault { IfErr result (λ error. (error ≡ StopError.Memory) ⊎ IsStopFault text.now error) }
+        ensures accepted { (stop : List (List ℕ)) → IsStopText text.now stop → (result ≡ Ok stop) ⊎ (result ≡ Err StopError.Memory) }
     {
         if text.len() > MAX_BYTES {
             return Err(StopError::TooLarge);
@@ -139,6 +141,14 @@ fn sort(terms: &mut Vec<String>)
     terms.dedup();
 }
 
+/// A law: a text has one stop set or one fault, and never both.
+pub fn has_stop_set_or_a_fault()
+    ensures one_set { HasOneStopSet }
+    ensures one_fault { HasOneStopFault }
+    ensures refused { FaultsExcludeStopSet }
+    ensures complete { HasStopSetOrFault }
+{}
+
 /// Why a text is no stop text. Lines are counted from 1.
 #[derive(Debug, PartialEq, Eq, Drop, Error)]
 pub enum StopError {
@@ -191,5 +201,69 @@ impl From<AllocError> for StopError {
 
     fn from(_error: AllocError) -> StopError {
         StopError::Memory
+    }
+}
+
+#[cfg(test)]
+mod tests {
+    use super::*;
+    use std::test::Fail;
+
+    #[test]
+    fn reads_stop_sets(rt: HostRuntime) -> Result<(), Fail> {
+        let stop = StopList::read(rt.alloc(), "To\n\nof\n")?;
+        let mut terms = String::new(rt.alloc());
+        for term in stop.terms() {
+            terms.push_str(term)?;
+            terms.push(' ')?;
+        }
+        assert_eq!(rt; terms.as_str(), "of to ");
+        let twice = StopList::read(rt.alloc(), "STRASSE\nc\nStraße\na\nb\nC")?;
+        assert_eq!(rt; twice.terms().len(), 4);
+        for (term, held) in [
+            ("a", true),
+            ("b", true),
+            ("strasse", true),
+            ("aa", false),
+            ("", false),
+            ("z", false),
+        ] {
+            assert_eq!(rt; twice.contains(term), held, "{term}");
+        }
+        assert!(rt; !StopList::read(rt.alloc(), "")?.contains("a"));
+        assert!(rt; !StopList::empty(rt.alloc()).contains("a"));
+        Ok(())
+    }
+
+    #[test]
+    fn refuses_other_texts(rt: HostRuntime) -> Result<(), Fail> {
+        let cases = [
+            ("to be\n", "NotOneWord(1)", 1),
+            ("to\n...\nto be", "NotOneWord(2)", 1),
+            ("to\n\nbe\nto be", "NotOneWord(4)", 1),
+            ("\r\n", "NotOneWord(1)", 1),
+        ];
+        for (text, want, number) in cases {
+            let refusal = StopList::read(rt.alloc(), text).err().ok_or(want)?;
+            assert_eq!(rt; refusal.to_string(rt.alloc())?.as_str(), want);
+            assert_eq!(rt; refusal.number(), number);
+        }
+        let mut long = String::from_str(rt.alloc(), "to\n")?;
+        for _ in 0..256 {
+            long.push('z')?;
+        }
+        let refusal = StopList::read(rt.alloc(), long.as_str())
+            .err()
+            .ok_or("a long word")?;
+        assert_eq!(rt; refusal.to_string(rt.alloc())?.as_str(), "LongWord(2)");
+        assert_eq!(rt; refusal.number(), 2);
+        assert_eq!(rt; StopError::Memory.to_string(rt.alloc())?.as_str(), "Memory");
+        assert_eq!(rt; StopError::Memory.number(), 3);
+        assert_eq!(rt;
+            StopError::TooLarge.to_string(rt.alloc())?.as_str(),
+            "TooLarge"
+        );
+        assert_eq!(rt; StopError::TooLarge.number(), 4);
+        Ok(())
     }
 }

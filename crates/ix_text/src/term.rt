@@ -75,3 +75,70 @@ pub fn equal_terms_match()
     ensures characters { (a b : List ℕ) → (folded a ≡ folded b) ↔ IsCanonicalMatch a b }
     ensures words { (a b : List ℕ) → (term_of_word a ≡ term_of_word b) ↔ IsCanonicalMatch (chars a) (chars b) }
 {}
+
+#[cfg(test)]
+mod tests {
+    use super::*;
+    use std::test::Fail;
+
+    #[test]
+    fn words_have_the_terms_of_the_standard(rt: HostRuntime) -> Result<(), Fail> {
+        let cases = [
+            ("brown", "brown"),
+            ("STRASSE", "strasse"),
+            ("Straße", "strasse"),
+            ("\u{1e9e}", "ss"),
+            ("e\u{301}", "\u{e9}"),
+            ("Σίσυφος", "σίσυφοσ"),
+            ("\u{130}", "i\u{307}"),
+            ("\u{fb01}", "fi"),
+            ("\u{149}", "\u{2bc}n"),
+            ("\u{212b}", "\u{e5}"),
+            ("A\u{30a}", "\u{e5}"),
+            ("\u{1100}\u{1161}\u{11a8}", "\u{ac01}"),
+            ("Йод", "йод"),
+            ("\u{418}\u{306}од", "йод"),
+            ("\u{1fb3}", "\u{3b1}\u{3b9}"),
+            ("\u{1f80}\u{304}", "\u{1f00}\u{304}\u{3b9}"),
+        ];
+        for (word, want) in cases {
+            let term = term_of(rt.alloc(), word)?;
+            assert_eq!(rt; term.as_str(), want, "the term of {word}");
+        }
+        Ok(())
+    }
+
+    #[test]
+    fn equivalent_words_have_one_term(rt: HostRuntime) -> Result<(), Fail> {
+        let pairs = [
+            ("\u{df}", "SS", true),
+            ("ΣΊΣΥΦΟΣ", "Σίσυφος", true),
+            ("\u{130}", "i\u{307}", true),
+            ("\u{130}", "i", false),
+            ("\u{131}", "I", false),
+            ("\u{fb03}", "FFI", true),
+            ("\u{c5}", "\u{212b}", true),
+            ("a\u{323}\u{307}", "A\u{307}\u{323}", true),
+            ("\u{1e69}", "S\u{307}\u{323}", true),
+            ("\u{ac01}", "\u{1100}\u{1161}\u{11a8}", true),
+            ("\u{1fb3}", "\u{391}\u{399}", true),
+            ("\u{3b1}\u{345}\u{304}", "\u{1fb3}\u{304}", true),
+            ("\u{e1}", "a", false),
+        ];
+        for (one, other, same) in pairs {
+            let first = term_of(rt.alloc(), one)?;
+            let second = term_of(rt.alloc(), other)?;
+            assert_eq!(rt;
+                first.as_str() == second.as_str(),
+                same,
+                "{one} and {other}"
+            );
+        }
+        Ok(())
+    }
+
+    #[test]
+    fn the_law_can_be_called() {
+        equal_terms_match();
+    }
+}

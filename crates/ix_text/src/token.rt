@@ -45,3 +45,49 @@ pub fn lawful_collection()
     ensures short { (stop : List (List ℕ)) (text : List ℕ) → IsUtf8 text → length (token_list stop text) ≤ length text }
     ensures collection { (stop : List (List ℕ)) (bytes : List ℕ) (texts : List NamedText) → IsStopSet stop → IsCollectionText bytes texts → IsLawful (collection_of stop texts) }
 {}
+
+#[cfg(test)]
+mod tests {
+    use super::*;
+    use std::test::Fail;
+
+    /// Whether the tokens of a text under a stop text are these, the empty text standing for nothing.
+    fn has_tokens(alloc: Global, text: &str, stop: &str, want: &[&str]) -> Result<bool, Fail> {
+        let stop = StopList::read(alloc, stop)?;
+        let list = tokens(alloc, text, &stop)?;
+        let same = list.iter().zip(want).all(|(token, term)| match token {
+            Some(token) => token.as_str() == *term,
+            None => term.is_empty(),
+        });
+        Ok(same && list.len() == want.len())
+    }
+
+    #[test]
+    fn texts_have_the_tokens_of_the_worked_rows(rt: HostRuntime) -> Result<(), Fail> {
+        let six = ["the", "quick", "brown", "fox", "jumps", "right"];
+        let text = "The quick (\"brown\") fox jumps, right?";
+        assert!(rt; has_tokens(rt.alloc(), text, "", &six)?);
+        let flights = ["flights", "", "london"];
+        assert!(rt; has_tokens(rt.alloc(), "flights to london", "To\n", &flights)?);
+        assert!(rt; has_tokens(rt.alloc(), " ... ", "", &[])?);
+        Ok(())
+    }
+
+    #[test]
+    fn long_words_are_nothing(rt: HostRuntime) -> Result<(), Fail> {
+        let mut text = String::from_str(rt.alloc(), "a ")?;
+        for _ in 0..255 {
+            text.push('z')?;
+        }
+        let kept = tokens(rt.alloc(), text.as_str(), &StopList::empty(rt.alloc()))?;
+        text.push_str("z b")?;
+        let dropped = tokens(rt.alloc(), text.as_str(), &StopList::empty(rt.alloc()))?;
+        assert_eq!(rt; kept.len(), 2);
+        assert!(rt; kept[1].is_some());
+        assert_eq!(rt; dropped.len(), 3);
+        assert!(rt; dropped[1].is_none());
+        assert!(rt; dropped[2].is_some());
+        lawful_collection();
+        Ok(())
+    }
+}

@@ -69,6 +69,8 @@ fn edges_come_back(rt: HostRuntime) -> Result<(), Fail> {
     for n in EDGES {
         let code = encode(n);
         assert_eq!(rt; decode(code.as_bytes()), Ok((n, code.len())), "{n}");
+        assert_eq!(rt; code, encode(n));
+        assert_ne!(rt; code, encode(n ^ 1));
         push_code(&mut all, n)?;
     }
     let mut rest = all.as_slice();

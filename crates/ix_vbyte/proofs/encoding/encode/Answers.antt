@@ -1,4 +1,4 @@
-use Rattle.std.proofs.Common.{◌<◌, ◌≤◌, ◌/◌, ◌^◌, ◌++◌, ◌∷◌, [], length, ap, ap₂, ◌∙◌, sym, subst, arith}
+use Rattle.std.proofs.Common.{◌<◌, ◌≤◌, ◌/◌, ◌^◌, length, ap, sym, subst, arith}
 use Rattle.std.proofs.lemmas.Int.Digits.{length-digits_of-le}
 use Rattle.ix_vbyte.specs.Code.{IsCode, code_of}
 use Rattle.ix_vbyte.proofs.Values.{IsCode-code_of, length-code_of}
@@ -18,7 +18,7 @@ push-requires c = omega (arith, ap length c.push_digit-4.ensures, length-digits_
 
 pub returns-clause-value : goal.returns-clause-value
 unfolding code_of
-returns-clause-value c = c.push.ensures.items ∙ ap₂ (λ xs x. xs ++ x ∷ []) c.push_digit-4.ensures c.last.ensures
+returns-clause-value c = cc
 
 pub returns-clause-is_code : goal.returns-clause-is_code
 returns-clause-is_code c = subst (IsCode c.args.n) (sym (returns-clause-value c)) (IsCode-code_of c.args.n c.ranges.n.fits)

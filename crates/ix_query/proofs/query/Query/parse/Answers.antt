@@ -19,8 +19,14 @@ returns-clause-found c = found_by c.args.stop.now c.args.text.now c.tree.result 
 pub returns-clause-only : goal.returns-clause-only
 returns-clause-only c = only_by c.args.stop.now c.args.text.now c.tree.result (exact c)
 
-pub returns-in_err-lexemes-clause-exact : goal.returns-in_err-lexemes-clause-exact
+exact_fault : goal.returns-in_err-lexemes-clause-exact
 unfolding query_of
-returns-in_err-lexemes-clause-exact c =
+exact_fault c =
     let p = err_from_is_err_and c.from_residual.result c.from_residual.ensures.1 in
     rw (p.1, p.2) (fails_bind c.in_err-lexemes.field-0.0 (lexemes_of c.args.text.now) (tree_of c.args.stop.now) c.in_err-lexemes.ensures)
+
+pub returns-in_err-lexemes-clause-exact : goal.returns-in_err-lexemes-clause-exact
+returns-in_err-lexemes-clause-exact = exact_fault
+
+pub returns-in_err-lexemes-clause-only : goal.returns-in_err-lexemes-clause-only
+returns-in_err-lexemes-clause-only c = only_by c.args.stop.now c.args.text.now c.from_residual.result (exact_fault c)
