@@ -5,11 +5,9 @@ use crate::ask::ask;
 use crate::command_line::{Line, LineError, read_line};
 use crate::refusal::Refusal;
 use ix_text::StopList;
-use std::fs;
-use std::io;
 use std::io::{ErrorKind, Write};
 use std::rt::Files;
-use std::str;
+use std::{fs, io, str};
 
 #[cfg(test)]
 mod tests;

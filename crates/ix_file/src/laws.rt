@@ -4,11 +4,9 @@ ghost use Rattle.ix_file.specs.Laws.{HasOneVersion, HasSixtyFourBytes};
 /// An index text has at least 64 bytes.
 pub fn index_text_has_sixty_four_bytes()
     ensures { HasSixtyFourBytes }
-{
-}
+{}
 
 /// A text of version 1 is none of version 2.
 pub fn index_text_has_one_version()
     ensures { HasOneVersion }
-{
-}
+{}

@@ -4,5 +4,4 @@ ghost use Rattle.ix_run.specs.Laws.{HasEighteenBytes};
 /// A run text has at least 18 bytes.
 pub fn run_text_has_eighteen_bytes()
     ensures { HasEighteenBytes }
-{
-}
+{}

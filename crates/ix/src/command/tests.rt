@@ -1,10 +1,8 @@
 //! Rows of the program: status and output of a command line, over files that the test writes.
 
 use super::command;
-use std::env;
-use std::fs;
-use std::process;
 use std::test::Fail;
+use std::{env, fs, process};
 
 const FIVE: &str = "a\tx y\nb\ty\nc\t\nd\ty x y\ne\tx\n";
 
@@ -85,10 +83,22 @@ fn stop_words(rt: HostRuntime) -> Result<(), Fail> {
         ("to", 2, "", "ix: query 7: OnlyStopWords\n"),
         ("to NEAR/1 london", 2, "", "ix: query 10: NearWord\n"),
     ] {
-        expect(&rt, &["ask", "--stop", stop.as_str(), one.as_str(), query], status, names, refused)?;
+        expect(
+            &rt,
+            &["ask", "--stop", stop.as_str(), one.as_str(), query],
+            status,
+            names,
+            refused,
+        )?;
     }
     let two = file(&rt, "two", b"to be\n")?;
-    expect(&rt, &["ask", "--stop", two.as_str(), one.as_str(), "x"], 2, "", "ix: stop 1: NotOneWord(1)\n")?;
+    expect(
+        &rt,
+        &["ask", "--stop", two.as_str(), one.as_str(), "x"],
+        2,
+        "",
+        "ix: stop 1: NotOneWord(1)\n",
+    )?;
     for path in [one, stop, two] {
         fs::remove_file(&rt, path)?;
     }
@@ -109,9 +119,27 @@ fn files_that_are_refused(rt: HostRuntime) -> Result<(), Fail> {
     }
     let path = file(&rt, "stop-bytes", b"\xff")?;
     let line = format!(in rt.alloc(); "ix: file 3: NotUtf8({path})\n")?;
-    expect(&rt, &["ask", "--stop", path.as_str(), "none", "y"], 2, "", line.as_str())?;
+    expect(
+        &rt,
+        &["ask", "--stop", path.as_str(), "none", "y"],
+        2,
+        "",
+        line.as_str(),
+    )?;
     fs::remove_file(&rt, path)?;
-    expect(&rt, &["ask", "no/such/file", "y"], 2, "", "ix: file 1: Read(no/such/file)\n")?;
-    expect(&rt, &["ask", "no/such/file"], 2, "", "ix: arguments refused\n")?;
+    expect(
+        &rt,
+        &["ask", "no/such/file", "y"],
+        2,
+        "",
+        "ix: file 1: Read(no/such/file)\n",
+    )?;
+    expect(
+        &rt,
+        &["ask", "no/such/file"],
+        2,
+        "",
+        "ix: arguments refused\n",
+    )?;
     Ok(())
 }
