@@ -1,5 +1,6 @@
 -- The parts of a text between its stars are the one cut at its stars.
 use Rattle.std.proofs.Common.{◌≡◌, ◌≢◌, ℕ, zero, suc, ◌+◌, ◌<◌, List, [], ◌∷◌, ◌++◌, length, refl, sym, ◌∙◌, ap, arith, Bool, true, false, eqb, get_or, map, ◌-◌, lit<, Option, Some, None, length-drop, Bor, append_assoc}
+use Rattle.std.proofs.lemmas.List.Elements.{All-cons, All-head, All-nil, All-tail}
 use Rattle.std.proofs.lemmas.List.Splits.{slice_split_none, slice_split_at, slice_split_first}
 use Rattle.std.proofs.lemmas.List.Sums.{fails_before_first, passes_at_first}
 use Rattle.std.proofs.lemmas.Str.Pattern.{IsSplitOnceResult, split_once_first}
@@ -9,7 +10,6 @@ use Rattle.std.specs.Prelude.{All, Contains, MatchOption}
 use Rattle.std.specs.List.{slice_split, join_with_byte, onto_first, position_or_len, before_first, after_first}
 use Rattle.ix_text.specs.Terms.{term_of_word}
 use Rattle.ix_gram.specs.Patterns.{parts_of, pieces_of, HasStar}
-use Rattle.ix_gram.proofs.Splittings.{All-cons, All-head, All-tail}
 
 -- the star
 abbrev pub is_star : ℕ → Bool
@@ -40,7 +40,7 @@ starless_more byte part other starless (suc k, below, is) = starless (k, omega a
 
 -- a byte that is no star before the first part
 starless_onto : (byte : ℕ) (parts : List (List ℕ)) → byte ≢ 42 → All (λ part. ¬ (Contains part 42)) parts → All (λ part. ¬ (Contains part 42)) (onto_first byte parts)
-starless_onto byte [] other all = All-cons (λ part. ¬ (Contains part 42)) (byte ∷ []) [] (starless_more byte [] other (λ h. absurd (omega (arith, h.1)))) (λ k d below. absurd (omega arith))
+starless_onto byte [] other all = All-cons (λ part. ¬ (Contains part 42)) (byte ∷ []) [] (starless_more byte [] other (λ h. absurd (omega (arith, h.1)))) (All-nil (λ part. ¬ (Contains part 42)))
 starless_onto byte (part ∷ parts) other all =
     All-cons (λ part. ¬ (Contains part 42)) (byte ∷ part) parts
     (starless_more byte part other (All-head (λ part. ¬ (Contains part 42)) part parts all))
@@ -48,7 +48,7 @@ starless_onto byte (part ∷ parts) other all =
 
 -- no part has a star
 pub starless_parts : (text : List ℕ) → All (λ part. ¬ (Contains part 42)) (slice_split is_star text)
-starless_parts [] = All-cons (λ part. ¬ (Contains part 42)) [] [] (λ h. absurd (omega (arith, h.1))) (λ k d below. absurd (omega arith))
+starless_parts [] = All-cons (λ part. ¬ (Contains part 42)) [] [] (λ h. absurd (omega (arith, h.1))) (All-nil (λ part. ¬ (Contains part 42)))
 starless_parts (byte ∷ text) =
     cond_both (is_star byte) ([] ∷ slice_split is_star text) (onto_first byte (slice_split is_star text)) (λ parts. All (λ part. ¬ (Contains part 42)) parts)
     (λ yes. All-cons (λ part. ¬ (Contains part 42)) [] (slice_split is_star text) (λ h. absurd (omega (arith, h.1))) (starless_parts text))

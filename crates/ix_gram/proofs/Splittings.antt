@@ -1,5 +1,6 @@
 -- The greedy search: the leftmost place of an inner piece loses no splitting of the term.
-use Rattle.std.proofs.Common.{◌≡◌, ℕ, zero, suc, ◌+◌, ◌-◌, ◌<◌, ◌≤◌, List, [], ◌∷◌, ◌++◌, length, take, drop, refl, sym, ◌∙◌, ap, subst, arith, append_assoc, length-append, Bool, true, false, None, Some}
+use Rattle.std.proofs.Common.{◌≡◌, ℕ, suc, ◌+◌, ◌-◌, ◌<◌, ◌≤◌, List, [], ◌∷◌, ◌++◌, length, take, drop, refl, sym, ◌∙◌, ap, subst, arith, append_assoc, length-append, Bool, true, false, None, Some}
+use Rattle.std.proofs.lemmas.List.Elements.{All-cons, All-head, All-nil, All-tail}
 use Rattle.std.proofs.lemmas.List.{append-nil, append_cancel_left, drop-append-le, drop_at, take-append-drop}
 use Rattle.std.proofs.lemmas.Str.{IsUtf8-append, IsUtf8-take, IsCharBoundary-from_drop}
 use Rattle.std.specs.Prelude.{All, IsUtf8, IsTrue, ◌↔◌}
@@ -51,22 +52,12 @@ greedy_before_last : (piece rest : List ℕ) (middle : List (List ℕ)) (last : 
 greedy_before_last piece rest [] last i j = greedy piece rest last [] i j
 greedy_before_last piece rest (next ∷ middle) last i j = greedy piece rest next (middle ++ last ∷ []) i j
 
-pub All-cons : {X : Type 0} (P : X → Type 0) (x : X) (xs : List X) → P x → All P xs → All P (x ∷ xs)
-All-cons P x xs here there zero d below = here
-All-cons P x xs here there (suc k) d below = there k d (omega arith)
-
-pub All-tail : {X : Type 0} (P : X → Type 0) (x : X) (xs : List X) → All P (x ∷ xs) → All P xs
-All-tail P x xs all k d below = all (suc k) d (omega arith)
-
-pub All-head : {X : Type 0} (P : X → Type 0) (x : X) (xs : List X) → All P (x ∷ xs) → P x
-All-head P x xs all = all 0 x (omega arith)
-
 -- a front piece, and the others behind gaps of characters, are a splitting of the term
 from_front : (term piece rest : List ℕ) (pieces : List (List ℕ)) → term ≡ piece ++ rest → Follows IsUtf8 rest pieces → Matches term (piece ∷ pieces)
 from_front term piece rest [] e h = record {
   gaps = [];
   count = refl;
-  characters = λ k d below. absurd (omega arith);
+  characters = All-nil IsUtf8;
   spelled = e ∙ ap (λ r. piece ++ r) h ∙ append-nil piece;
 }
 from_front term piece rest (next ∷ pieces) e (gap, after, text, is, more) =
