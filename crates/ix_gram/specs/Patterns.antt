@@ -31,7 +31,7 @@ in_a_row [] gaps = []
 in_a_row (piece ∷ pieces) [] = piece
 in_a_row (piece ∷ pieces) (gap ∷ gaps) = piece ++ (gap ++ in_a_row pieces gaps)
 
--- A term matches the pieces p0, .., pm where it is p0, any characters, p1, .., any characters, pm in a row.
+-- A term matches the pieces where it is the first piece, a gap of characters, the second piece, and so on to the last.
 pub record Matches (term : List ℕ) (pieces : List (List ℕ)) : Type 0 where
   pub gaps : List (List ℕ)
   pub count : length pieces ≡ suc (length gaps)

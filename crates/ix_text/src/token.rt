@@ -9,8 +9,8 @@ use crate::{Memory, StopList, term_of};
 use std::alloc::Global;
 use unicode_segmentation::UnicodeSegmentation;
 
-/// The token list of a text: for each of its words (UAX #29), in order, its term, or nothing where that is a stop
-/// term or has not 1 to 255 bytes. An entry's place, from 0, is its position (IIR 2.4.2).
+/// The token list of a text: for each of its words (UAX #29), in order, its term, or nothing where that is among the
+/// stop terms or is empty or longer than 255 bytes. An entry's place, from 0, is its position (IIR 2.4.2).
 pub fn tokens(alloc: Global, text: &str, stop: &StopList) -> Result<Vec<Option<String>>, Memory>
     ensures { IfOk result (λ list. map (option_map string_bytes) list.items ≡ token_list stop.now text.now) }
 {

@@ -10,7 +10,7 @@ value_of bytes = number_from_digits 128 (map (λ byte. byte % 128) bytes)
 abbrev pub AreUnmarked : List ℕ → Type 0
 AreUnmarked bytes = All (λ byte. byte < 128) bytes
 
--- The top bit is set in the last byte alone.
+-- The last byte, and no other, has the top bit.
 pub record EndsMarked (bytes : List ℕ) : Type 0 where
   pub front : List ℕ
   pub last : ℕ

@@ -7,17 +7,16 @@ use std::{env, fs, process};
 const FIVE: &str = "a\tx y\nb\ty\nc\t\nd\ty x y\ne\tx\n";
 
 /// A file of this text, in the folder for temporary files.
-fn file(rt: &HostRuntime, name: &str, text: &[u8]) -> Result<String, Fail> {
+fn file<R: Files + Env + AllocGlobal>(rt: &R, name: &str, text: &[u8]) -> Result<String, Fail> {
     let folder = env::temp_dir(rt)?;
-    let id = process::id(rt.process());
-    let path = format!(in rt.alloc(); "{}/ix-{id}-{name}", folder.as_path().display())?;
+    let path = format!(in rt.alloc(); "{}/ix-test-{name}", folder.as_path().display())?;
     fs::write(rt, path.as_str(), text)?;
     Ok(path)
 }
 
 /// Runs the program and compares its status, its output and its error output.
-fn expect(
-    rt: &HostRuntime,
+fn expect<R: Files + AllocGlobal + Abort>(
+    rt: &R,
     words: &[&str],
     status: u8,
     printed: &str,
@@ -113,7 +112,7 @@ fn files_that_are_refused(rt: HostRuntime) -> Result<(), Fail> {
         (b"a\tb".as_slice(), "ix: collection 5: NoLineEnd(1)\n"),
         (b"a\t\xff\n".as_slice(), "ix: collection 2: NotUtf8(2)\n"),
     ] {
-        let path = file(&rt, "bad", text)?;
+        let path = file(&rt, "collection", text)?;
         expect(&rt, &["ask", path.as_str(), "y"], 2, "", line)?;
         fs::remove_file(&rt, path)?;
     }
