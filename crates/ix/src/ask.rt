@@ -14,6 +14,9 @@ use std::alloc::{AllocError, Global};
 use std::io::Write;
 use thiserror::Error;
 
+#[cfg(test)]
+mod tests;
+
 /// Why a question was refused. What it wraps says which rule was broken.
 #[derive(Debug, Drop, PartialEq, Eq, Error)]
 pub enum AskError {

@@ -1,0 +1,89 @@
+//! Writes that are refused at each byte, and a flush that is.
+
+use super::{AskError, ask};
+use ix_text::StopList;
+use std::io;
+use std::io::{ErrorKind, Write};
+use std::test::Fail;
+
+const FIVE: &[u8] = b"a\tx y\nb\ty\nc\t\nd\ty x y\ne\tx\n";
+
+/// A writer that takes so many bytes, one a call, and refuses the next.
+#[derive(Drop)]
+struct Narrow {
+    taken: Vec<u8>,
+    room: usize,
+    flushes: bool,
+}
+
+impl Write for Narrow {
+    fn write(&mut self, bytes: &[u8]) -> io::Result<usize> {
+        let Some(byte) = bytes.first() else {
+            return Ok(0);
+        };
+        if self.room == 0 {
+            return Err(io::Error::from(ErrorKind::Other));
+        }
+        self.taken.push(*byte)?;
+        self.room -= 1;
+        Ok(1)
+    }
+
+    fn flush(&mut self) -> io::Result<()> {
+        if self.flushes {
+            Ok(())
+        } else {
+            Err(io::Error::from(ErrorKind::Other))
+        }
+    }
+}
+
+#[test]
+fn writes_refused_at_each_byte(rt: HostRuntime) -> Result<(), Fail> {
+    let names = b"a\nb\nd\n".as_slice();
+    for (room, flushes) in [
+        (0, true),
+        (1, true),
+        (2, true),
+        (3, true),
+        (4, true),
+        (5, true),
+        (6, false),
+        (6, true),
+    ] {
+        let stop = StopList::empty(rt.alloc());
+        let mut out = Narrow {
+            taken: Vec::new(rt.alloc()),
+            room,
+            flushes,
+        };
+        let got = ask(rt.alloc(), FIVE, &stop, "y", &mut out);
+        let want = if room == 6 && flushes {
+            Ok(3)
+        } else {
+            Err(AskError::Write)
+        };
+        assert!(rt; got == want, "with room for {room}");
+        assert!(rt;
+            names.starts_with(out.taken.as_slice()),
+            "with room for {room}"
+        );
+        assert_eq!(rt; out.taken.len(), room);
+    }
+    Ok(())
+}
+
+#[test]
+fn refusals_write_nothing(rt: HostRuntime) -> Result<(), Fail> {
+    let stop = StopList::empty(rt.alloc());
+    for (collection, query) in [(FIVE, "x y"), (b"no tab\n".as_slice(), "y")] {
+        let mut out = Narrow {
+            taken: Vec::new(rt.alloc()),
+            room: 9,
+            flushes: true,
+        };
+        assert!(rt; ask(rt.alloc(), collection, &stop, query, &mut out).is_err());
+        assert!(rt; out.taken.is_empty());
+    }
+    Ok(())
+}
