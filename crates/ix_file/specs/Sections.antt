@@ -4,16 +4,13 @@ use Rattle.std.specs.List.{common_prefix_len}
 use Rattle.ix_vbyte.specs.Code.{code_of}
 use Rattle.ix_vbyte.specs.Gaps.{gaps_of}
 use Rattle.ix_vbyte.specs.Postings.{codes_of, list_bytes}
+use Rattle.ix_vbyte.specs.Texts.{counted}
 use Rattle.ix_text.specs.Parts.{DictionaryEntry, DocumentRow, GramEntry}
 
 -- the two versions of the index text, which differ in the dictionary and in their marks
 pub data Version : Type 0 where
   Plain : Version
   FrontCoded : Version
-
--- a text behind the number of its bytes
-abbrev pub counted : List ℕ → List ℕ
-counted text = code_of (length text) ++ text
 
 -- POSTINGS: the coded list of each term, in the order of the terms
 unfoldable pub postings_section : List DictionaryEntry → List ℕ

@@ -5,10 +5,7 @@ use Rattle.ix_text.specs.Collections.{Collection, IsLawful}
 use Rattle.ix_text.specs.Parts.{Parts, DictionaryEntry, DocumentRow, ArePartsOf}
 use Rattle.ix_vbyte.specs.Code.{code_of}
 use Rattle.ix_vbyte.specs.Postings.{list_bytes}
-
--- a text behind the number of its bytes
-abbrev pub counted : List ℕ → List ℕ
-counted text = code_of (length text) ++ text
+use Rattle.ix_vbyte.specs.Texts.{counted}
 
 -- a document: its name and the number of its tokens
 abbrev pub row_bytes : DocumentRow → List ℕ

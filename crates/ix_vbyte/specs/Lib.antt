@@ -4,3 +4,4 @@ pub mod Gaps
 pub mod Numbers
 pub mod Postings
 pub mod Reading
+pub mod Texts
