@@ -1,1 +1,2 @@
+pub mod GramLists
 pub mod TextLaws

@@ -1,3 +1,4 @@
+pub mod Grams
 pub mod IndexText
 pub mod Laws
 pub mod Sections
