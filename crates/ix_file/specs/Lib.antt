@@ -1,4 +1,5 @@
 pub mod Grams
+pub mod HeldGrams
 pub mod IndexText
 pub mod Laws
 pub mod Sections

@@ -2,6 +2,7 @@
 //! Today this is its definition and what holds of it; its writer and its exact reader are to come.
 #![tactic(auto)]
 
+mod grams;
 mod laws;
 
 pub use laws::{
