@@ -1,4 +1,5 @@
 pub mod Fronts
+pub mod GapCodes
 pub mod Gaps
 pub mod Postings
 pub mod Values

@@ -3,6 +3,7 @@
 //! read, and here are the gaps of an ascending list and the coded list of a term's postings.
 #![tactic(auto)]
 
+mod appending;
 mod decoding;
 mod encoding;
 mod errors;
@@ -10,6 +11,7 @@ mod laws;
 #[cfg(test)]
 mod tests;
 
+pub use appending::{push_counted, push_gaps, push_posting};
 pub use decoding::decode;
 pub use encoding::{Code, code_len, encode, push_code};
 pub use errors::VbError;
