@@ -1,2 +1,5 @@
+pub mod HeldLemmas
+pub mod PairOrder
+pub mod TermPairs
 pub mod GramLists
 pub mod TextLaws

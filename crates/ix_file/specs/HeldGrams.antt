@@ -1,5 +1,7 @@
 -- What is held of the grams of terms until they are put in order: a pair for each window of each term.
 use Rattle.std.specs.Prelude.{◌≡◌, ℕ, ◌^◌, ◌<◌, ◌↔◌, List, [], ◌∷◌, ◌++◌, length, chars, encode_utf8_all, Contains}
+use Rattle.std.specs.Ordering.{ordering_then, nat_cmp}
+use Rattle.std.specs.declared.cmp.Ordering.{Ordering}
 use Rattle.ix_file.specs.declared.grams.GramPair.{GramPair}
 use Rattle.ix_file.specs.declared.grams.Grams.{Grams}
 use Rattle.ix_file.specs.Grams.{IsGramOfTerm}
@@ -31,3 +33,7 @@ pub record HoldsGrams (grams : Grams) (terms : List (List ℕ)) : Type 0 where
   pub counted : grams.terms ≡ length terms
   pub few : length terms < 2 ^ 32
   pub related : (gram : List ℕ) (number : ℕ) → HasPair grams.pairs.items gram number ↔ IsGramOfTerm terms gram number
+
+-- the order of pairs: by their characters, and then by their numbers
+abbrev pub pair_cmp : GramPair → GramPair → Ordering
+pair_cmp p q = ordering_then (nat_cmp p.first q.first) (ordering_then (nat_cmp p.second q.second) (ordering_then (nat_cmp p.third q.third) (nat_cmp p.number q.number)))
