@@ -1,3 +1,4 @@
+pub mod GramOrder
 pub mod HeldLemmas
 pub mod PairOrder
 pub mod TermPairs
