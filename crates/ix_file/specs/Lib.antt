@@ -1,3 +1,4 @@
+pub mod GramEntries
 pub mod Grams
 pub mod HeldGrams
 pub mod IndexText
