@@ -4,5 +4,6 @@ pub mod GramOrder
 pub mod HeldLemmas
 pub mod PairGrams
 pub mod PairOrder
+pub mod SectionLemmas
 pub mod TermPairs
 pub mod TextLaws
