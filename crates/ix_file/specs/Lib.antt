@@ -1,4 +1,5 @@
 pub mod GramEntries
+pub mod GramLaws
 pub mod Grams
 pub mod HeldGrams
 pub mod IndexText

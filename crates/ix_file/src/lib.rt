@@ -7,5 +7,5 @@ mod laws;
 
 pub use laws::{
     grams_of_the_vocabulary, index_text_has_one_version, index_text_has_sixty_four_bytes,
-    terms_have_one_gram_list,
+    index_text_tells_collection, index_text_tells_version_and_collection, terms_have_one_gram_list,
 };
