@@ -7,6 +7,8 @@ mod decoding;
 mod encoding;
 mod errors;
 mod laws;
+mod positions;
+mod skipping;
 #[cfg(test)]
 mod tests;
 
@@ -17,3 +19,5 @@ pub use laws::{
     ascending, codes_apart, gaps_are_differences, gaps_come_back, list_is_its_postings, one_code,
     postings_come_back,
 };
+pub use positions::Positions;
+pub use skipping::skip_codes;
