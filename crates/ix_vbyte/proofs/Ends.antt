@@ -1,5 +1,5 @@
 -- Where codes end, byte by byte and a vector at a time.
-use Rattle.std.proofs.Common.{◌≡◌, ℕ, zero, suc, ◌+◌, ◌-◌, ◌*◌, ◌/◌, ◌%◌, ◌^◌, ◌<◌, ◌≤◌, ◌⊎◌, Bool, true, false, cond, ltb, leb, List, [], ◌∷◌, ◌++◌, length, take, drop, get_or, map, replicate, count_by, slice_get, Some, refl, sym, ap, ap₂, ◌∙◌, subst, ⊎_elim, arith, take-append-drop, w8}
+use Rattle.std.proofs.Common.{◌≡◌, ℕ, zero, suc, ◌+◌, ◌-◌, ◌/◌, ◌%◌, ◌^◌, ◌<◌, ◌≤◌, cond, ltb, leb, List, [], ◌∷◌, ◌++◌, length, take, drop, get_or, map, replicate, count_by, slice_get, Some, refl, sym, ap, ap₂, ◌∙◌, ⊎_elim, arith, take-append-drop, w8}
 use Rattle.std.specs.Int.Digits.{digits_of}
 use Rattle.std.specs.Int.RustNames.{count_ones}
 use Rattle.std.specs.Simd.Lanes.{zip2, mask_l, top}
@@ -76,18 +76,18 @@ end_of-append (suc count) [] ys fewer =
 end_of-append (suc count) (x ∷ xs) ys fewer =
     ⊎_elim
     (λ low.
-        let same = first_marks_not x xs low in
-        let e = end_of-append (suc count) xs ys (omega arith) in
-        let again : end_of (suc count - marks_in xs) ys ≡ end_of (suc count - marks_in (x ∷ xs)) ys = ap (λ n. end_of (suc count - n) ys) (sym same) in
-        let first = unmarked_first count x (xs ++ ys) low in
-        omega arith)
+    let same = first_marks_not x xs low in
+    let e = end_of-append (suc count) xs ys (omega arith) in
+    let again : end_of (suc count - marks_in xs) ys ≡ end_of (suc count - marks_in (x ∷ xs)) ys = ap (λ n. end_of (suc count - n) ys) (sym same) in
+    let first = unmarked_first count x (xs ++ ys) low in
+    omega arith)
     (λ high.
-        let one = first_marks x xs high in
-        let e = end_of-append count xs ys (omega arith) in
-        let less : count - marks_in xs ≡ suc count - marks_in (x ∷ xs) = omega arith in
-        let again : end_of (count - marks_in xs) ys ≡ end_of (suc count - marks_in (x ∷ xs)) ys = ap (λ n. end_of n ys) less in
-        let first = marked_first count x (xs ++ ys) high in
-        omega arith)
+    let one = first_marks x xs high in
+    let e = end_of-append count xs ys (omega arith) in
+    let less : count - marks_in xs ≡ suc count - marks_in (x ∷ xs) = omega arith in
+    let again : end_of (count - marks_in xs) ys ≡ end_of (suc count - marks_in (x ∷ xs)) ys = ap (λ n. end_of n ys) less in
+    let first = marked_first count x (xs ++ ys) high in
+    omega arith)
     (cases_lt x 128)
 
 pub vector_more : (rest vector behind : List ℕ) (left ends : ℕ) → 16 ≤ length rest → vector ≡ take 16 rest → behind ≡ drop 16 rest → ends ≡ marks_in vector → ends < left → end_of left rest ≡ 16 + end_of (left - ends) behind

@@ -1,5 +1,5 @@
 -- The numbers that bytes tell, code behind code.
-use Rattle.std.specs.Prelude.{ℕ, ◌<◌, List, [], ◌∷◌, map, nat_lt, if◌then◌else◌}
+use Rattle.std.specs.Prelude.{ℕ, List, [], ◌∷◌, map, nat_lt, if◌then◌else◌}
 use Rattle.ix_vbyte.specs.Code.{value_of}
 
 -- A byte in front of the first of some pieces, or alone where there is none.

@@ -47,6 +47,10 @@ pub record BeginsWithNumber (bytes : List ℕ) : Type 0 where
   pub fits : number < 2 ^ 32
   pub coded : bytes ≡ code_of number ++ rest
 
+-- What was read from the front of the bytes is the number whose code stands there, and what follows it.
+abbrev pub ReadsNumber : List ℕ → ℕ → List ℕ → Type 0
+ReadsNumber bytes read rest = (number : ℕ) (others : List ℕ) → number < 2 ^ 32 → bytes ≡ code_of number ++ others → (read ≡ number) × (rest ≡ others)
+
 -- A posting may stand where `next` is one above the document before.
 pub record MayFollow (next : ℕ) (posting : Posting) : Type 0 where
   pub above : next ≤ posting.0
@@ -59,6 +63,10 @@ pub record BeginsWithPosting (next : ℕ) (bytes : List ℕ) : Type 0 where
   pub rest : List ℕ
   pub may : MayFollow next posting
   pub coded : bytes ≡ posting_bytes (posting.0 + 1 - next) posting ++ rest
+
+-- What was read from the front of the bytes is the posting that stands there, and what follows it.
+abbrev pub ReadsPosting : ℕ → List ℕ → ℕ → List ℕ → List ℕ → Type 0
+ReadsPosting next bytes document positions rest = (posting : Posting) (others : List ℕ) → MayFollow next posting → bytes ≡ posting_bytes (posting.0 + 1 - next) posting ++ others → (document ≡ posting.0) × (positions ≡ posting.1) × (rest ≡ others)
 
 -- The postings from the first on whose document is not below the one named.
 abbrev pub from_document : ℕ → List Posting → List Posting

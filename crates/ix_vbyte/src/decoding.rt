@@ -3,7 +3,7 @@ ghost use Rattle.std.specs.Prelude.{◌≡◌, ◌↔◌, ℕ, ◌+◌, ◌<◌,
 ghost use Rattle.ix_vbyte.specs.Code.{code_of};
 ghost use Rattle.ix_vbyte.specs.Reading.{StartsWithCode, StartsWithZero, IsTooBig, IsCut};
 ghost use Rattle.ix_vbyte.specs.Decoded.{Finds};
-ghost use Rattle.ix_vbyte.specs.Walking.{BeginsWithNumber};
+ghost use Rattle.ix_vbyte.specs.Walking.{BeginsWithNumber, ReadsNumber};
 
 use crate::VbError;
 
@@ -33,7 +33,7 @@ pub fn decode(bytes: &[u8]) -> Result<(u32, usize), VbError>
 #[inline]
 pub(crate) fn first_number(bytes: &[u8]) -> (u32, &[u8])
     requires { BeginsWithNumber bytes.now }
-    ensures { (number : ℕ) (rest : List ℕ) → number < 2 ^ 32 → bytes.now ≡ code_of number ++ rest → (result.0 ≡ number) × (result.1.now ≡ rest) }
+    ensures { ReadsNumber bytes.now result.0 result.1.now }
 {
     match decode(bytes) {
         Ok((number, count)) => (number, &bytes[count..]),

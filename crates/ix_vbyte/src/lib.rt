@@ -3,6 +3,7 @@
 //! read, and here are the gaps of an ascending list and the coded list of a term's postings.
 #![tactic(auto)]
 
+pub mod cursor;
 mod decoding;
 mod encoding;
 mod errors;
@@ -19,5 +20,4 @@ pub use laws::{
     ascending, codes_apart, gaps_are_differences, gaps_come_back, list_is_its_postings, one_code,
     postings_come_back,
 };
-pub use positions::Positions;
 pub use skipping::skip_codes;

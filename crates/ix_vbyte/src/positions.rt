@@ -1,6 +1,7 @@
 //! The positions of one posting, read from the codes of their gaps.
-ghost use Rattle.std.specs.Prelude.{◌≡◌, length};
+ghost use Rattle.std.specs.Prelude.{◌≡◌, ◌^◌, ◌-◌, length};
 ghost use Rattle.std.specs.Iterator.{YieldsFirst, item_count};
+ghost use Rattle.ix_vbyte.specs.Gaps.{Ascends};
 ghost use Rattle.ix_vbyte.specs.Walking.{ArePositionsFrom, positions_told};
 
 use crate::decoding::first_number;
@@ -45,7 +46,8 @@ impl<'a> Positions<'a> {
     /// How many positions are left.
     #[inline]
     pub fn len(&self) -> usize
-        ensures { result ≡ length self.now }
+        ensures value { result ≡ length self.now }
+        ensures ascending { Ascends 0 (2 ^ 32 - 1) self.now }
     {
         self.count as usize
     }

@@ -1,4 +1,4 @@
-use Rattle.std.proofs.Common.{◌≡◌, ◌+◌, ◌<◌, ◌≤◌, ◌∙◌, drop, length, get_or, ap, arith}
+use Rattle.std.proofs.Common.{◌≡◌, ◌+◌, ◌∙◌, drop, ap, arith}
 use Rattle.ix_vbyte.specs.Ends.{end_of}
 use Rattle.ix_vbyte.proofs.Ends.{end_of-none, unmarked_more, marked_more, passed_all}
 use Rattle.ix_vbyte.proofs.skipping.skip_bytes.Goals as goal
@@ -13,8 +13,8 @@ returns-then-left-eq0 c =
 pub loop-place-preserved : goal.loop-place-preserved
 loop-place-preserved c =
     elim c.if-byte-ge128.branch [
-      then-byte-ge128 w ↦ omega (arith, marked_more c.args.bytes.now c.loop-place.place c.loop-place.left (omega arith) (omega arith) (omega arith), ap (λ n. end_of n (drop (c.loop-place.place + 1) c.args.bytes.now)) w.left-is)
-    | else-byte-ge128 w ↦ omega (arith, unmarked_more c.args.bytes.now c.loop-place.place c.loop-place.left (omega arith) (omega arith) (omega arith), ap (λ n. end_of n (drop (c.loop-place.place + 1) c.args.bytes.now)) w.left-is)
+      | then-byte-ge128 w ↦ omega (arith, marked_more c.args.bytes.now c.loop-place.place c.loop-place.left (omega arith) (omega arith) (omega arith), ap (λ n. end_of n (drop (c.loop-place.place + 1) c.args.bytes.now)) w.left-is)
+      | else-byte-ge128 w ↦ omega (arith, unmarked_more c.args.bytes.now c.loop-place.place c.loop-place.left (omega arith) (omega arith) (omega arith), ap (λ n. end_of n (drop (c.loop-place.place + 1) c.args.bytes.now)) w.left-is)
     ]
 
 pub returns : goal.returns

@@ -1,4 +1,4 @@
-use Rattle.std.proofs.Common.{sym, ap, ap₂, ◌∙◌, subst, ◌≤◌, length, arith}
+use Rattle.std.proofs.Common.{sym, ap, ap₂, ◌∙◌, subst, ◌≤◌, length}
 use Rattle.ix_vbyte.specs.Ends.{end_of}
 use Rattle.ix_vbyte.proofs.Ends.{end_of-le, end_of-codes, one_code_first}
 use Rattle.ix_vbyte.proofs.skipping.skip_codes.Goals as goal

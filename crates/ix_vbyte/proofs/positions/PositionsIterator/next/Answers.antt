@@ -1,5 +1,4 @@
-use Rattle.std.proofs.Common.{◌≡◌, ◌<◌, ◌∷◌, ◌+◌, ◌-◌, length, sym, ap, ◌∙◌, arith, rules}
-use Rattle.ix_vbyte.specs.Walking.{positions_told}
+use Rattle.std.proofs.Common.{length, sym, ap, ◌∙◌, arith}
 use Rattle.ix_vbyte.proofs.Walks.{not_empty, empty, begins_with_gap, taken_position, no_positions}
 use Rattle.ix_vbyte.proofs.positions.PositionsIterator.next.Goals as goal
 
