@@ -12,6 +12,8 @@ mod positions;
 mod skipping;
 #[cfg(test)]
 mod tests;
+#[cfg(test)]
+mod walking_tests;
 
 pub use decoding::decode;
 pub use encoding::{Code, code_len, encode, push_code};
