@@ -1,13 +1,12 @@
 -- Where codes end, byte by byte and a vector at a time.
 use Rattle.std.proofs.Common.{◌≡◌, ℕ, zero, suc, ◌+◌, ◌-◌, ◌/◌, ◌%◌, ◌^◌, ◌<◌, ◌≤◌, cond, ltb, leb, List, [], ◌∷◌, ◌++◌, length, take, drop, get_or, map, replicate, count_by, slice_get, Some, refl, sym, ap, ap₂, ◌∙◌, ⊎_elim, arith, take-append-drop, w8}
 use Rattle.std.specs.Int.Digits.{digits_of}
-use Rattle.std.specs.Int.RustNames.{count_ones}
 use Rattle.std.specs.Simd.Lanes.{zip2, mask_l, top}
 use Rattle.std.proofs.lemmas.Bool.{lt-ltb, le-ltb, lt-leb, le-leb, cases_lt}
 use Rattle.std.proofs.lemmas.List.{append_assoc, drop_more, drop_all, length-map, length-append, length-take-le}
 use Rattle.std.proofs.lemmas.List.Elements.{All-head, All-tail}
 use Rattle.std.proofs.lemmas.List.Sums.{sum_by-cons}
-use Rattle.std.proofs.lemmas.Simd.{tops_compared, zip2_splat_left, mask_l-mod, ones-mask_l}
+use Rattle.std.proofs.lemmas.Simd.{tops_compared, zip2_splat_left, mask_l-mod}
 use Rattle.ix_vbyte.specs.Code.{AreUnmarked, code_of}
 use Rattle.ix_vbyte.specs.Ends.{end_of}
 use Rattle.ix_vbyte.specs.Postings.{codes_of}
@@ -33,12 +32,12 @@ end_of-le (suc count) [] = omega arith
 end_of-le (suc count) (byte ∷ bytes) = omega (arith, end_of-le (cond (ltb byte 128) (suc count) count) bytes)
 
 -- a byte that ends no code
-unmarked_first : (count byte : ℕ) (bytes : List ℕ) → byte < 128 → end_of (suc count) (byte ∷ bytes) ≡ suc (end_of (suc count) bytes)
+pub unmarked_first : (count byte : ℕ) (bytes : List ℕ) → byte < 128 → end_of (suc count) (byte ∷ bytes) ≡ suc (end_of (suc count) bytes)
 unfolding end_of
 unmarked_first count byte bytes low = ap (λ b. suc (end_of (cond b (suc count) count) bytes)) (lt-ltb byte 128 low)
 
 -- a byte that ends one
-marked_first : (count byte : ℕ) (bytes : List ℕ) → 128 ≤ byte → end_of (suc count) (byte ∷ bytes) ≡ suc (end_of count bytes)
+pub marked_first : (count byte : ℕ) (bytes : List ℕ) → 128 ≤ byte → end_of (suc count) (byte ∷ bytes) ≡ suc (end_of count bytes)
 unfolding end_of
 marked_first count byte bytes high = ap (λ b. suc (end_of (cond b (suc count) count) bytes)) (le-ltb byte 128 high)
 
@@ -98,12 +97,11 @@ vector_more rest vector behind left ends room first others counted fewer =
     ap (λ xs. end_of left xs) whole ∙ end_of-append left vector behind fewer'
     ∙ ap₂ (λ n m. n + end_of (left - m) behind) long (sym counted)
 
--- the top bits of a vector, counted
-pub marks_by_mask : (bytes : List ℕ) → length bytes ≡ 16 → count_ones (mask_l (map (top 7) (zip2 (λ a b. cond (leb a b) 255 0) (replicate 16 128) bytes)) % 2 ^ 64) ≡ marks_in bytes
-marks_by_mask bytes long =
-    ap (λ ms. count_ones (mask_l ms % 2 ^ 64)) (tops_compared w8 leb (replicate 16 128) bytes ∙ zip2_splat_left leb 128 16 bytes long)
-    ∙ ap count_ones (mask_l-mod (map (λ byte. leb 128 byte) bytes) 64 (omega (arith, length-map bytes (λ byte. leb 128 byte))))
-    ∙ ones-mask_l (λ byte. leb 128 byte) bytes
+-- the top bits of a vector
+pub by_mask : (bytes : List ℕ) → length bytes ≡ 16 → mask_l (map (top 7) (zip2 (λ a b. cond (leb a b) 255 0) (replicate 16 128) bytes)) % 2 ^ 64 ≡ mask_l (map (λ byte. leb 128 byte) bytes)
+by_mask bytes long =
+    ap (λ ms. mask_l ms % 2 ^ 64) (tops_compared w8 leb (replicate 16 128) bytes ∙ zip2_splat_left leb 128 16 bytes long)
+    ∙ mask_l-mod (map (λ byte. leb 128 byte) bytes) 64 (omega (arith, length-map bytes (λ byte. leb 128 byte)))
 
 -- ---- codes
 end_of-code : (count last : ℕ) (front rest : List ℕ) → AreUnmarked front → 128 ≤ last → end_of (suc count) ((front ++ last ∷ []) ++ rest) ≡ length (front ++ last ∷ []) + end_of count rest
@@ -132,3 +130,8 @@ one_code_first [] byte some high = absurd (cc)
 one_code_first (b ∷ bytes) byte some high =
     let same : b ≡ byte = cc in
     sym (marked_first 0 b bytes (omega arith) ∙ ap suc (end_of-none bytes))
+
+-- an end that was found in the first bytes, whatever follows them
+pub found_in_front : (count many : ℕ) (bytes front : List ℕ) (end : ℕ) → front ≡ take many bytes → ((behind : List ℕ) → end_of count (front ++ behind) ≡ end) → end ≡ end_of count bytes
+found_in_front count many bytes front end is found =
+    sym (found (drop many bytes)) ∙ ap (λ xs. end_of count (xs ++ drop many bytes)) is ∙ ap (end_of count) (take-append-drop many bytes)
