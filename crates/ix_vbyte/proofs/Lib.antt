@@ -1,9 +1,12 @@
+pub mod Ends
 pub mod Fronts
 pub mod GapCodes
 pub mod Gaps
 pub mod Pieces
+pub mod Marks
 pub mod Postings
 pub mod Sizes
 pub mod Texts
 pub mod Values
+pub mod Walks
 pub mod Widths

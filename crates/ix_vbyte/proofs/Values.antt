@@ -96,7 +96,7 @@ code_of-code n code is =
     ∙ sym (ap (λ xs. xs ++ last ∷ []) (ap (λ m. digits_of 128 m) high ∙ digits_of-value_of front is.ends.unmarked short))
     ∙ ap (λ x. digits_of 128 (n / 128) ++ x ∷ []) (sym low)
 
-digits_unmarked : (n : ℕ) → AreUnmarked (digits_of 128 n)
+pub digits_unmarked : (n : ℕ) → AreUnmarked (digits_of 128 n)
 digits_unmarked n = All-from_recursion (λ d. d < 128) (digits_of 128 n) (all_below_base_digits_of 128 n (omega arith))
 
 -- neither the digits of a number nor a marked byte begin with 0

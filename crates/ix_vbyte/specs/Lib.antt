@@ -1,7 +1,10 @@
 pub mod Code
+pub mod CodesIn
 pub mod Decoded
+pub mod Ends
 pub mod Gaps
 pub mod Numbers
 pub mod Postings
 pub mod Reading
 pub mod Texts
+pub mod Walking

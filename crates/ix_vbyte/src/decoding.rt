@@ -3,6 +3,7 @@ ghost use Rattle.std.specs.Prelude.{◌≡◌, ◌↔◌, ℕ, ◌+◌, ◌<◌,
 ghost use Rattle.ix_vbyte.specs.Code.{code_of};
 ghost use Rattle.ix_vbyte.specs.Reading.{StartsWithCode, StartsWithZero, IsTooBig, IsCut};
 ghost use Rattle.ix_vbyte.specs.Decoded.{Finds};
+ghost use Rattle.ix_vbyte.specs.Walking.{BeginsWithNumber, ReadsNumber};
 
 use crate::VbError;
 
@@ -26,6 +27,18 @@ pub fn decode(bytes: &[u8]) -> Result<(u32, usize), VbError>
     ensures written { (n : ℕ) (rest : List ℕ) → n < 2 ^ 32 → bytes.now ≡ code_of n ++ rest → result ≡ Ok (n, length (code_of n)) }
 {
     read(bytes)
+}
+
+/// The number whose code the bytes begin with, and what follows the code.
+#[inline]
+pub(crate) fn first_number(bytes: &[u8]) -> (u32, &[u8])
+    requires { BeginsWithNumber bytes.now }
+    ensures { ReadsNumber bytes.now result.0 result.1.now }
+{
+    match decode(bytes) {
+        Ok((number, count)) => (number, &bytes[count..]),
+        Err(_) => unreachable!(),
+    }
 }
 
 /// The same, as what was found in one fact. Most codes have one byte, and they take no loop.

@@ -4,12 +4,17 @@
 #![tactic(auto)]
 
 mod appending;
+pub mod cursor;
 mod decoding;
 mod encoding;
 mod errors;
 mod laws;
+mod positions;
+mod skipping;
 #[cfg(test)]
 mod tests;
+#[cfg(test)]
+mod walking_tests;
 
 pub use appending::{push_counted, push_gaps, push_posting};
 pub use decoding::decode;
@@ -19,3 +24,4 @@ pub use laws::{
     ascending, codes_apart, counted_texts_come_back, gaps_are_differences, gaps_come_back,
     list_is_its_postings, list_is_short, one_code, postings_ascending, postings_come_back,
 };
+pub use skipping::skip_codes;

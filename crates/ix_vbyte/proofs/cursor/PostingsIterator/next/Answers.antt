@@ -1,0 +1,26 @@
+use Rattle.std.proofs.Common.{length, sym, ap, ◌∙◌, arith}
+use Rattle.ix_vbyte.proofs.Walks.{not_empty, empty, begins_with_posting, taken_posting, no_postings}
+use Rattle.ix_vbyte.proofs.cursor.PostingsIterator.next.Goals as goal
+
+pub returns-then-is_empty-clause-steps : goal.returns-then-is_empty-clause-steps
+returns-then-is_empty-clause-steps c =
+    let none = sym c.self.view_is ∙ no_postings c.self.inside.next c.self.inside.count c.self.inside.bytes.now (empty _ c.if-is_empty.ensures) in
+    (none, none)
+
+pub first_posting-posting-requires : goal.first_posting-posting-requires
+first_posting-posting-requires c = begins_with_posting c.self.inside.next c.self.inside.count c.self.inside.bytes.now c.self.invariant (not_empty _ c.if-is_empty.ensures)
+
+pub overflow_add-self : goal.overflow_add-self
+overflow_add-self c = record { fits = (taken_posting c.self.inside.next c.self.inside.count c.self.inside.bytes.now _ _ _ c.self.invariant (not_empty _ c.if-is_empty.ensures) c.first_posting-posting.ensures).fits }
+
+pub invariant_of-self : goal.invariant_of-self
+invariant_of-self c = (taken_posting c.self.inside.next c.self.inside.count c.self.inside.bytes.now _ _ _ c.self.invariant (not_empty _ c.if-is_empty.ensures) c.first_posting-posting.ensures).are
+
+pub returns-clause-steps : goal.returns-clause-steps
+returns-clause-steps c = sym c.self.view_is ∙ (taken_posting c.self.inside.next c.self.inside.count c.self.inside.bytes.now _ _ _ c.self.invariant (not_empty _ c.if-is_empty.ensures) c.first_posting-posting.ensures).told
+
+pub returns-clause-goes : goal.returns-clause-goes
+returns-clause-goes c =
+    let taken = taken_posting c.self.inside.next c.self.inside.count c.self.inside.bytes.now _ _ _ c.self.invariant (not_empty _ c.if-is_empty.ensures) c.first_posting-posting.ensures in
+    let more = ap length (sym c.self.view_is ∙ taken.told) in
+    record { on = λ h. (tt, tt, omega (arith, more)); keeps = tt; rests = λ h. tt }

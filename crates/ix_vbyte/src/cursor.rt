@@ -1,0 +1,137 @@
+//! Walking a coded list of postings without decoding positions that nobody asks for.
+ghost use Rattle.std.specs.Prelude.{◌≡◌, ◌^◌, ◌-◌, ℕ, List, [], ◌∷◌, length, IfNone, IfSome, OnOk};
+ghost use Rattle.std.specs.Iterator.{YieldsFirstBy, item_count};
+ghost use Rattle.ix_vbyte.specs.Postings.{ArePostings, list_bytes};
+ghost use Rattle.ix_vbyte.specs.Walking.{IsCodedList, BeginsWithPosting, ReadsPosting, from_document};
+
+use crate::decoding::first_number;
+pub use crate::positions::Positions;
+use crate::skip_codes;
+use std::alloc::AllocError;
+use std::marker::Model;
+
+/// A document that has the term, and the positions at which it has it, read from the bytes of the coded list.
+#[derive(Drop)]
+pub struct Posting<'a> {
+    /// The document's number.
+    pub document: u32,
+    positions: Positions<'a>,
+}
+
+impl<'a> Posting<'a> {
+    /// The positions, ascending. It takes no memory.
+    #[inline]
+    pub fn positions(&self) -> Positions<'a>
+        ensures { result ≡ self.now.positions }
+    {
+        self.positions.again()
+    }
+
+    /// Puts the positions, and nothing else, into a vector. Where memory is refused, the vector holds anything.
+    pub fn read_positions(&self, positions: &mut Vec<u32>) -> Result<(), AllocError>
+        ensures { OnOk result (positions.new.items ≡ self.now.positions) }
+    {
+        positions.clear();
+        for position in self.positions() {
+            positions.push(position)?;
+        }
+        Ok(())
+    }
+}
+
+/// The posting whose bytes stand at the front, and what follows them.
+#[inline]
+fn first_posting(bytes: &[u8], next: u32) -> (Posting<'_>, &[u8])
+    requires { BeginsWithPosting next bytes.now }
+    ensures { ReadsPosting next bytes.now result.0.document result.0.positions result.1.now }
+{
+    let (gap, rest) = first_number(bytes);
+    let (places, rest) = first_number(rest);
+    let end = skip_codes(rest, places);
+    let positions = Positions::new(&rest[..end], places);
+    let posting = Posting {
+        document: next + (gap - 1),
+        positions,
+    };
+    (posting, &rest[end..])
+}
+
+/// The postings of a coded list that are left, in document order.
+#[derive(Drop)]
+pub struct Postings<'a> {
+    // the coded list from the next posting on
+    bytes: &'a [u8],
+    // one above the document before, or 0
+    next: u32,
+    // how many postings are left
+    count: u32,
+}
+
+impl<'a> Model for Postings<'a> {
+    ghost use Rattle.std.specs.Prelude.{List, ℕ};
+    ghost use Rattle.ix_vbyte.specs.Walking.{ArePostingsFrom, postings_told};
+
+    ghost Value = { List (ℕ × List ℕ) };
+
+    ghost view = { λ postings. postings_told postings.count postings.next postings.bytes.now };
+
+    ghost invariant = { λ postings. ArePostingsFrom postings.next postings.count postings.bytes.now };
+}
+
+impl<'a> Postings<'a> {
+    /// The postings of a coded list that has that many.
+    #[inline]
+    pub fn new(bytes: &'a [u8], count: u32) -> Postings<'a>
+        requires { IsCodedList count bytes.now }
+        ensures { (postings : List (ℕ × List ℕ)) → ArePostings 0 (2 ^ 32 - 1) postings → length postings ≡ count → bytes.now ≡ list_bytes postings → result ≡ postings }
+    {
+        Postings {
+            bytes,
+            next: 0,
+            count,
+        }
+    }
+
+    /// How many postings are left.
+    #[inline]
+    pub fn len(&self) -> usize
+        ensures value { result ≡ length self.now }
+        ensures lawful { ArePostings 0 (2 ^ 32 - 1) self.now }
+    {
+        self.count as usize
+    }
+
+    /// The first posting that is left whose document is not below the one named, or none where there is no such.
+    /// The postings up to it are passed, and it is passed too. It takes no memory.
+    pub fn seek(&mut self, document: u32) -> Option<Posting<'a>>
+        ensures found { IfSome result (λ posting. from_document document self.old ≡ (posting.document, posting.positions) ∷ self.new) }
+        ensures none { IfNone result ((from_document document self.old ≡ []) × (self.new ≡ [])) }
+    {
+        while let Some(posting) = self.next() {
+            if posting.document >= document {
+                return Some(posting);
+            }
+        }
+        None
+    }
+}
+
+impl<'a> Iterator for Postings<'a> {
+    type Item = Posting<'a>;
+
+    ghost next_gives = { YieldsFirstBy (λ posting. (posting.document, posting.positions)) (λ postings. postings) };
+
+    ghost remaining = { item_count (λ postings. postings) };
+
+    #[inline]
+    fn next(&mut self) -> Option<Posting<'a>> {
+        if self.bytes.is_empty() {
+            return None;
+        }
+        let (posting, rest) = first_posting(self.bytes, self.next);
+        self.bytes = rest;
+        self.next = posting.document + 1;
+        self.count -= 1;
+        Some(posting)
+    }
+}
