@@ -17,5 +17,5 @@ pub use parts::{lawful_parts_have_collection, parts_tell_collection};
 pub use sink::{WriteRefused, flush, put_all};
 pub use stop::{StopError, StopList, has_stop_set_or_a_fault};
 pub use term::{equal_terms_match, term_of};
-pub use token::{lawful_collection, tokens};
+pub use token::{lawful_collection, tokens, write_tokens};
 pub use windows::{TrigramWindows, trigrams, trigrams_stand_by_place};
