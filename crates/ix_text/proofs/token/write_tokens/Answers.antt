@@ -1,7 +1,5 @@
-use Rattle.std.proofs.Common.{ℕ, ◌≡◌, ◌≤◌, ◌+◌, [], List, ◌∙◌, sym, ap, arith, vec_len, append-nil, option_map, string_bytes}
-use Rattle.unicode_segmentation.specs.Iter.{unicode_words_left}
-use Rattle.ix_text.specs.Terms.{term_of_word}
-use Rattle.ix_text.specs.TokenLists.{entry_of_term, token_list}
+use Rattle.std.proofs.Common.{◌∙◌, sym, arith, append-nil}
+use Rattle.ix_text.specs.TokenLists.{token_list}
 use Rattle.ix_text.proofs.TokenLemmas.{taken_more}
 use Rattle.ix_text.proofs.token.write_tokens.Goals as goal
 

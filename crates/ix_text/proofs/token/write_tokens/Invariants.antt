@@ -1,4 +1,4 @@
-use Rattle.std.proofs.Common.{ℕ, ◌≡◌, ◌≤◌, ◌++◌, List, map, take, option_map, string_bytes, vec_len}
+use Rattle.std.proofs.Common.{◌≡◌, ◌≤◌, ◌++◌, map, take, option_map, string_bytes, vec_len}
 use Rattle.unicode_segmentation.specs.Iter.{unicode_words_left}
 use Rattle.ix_text.specs.Terms.{term_of_word}
 use Rattle.ix_text.specs.TokenLists.{entry_of_term, token_list}
