@@ -1,1 +1,4 @@
+pub mod DictionaryTold
+pub mod IndexTold
+pub mod SectionSizes
 pub mod TextLaws

@@ -4,4 +4,7 @@
 
 mod laws;
 
-pub use laws::{index_text_has_one_version, index_text_has_sixty_four_bytes};
+pub use laws::{
+    index_text_has_one_version, index_text_has_sixty_four_bytes, index_text_tells_collection,
+    index_text_tells_version_and_collection,
+};
