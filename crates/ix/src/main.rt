@@ -11,17 +11,19 @@ use command::{command, refuse};
 use refusal::Refusal;
 use std::alloc::AllocError;
 use std::env;
+use std::io::ErrorKind;
 use std::process::ExitCode;
 
 fn main(rt: HostRuntime) -> ExitCode {
-    let mut err = rt.stderr();
-    let Ok(args) = env::args(&rt) else {
-        return ExitCode::from(refuse(&mut err, Refusal::Arguments));
+    let refusal = match env::args(&rt) {
+        Ok(args) => match run(&rt, args) {
+            Ok(status) => return ExitCode::from(status),
+            Err(AllocError) => Refusal::Memory,
+        },
+        Err(error) if error.kind() == ErrorKind::OutOfMemory => Refusal::Memory,
+        Err(_) => Refusal::Arguments,
     };
-    match run(&rt, args) {
-        Ok(status) => ExitCode::from(status),
-        Err(AllocError) => ExitCode::from(refuse(&mut err, Refusal::Memory)),
-    }
+    ExitCode::from(refuse(&mut rt.stderr(), refusal))
 }
 
 /// Does what the words after the program's name ask for.

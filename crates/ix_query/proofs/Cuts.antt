@@ -13,11 +13,8 @@ use Rattle.ix_query.specs.QueryErrors.{◌>>=◌}
 use Rattle.ix_query.specs.Cutting.{IsRunOf, EndsRun, IsLexeme, opened, closed, quoted, run, AreLexemes, none, space, lexeme}
 use Rattle.ix_query.specs.Lexemes.{Sign, Quoted, Lexeme, At, ends_run, is_quotation_mark, run_reading, run_front, quoted_reading, front_reading, with_sign, lexemes_from, lexemes_of}
 use Rattle.ix_query.proofs.LexemeLists.{skipped_dropped}
+use Rattle.ix_query.proofs.Results.{bind_ok}
 use Rattle.ix_query.proofs.RunSigns.{chosen, never, run_sound, run_complete}
-
-pub bind_ok : {A B : Type 0} (r : Result A QueryError) (f : A → Result B QueryError) (y : B) → (r >>= f) ≡ Ok y → (x : A) × (r ≡ Ok x) × (f x ≡ Ok y)
-bind_ok (Ok x) f y is = (x, refl, is)
-bind_ok (Err e) f y is = absurd (cc)
 
 abbrev fine : {A : Type 0} → A → Result A QueryError
 fine x = Ok x

@@ -7,7 +7,7 @@ use Rattle.std.specs.List.{AllByRecursion}
 use Rattle.ix_text.specs.TokenLists.{Entry}
 use Rattle.ix_query.specs.declared.query.Query.{Query}
 use Rattle.ix_query.specs.declared.query.Query.TheOpen.{Query-F}
-use Rattle.ix_query.specs.declared.query.Query.TheFolds.{rec-Query, rec-roll-Query, map-Query}
+use Rattle.ix_query.specs.declared.query.Query.TheFolds.{rec-roll-Query, map-Query}
 use Rattle.ix_query.specs.declared.query.Query.TheVariants.{Phrase, Near, Pattern, And, Or, Not, rolls-Phrase, rolls-Near, rolls-Pattern, rolls-And, rolls-Or, rolls-Not}
 use Rattle.ix_query.specs.Satisfaction.{Satisfies, IsAsked, HoldsOfOne, HasPhrase, AreNear, HasMatch}
 

@@ -1,6 +1,6 @@
 -- Scans: one more document, and that a query has one scan.
 use Rattle.std.proofs.Common.{◌≡◌, ℕ, zero, suc, ◌+◌, ◌<◌, ◌≤◌, ◌⊎◌, inl, inr, List, [], ◌∷◌, ◌++◌, Some, map, length, get_or, refl, sym, ◌∙◌, ap, ap₂, subst, arith, length-append}
-use Rattle.std.proofs.lemmas.Bool.{cases_lt, cases_order}
+use Rattle.std.proofs.lemmas.Bool.{cases_lt}
 use Rattle.std.proofs.lemmas.List.{length-map, get_or_default, get_or_append_left, get_or_push}
 use Rattle.std.proofs.lemmas.List.Elements.{Contains-push, Contains-append_left, Contains-push_cases}
 use Rattle.std.proofs.lemmas.List.Kept.{AllPairs-from_increasing}
@@ -8,7 +8,7 @@ use Rattle.std.proofs.lemmas.Option.{slice_get-map, slice_get_read, slice_get_wi
 use Rattle.std.specs.Prelude.{◌↔◌, Contains, AllPairs, slice_get, option_map}
 use Rattle.std.specs.List.Sorted.{IsStrictlyIncreasing}
 use Rattle.ix_text.specs.Collections.{Collection, Document, NamedText, collection_of}
-use Rattle.ix_text.specs.TokenLists.{Entry, token_list}
+use Rattle.ix_text.specs.TokenLists.{token_list}
 use Rattle.ix_query.specs.declared.query.Query.{Query}
 use Rattle.ix_query.specs.Satisfaction.{Satisfies}
 use Rattle.ix_query.specs.Scans.{IsScan, SatisfiesAt}

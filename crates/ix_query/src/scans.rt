@@ -8,12 +8,12 @@ ghost use Rattle.ix_query.specs.Scans.{IsScan};
 
 use crate::query::Query;
 use crate::satisfaction::satisfies;
-use ix_text::{Doc, Memory, StopList, tokens};
+use ix_text::{Doc, Memory, StopList, write_tokens};
 use std::alloc::Global;
 
 /// The numbers of the documents that satisfy the query, from 0, ascending (IIR 1.3).
 ///
-/// Each token list is made once, and one is kept at a time. Every faster answer is compared with this one.
+/// Each token list is made once, and over the one before. Every faster answer is compared with this one.
 pub fn scan(
     alloc: Global,
     documents: &[Doc<'_>],
@@ -24,9 +24,10 @@ pub fn scan(
     ensures { IfOk result (λ numbers. IsScan (collection_of stop.now (map named_text documents.now)) query.now numbers.items) }
 {
     let mut found = Vec::new(alloc);
+    let mut list = Vec::new(alloc);
     for (number, document) in documents.iter().enumerate() {
-        let list = tokens(alloc, document.text, stop)?;
-        if satisfies(list.as_slice(), query) {
+        let count = write_tokens(alloc, &mut list, document.text, stop)?;
+        if satisfies(&list[..count], query) {
             found.push(number as u32)?;
         }
     }

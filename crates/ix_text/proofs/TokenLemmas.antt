@@ -1,5 +1,5 @@
 -- Token lists: which entry a term gives, and one more entry.
-use Rattle.std.proofs.Common.{◌≡◌, ℕ, Bool, true, false, not, ◌&&◌, cond, List, [], ◌∷◌, ◌++◌, map, bytes_eq, Some, None, Contains, refl, ap, ap₂, ◌∙◌, append_assoc}
+use Rattle.std.proofs.Common.{◌≡◌, ℕ, ◌+◌, ◌↔◌, Bool, IsTrue, true, false, not, ◌&&◌, cond, List, [], ◌∷◌, ◌++◌, map, bytes_eq, Some, None, Contains, refl, sym, ap, ap₂, ◌∙◌, append_assoc, take}
 use Rattle.std.proofs.lemmas.Bool.Decides.{Decides-by_or}
 use Rattle.std.proofs.lemmas.List.{map-append}
 use Rattle.std.proofs.lemmas.List.Elements.{Decides-contains}
@@ -36,6 +36,38 @@ entry_of_term-stopped stop term has = ap (λ b. entry_by (is_term_size term) b t
 pub entry_of_term-wrong_size : (stop : List (List ℕ)) (term : List ℕ) → is_term_size term ≡ false → entry_of_term stop term ≡ None
 unfolding entry_of_term entry_by
 entry_of_term-wrong_size stop term size = ap (λ a. entry_by a (is_stop_term stop term) term) size
+
+same_decided : (a b : Bool) (P : Type 0) → IsTrue a ↔ P → Decides b P → a ≡ b
+same_decided true b P i d = sym (d.1 (i.0 refl))
+same_decided false false P i d = refl
+same_decided false true P i d = let t : false ≡ true = i.1 (d.0 refl) in absurd (cc)
+
+-- whether a list keeps a term
+abbrev pub keeps : List (List ℕ) → List ℕ → Bool
+keeps stop term = is_term_size term && not (is_stop_term stop term)
+
+-- a term of lawful size is kept just where it was not looked up
+pub keeps-by_search : (stop : List (List ℕ)) (term : List ℕ) (size held : Bool) → size ≡ is_term_size term → size ≡ true → IsTrue held ↔ Contains stop term → not held ≡ keeps stop term
+keeps-by_search stop term size held same lawful looked_up =
+    let e : true ≡ is_term_size term = sym lawful ∙ same in
+    ap₂ (λ a b. a && not b) e (same_decided held (is_stop_term stop term) (Contains stop term) looked_up (is_stop_term-Decides stop term))
+
+-- a term is the entry just where it is kept
+pub entry_of_term-keeps : (stop : List (List ℕ)) (term shown : List ℕ) (kept : Bool) → shown ≡ term → kept ≡ keeps stop shown → kept ≡ true → Some shown ≡ entry_of_term stop term
+unfolding entry_of_term
+entry_of_term-keeps stop term shown kept same tested is =
+    let e : keeps stop term ≡ true = ap (keeps stop) (sym same) ∙ sym tested ∙ is in
+    ap Some same ∙ sym (ap (λ b. cond b (Some term) None) e)
+
+pub entry_of_term-drops : (stop : List (List ℕ)) (term shown : List ℕ) (kept : Bool) → shown ≡ term → kept ≡ keeps stop shown → kept ≡ false → None ≡ entry_of_term stop term
+unfolding entry_of_term
+entry_of_term-drops stop term shown kept same tested is =
+    let e : keeps stop term ≡ false = ap (keeps stop) (sym same) ∙ sym tested ∙ is in
+    sym (ap (λ b. cond b (Some term) None) e)
+
+-- one more place is done
+pub taken_more : {A : Type 0} (shown : A → Entry) (old more : List A) (place : ℕ) (entry : Entry) (left : List Entry) (all : List Entry) → map shown (take (place + 1) more) ≡ map shown (take place old) ++ entry ∷ [] → map shown (take place old) ++ entry ∷ left ≡ all → map shown (take (place + 1) more) ++ left ≡ all
+taken_more shown old more place entry left all here so_far = ap (λ l. l ++ left) here ∙ append_assoc (map shown (take place old)) (entry ∷ []) left ∙ so_far
 
 -- one more entry is done, and one word fewer is left
 pub entries-push : {A : Type 0} (shown : A → Entry) (entry : List ℕ → Entry) (done : List A) (x : A) (word : List ℕ) (left : List (List ℕ)) → shown x ≡ entry word → map shown (done ++ x ∷ []) ++ map entry left ≡ map shown done ++ map entry (word ∷ left)

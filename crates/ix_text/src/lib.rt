@@ -20,5 +20,5 @@ pub use parts::{
 pub use sink::{WriteRefused, flush, put_all};
 pub use stop::{StopError, StopList, has_stop_set_or_a_fault};
 pub use term::{equal_terms_match, term_of};
-pub use token::{lawful_collection, tokens};
+pub use token::{lawful_collection, tokens, write_tokens};
 pub use windows::{TrigramWindows, trigrams, trigrams_stand_by_place};

@@ -1,4 +1,4 @@
-ghost use Rattle.std.specs.Prelude.{◌≡◌, ◌↔◌, ℕ, ◌<◌, ◌⊎◌, List, All, map, chars, encode_utf8_all, string_bytes, IsTrue, IfOk};
+ghost use Rattle.std.specs.Prelude.{◌≡◌, ◌↔◌, ℕ, ◌<◌, ◌⊎◌, List, All, map, chars, encode_utf8_all, string_bytes, IsTrue, IfOk, OnOk};
 ghost use Rattle.std.specs.Char.{to_ascii_lowercase};
 ghost use Rattle.std.specs.List.{list_any};
 ghost use Rattle.caseless.specs.Caseless.{IsCanonicalMatch, default_case_fold};
@@ -27,6 +27,20 @@ pub fn term_of(alloc: Global, word: &str) -> Result<String, Memory>
         return fold(alloc, decomposed.as_str());
     }
     fold(alloc, word)
+}
+
+/// Makes the text the term of the word, over what it held. After `Memory` it holds some text.
+pub(crate) fn write_term(alloc: Global, term: &mut String, word: &str) -> Result<(), Memory>
+    ensures { OnOk result (string_bytes term.new ≡ term_of_word word.now) }
+{
+    if word.is_ascii() {
+        term.clear();
+        term.push_str(word)?;
+        term.make_ascii_lowercase();
+    } else {
+        *term = term_of(alloc, word)?;
+    }
+    Ok(())
 }
 
 /// Whether the text is ASCII without a capital letter.

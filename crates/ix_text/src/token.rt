@@ -1,10 +1,11 @@
-ghost use Rattle.std.specs.Prelude.{◌≡◌, ℕ, ◌≤◌, List, All, map, length, option_map, string_bytes, IsUtf8, IfOk};
+ghost use Rattle.std.specs.Prelude.{◌≡◌, ℕ, ◌+◌, ◌<◌, ◌≤◌, ◌&&◌, not, List, [], ◌∷◌, ◌++◌, All, map, take, length, option_map, string_bytes, vec_len, IsUtf8, IfOk, OnOk};
 ghost use Rattle.ix_text.specs.CollectionText.{IsCollectionText};
 ghost use Rattle.ix_text.specs.Collections.{NamedText, collection_of, IsLawful, IsLawfulEntry};
 ghost use Rattle.ix_text.specs.StopSets.{IsStopSet};
 ghost use Rattle.ix_text.specs.Terms.{term_of_word};
-ghost use Rattle.ix_text.specs.TokenLists.{entry_of_term, is_term_size, token_list};
+ghost use Rattle.ix_text.specs.TokenLists.{entry_of_term, is_stop_term, is_term_size, token_list};
 
+use crate::term::write_term;
 use crate::{Memory, StopList, term_of};
 use std::alloc::Global;
 use unicode_segmentation::UnicodeSegmentation;
@@ -15,21 +16,87 @@ pub fn tokens(alloc: Global, text: &str, stop: &StopList) -> Result<Vec<Option<S
     ensures { IfOk result (λ list. map (option_map string_bytes) list.items ≡ token_list stop.now text.now) }
 {
     let mut list = Vec::new(alloc);
-    for word in text.unicode_words() {
-        list.push(entry_of(alloc, word, stop)?)?;
-    }
+    let count = write_tokens(alloc, &mut list, text, stop)?;
+    list.truncate(count);
     Ok(list)
+}
+
+/// Writes the token list of the text over the front of the list, and answers how many entries that are. What follows
+/// is left from earlier texts: one list serves text after text, and its strings are written over, so that few are
+/// allocated. After `Memory` no entry is known.
+pub fn write_tokens(
+    alloc: Global,
+    list: &mut Vec<Option<String>>,
+    text: &str,
+    stop: &StopList,
+) -> Result<usize, Memory>
+    ensures within { IfOk result (λ count. count ≤ vec_len list.new) }
+    ensures front { IfOk result (λ count. map (option_map string_bytes) (take count list.new.items) ≡ token_list stop.now text.now) }
+{
+    let mut count = 0;
+    for word in text.unicode_words() {
+        write_entry_at(alloc, list, count, word, stop)?;
+        count += 1;
+    }
+    Ok(count)
+}
+
+/// Makes the entry at the place, or behind the last one, that of the word.
+fn write_entry_at(
+    alloc: Global,
+    list: &mut Vec<Option<String>>,
+    place: usize,
+    word: &str,
+    stop: &StopList,
+) -> Result<(), Memory>
+    requires { place ≤ vec_len list.old }
+    ensures within { OnOk result (place < vec_len list.new) }
+    ensures entry { OnOk result (map (option_map string_bytes) (take (place + 1) list.new.items)
+        ≡ map (option_map string_bytes) (take place list.old.items) ++ entry_of_term stop.now (term_of_word word.now) ∷ []) }
+{
+    if place == list.len() {
+        list.push(entry_of(alloc, word, stop)?)?;
+        return Ok(());
+    }
+    write_entry(alloc, &mut list[place], word, stop)
+}
+
+/// Makes the entry that of the word.
+fn write_entry(
+    alloc: Global,
+    entry: &mut Option<String>,
+    word: &str,
+    stop: &StopList,
+) -> Result<(), Memory>
+    ensures { OnOk result (option_map string_bytes entry.new ≡ entry_of_term stop.now (term_of_word word.now)) }
+{
+    let Some(term) = entry else {
+        *entry = entry_of(alloc, word, stop)?;
+        return Ok(());
+    };
+    write_term(alloc, term, word)?;
+    if !is_kept(term, stop) {
+        *entry = None;
+    }
+    Ok(())
 }
 
 fn entry_of(alloc: Global, word: &str, stop: &StopList) -> Result<Option<String>, Memory>
     ensures { IfOk result (λ entry. option_map string_bytes entry ≡ entry_of_term stop.now (term_of_word word.now)) }
 {
     let term = term_of(alloc, word)?;
-    if has_term_size(&term) && !stop.contains(&term) {
+    if is_kept(&term, stop) {
         Ok(Some(term))
     } else {
         Ok(None)
     }
+}
+
+/// Whether a token list keeps the term.
+fn is_kept(term: &str, stop: &StopList) -> bool
+    ensures { result ≡ (is_term_size term.now && not (is_stop_term stop.now term.now)) }
+{
+    has_term_size(term) && !stop.contains(term)
 }
 
 /// Whether the term has 1 to 255 bytes.
@@ -51,15 +118,20 @@ mod tests {
     use super::*;
     use std::test::Fail;
 
-    /// Whether the tokens of a text under a stop text are these, the empty text standing for nothing.
-    fn has_tokens(alloc: Global, text: &str, stop: &str, want: &[&str]) -> Result<bool, Fail> {
-        let stop = StopList::read(alloc, stop)?;
-        let list = tokens(alloc, text, &stop)?;
+    /// Whether a list is these tokens, the empty text standing for nothing.
+    fn are_tokens(list: &[Option<String>], want: &[&str]) -> bool {
         let same = list.iter().zip(want).all(|(token, term)| match token {
             Some(token) => token.as_str() == *term,
             None => term.is_empty(),
         });
-        Ok(same && list.len() == want.len())
+        same && list.len() == want.len()
+    }
+
+    /// Whether the tokens of a text under a stop text are these.
+    fn has_tokens(alloc: Global, text: &str, stop: &str, want: &[&str]) -> Result<bool, Fail> {
+        let stop = StopList::read(alloc, stop)?;
+        let list = tokens(alloc, text, &stop)?;
+        Ok(are_tokens(&list, want))
     }
 
     #[test]
@@ -70,6 +142,21 @@ mod tests {
         let flights = ["flights", "", "london"];
         assert!(rt; has_tokens(rt.alloc(), "flights to london", "To\n", &flights)?);
         assert!(rt; has_tokens(rt.alloc(), " ... ", "", &[])?);
+        Ok(())
+    }
+
+    #[test]
+    fn one_list_serves_text_after_text(rt: HostRuntime) -> Result<(), Fail> {
+        let stop = StopList::read(rt.alloc(), "to")?;
+        let mut list = Vec::new(rt.alloc());
+        let count = write_tokens(rt.alloc(), &mut list, "Flights to Köln", &stop)?;
+        assert!(rt; are_tokens(&list[..count], &["flights", "", "köln"]));
+        let count = write_tokens(rt.alloc(), &mut list, "To Straße", &stop)?;
+        assert!(rt; are_tokens(&list[..count], &["", "strasse"]));
+        let count = write_tokens(rt.alloc(), &mut list, "Bonn a b c", &stop)?;
+        assert!(rt; are_tokens(&list[..count], &["bonn", "a", "b", "c"]));
+        assert_eq!(rt; write_tokens(rt.alloc(), &mut list, "", &stop)?, 0);
+        assert_eq!(rt; list.len(), 4);
         Ok(())
     }
 

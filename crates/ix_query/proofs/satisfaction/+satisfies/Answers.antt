@@ -1,5 +1,5 @@
 use Rattle.ix_query.specs.declared.query.Query.TheVariants as asks
-use Rattle.ix_query.proofs.SatisfactionLemmas.{satisfies-Phrase, satisfies-Near, satisfies-Pattern, satisfies-And, satisfies-Or, satisfies-Not, judged, negated, each_more, one_found, each_but, none_of}
+use Rattle.ix_query.proofs.SatisfactionLemmas.{satisfies-Phrase, satisfies-Near, satisfies-Pattern, satisfies-And, satisfies-Or, satisfies-Not, judged, negated}
 use Rattle.ix_query.proofs.satisfaction.+satisfies.Goals as goal
 
 pub satisfies-returns-in-Phrase : goal.satisfies-returns-in-Phrase

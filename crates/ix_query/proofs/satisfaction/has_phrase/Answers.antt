@@ -1,6 +1,5 @@
-use Rattle.std.proofs.Common.{refl, option_map, below_more}
+use Rattle.std.proofs.Common.{refl, below_more}
 use Rattle.std.proofs.lemmas.Bool.{iff_false}
-use Rattle.std.specs.Prelude.{string_bytes}
 use Rattle.ix_query.proofs.PositionLemmas.{phrase_from, no_phrase}
 use Rattle.ix_query.proofs.satisfaction.has_phrase.Goals as goal
 
