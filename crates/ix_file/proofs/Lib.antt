@@ -1,1 +1,4 @@
+pub mod DictionaryLemmas
+pub mod SpellLemmas
+pub mod TellingLemmas
 pub mod TextLaws

@@ -1,3 +1,10 @@
+pub mod Dictionaries
+pub mod Grams
+pub mod HeldGrams
 pub mod IndexText
 pub mod Laws
+pub mod PutErrors
+pub mod SectionSteps
 pub mod Sections
+pub mod Telling
+pub mod Told

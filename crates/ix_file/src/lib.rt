@@ -2,6 +2,15 @@
 //! Today this is its definition and what holds of it; its writer and its exact reader are to come.
 #![tactic(auto)]
 
+mod dictionary;
+mod grams;
 mod laws;
+mod list;
+mod put_error;
+mod sections;
+mod writer;
 
 pub use laws::{index_text_has_one_version, index_text_has_sixty_four_bytes};
+pub use put_error::PutError;
+pub use sections::Sections;
+pub use writer::IndexWriter;
