@@ -40,11 +40,11 @@ dictionary_none dictionary bytes count previous = record { bytes = bytes; count 
 dictionary_gained : (old new : Dictionary) (list : ListAtHand) (done : List DictionaryEntry) (entry : DictionaryEntry) → IsDictionaryOf old done → IsListOf list entry → GainsEntry old new list.term.items list.documents list.bytes → IsDictionaryOf new (done ++ entry ∷ [])
 dictionary_gained old new list done entry is of gain = record {
   bytes =
-    gain.bytes
-    ∙ append_assoc (old.bytes.items ++ grouped old.count old.previous.items list.term.items) (code_of list.documents) (code_of list.bytes)
-    ∙ append_assoc old.bytes.items (grouped old.count old.previous.items list.term.items) (code_of list.documents ++ code_of list.bytes)
-    ∙ ap₂ (λ bytes added. bytes ++ added) is.bytes same_added
-    ∙ sym (dictionary_section-push done entry);
+      gain.bytes
+      ∙ append_assoc (old.bytes.items ++ grouped old.count old.previous.items list.term.items) (code_of list.documents) (code_of list.bytes)
+      ∙ append_assoc old.bytes.items (grouped old.count old.previous.items list.term.items) (code_of list.documents ++ code_of list.bytes)
+      ∙ ap₂ (λ bytes added. bytes ++ added) is.bytes same_added
+      ∙ sym (dictionary_section-push done entry);
   count = gain.count ∙ ap (λ n. n + 1) is.count ∙ sym (length-append done (entry ∷ []));
   previous = gain.previous ∙ of.term ∙ sym (last_term-push [] done entry);
 }

@@ -77,9 +77,9 @@ list_posted old new entry document positions of term documents bytes next = reco
   term = ap (λ v. v.items) term ∙ of.term;
   documents = documents ∙ ap (λ n. n + 1) of.documents ∙ sym (length-append entry.postings ((document, positions) ∷ []));
   bytes =
-    bytes ∙ ap₂ (λ n after. n + length (posting_bytes (document + 1 - after) (document, positions))) of.bytes of.next
-    ∙ sym (length-append (list_bytes entry.postings) (posting_bytes (document + 1 - next_after 0 (documents_of entry.postings)) (document, positions)))
-    ∙ ap length (sym (list_bytes_from-push 0 entry.postings (document, positions)));
+      bytes ∙ ap₂ (λ n after. n + length (posting_bytes (document + 1 - after) (document, positions))) of.bytes of.next
+      ∙ sym (length-append (list_bytes entry.postings) (posting_bytes (document + 1 - next_after 0 (documents_of entry.postings)) (document, positions)))
+      ∙ ap length (sym (list_bytes_from-push 0 entry.postings (document, positions)));
   next = next ∙ sym (next_after-push 0 (documents_of entry.postings) document) ∙ ap (λ numbers. next_after 0 numbers) (sym (map-append (λ posting. posting.0) entry.postings ((document, positions) ∷ [])));
 }
 
@@ -195,8 +195,8 @@ spelled_posting before now old pending told document positions kept may more spe
       gone = spells.gone;
       gained = spells.gained;
       spelled =
-        ap (λ bytes. spells.gone ++ bytes) (more ∙ ap (λ after. old.pending.items ++ posting_bytes (document + 1 - after) (document, positions)) (next_of old told may.entry kept may.at_hand))
-        ∙ sym (append_assoc spells.gone old.pending.items added) ∙ ap (λ bytes. bytes ++ added) spells.spelled ∙ sym (text_of-posting told document positions may.entry may.at_hand);
+          ap (λ bytes. spells.gone ++ bytes) (more ∙ ap (λ after. old.pending.items ++ posting_bytes (document + 1 - after) (document, positions)) (next_of old told may.entry kept may.at_hand))
+          ∙ sym (append_assoc spells.gone old.pending.items added) ∙ ap (λ bytes. bytes ++ added) spells.spelled ∙ sym (text_of-posting told document positions may.entry may.at_hand);
     }
 
 -- what went out is the front of what is settled with a posting

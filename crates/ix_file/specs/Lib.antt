@@ -1,9 +1,11 @@
 pub mod Dictionaries
+pub mod Endings
 pub mod Grams
 pub mod HeldGrams
 pub mod IndexText
 pub mod Laws
 pub mod PutErrors
+pub mod Rows
 pub mod SectionSteps
 pub mod Sections
 pub mod Telling

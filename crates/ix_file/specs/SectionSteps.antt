@@ -1,9 +1,43 @@
 -- What the steps of a writer do to what it keeps.
-use Rattle.std.specs.Prelude.{◌≡◌, ℕ, ◌+◌, ◌-◌, ◌<◌, List, [], ◌∷◌, ◌++◌, length}
+use Rattle.std.specs.Prelude.{◌≡◌, ℕ, ◌+◌, ◌-◌, ◌<◌, List, [], ◌∷◌, ◌++◌, length, None}
+use Rattle.ix_text.specs.Parts.{DocumentRow}
+use Rattle.ix_file.specs.IndexText.{magic}
+use Rattle.ix_file.specs.Sections.{FrontCoded, stop_section, documents_section}
 use Rattle.ix_vbyte.specs.Postings.{posting_bytes}
 use Rattle.ix_file.specs.declared.sections.Sections.{Sections}
 use Rattle.ix_file.specs.Dictionaries.{GainsEntry}
 use Rattle.ix_file.specs.HeldGrams.{HoldsGrams}
+
+-- nothing was told
+pub record IsEmpty (sections : Sections) : Type 0 where
+  pub ready : sections.refusal ≡ None
+  pub pending : sections.pending.items ≡ []
+  pub postings : sections.postings ≡ 0
+  pub no_document : sections.list.documents ≡ 0
+  pub no_bytes : sections.list.bytes ≡ 0
+  pub no_term : sections.list.term.items ≡ []
+  pub no_dictionary : sections.dictionary.bytes.items ≡ []
+  pub no_entry : sections.dictionary.count ≡ 0
+  pub no_previous : sections.dictionary.previous.items ≡ []
+  pub grams : HoldsGrams sections.grams []
+  pub stop : sections.stop.items ≡ []
+  pub documents : sections.documents.items ≡ []
+
+-- the stop terms and rows were told, and no term
+pub record Begins (sections : Sections) (stop : List (List ℕ)) (rows : List DocumentRow) : Type 0 where
+  pub ready : sections.refusal ≡ None
+  pub pending : sections.pending.items ≡ magic FrontCoded
+  pub postings : sections.postings ≡ 0
+  pub no_document : sections.list.documents ≡ 0
+  pub no_bytes : sections.list.bytes ≡ 0
+  pub no_term : sections.list.term.items ≡ []
+  pub no_dictionary : sections.dictionary.bytes.items ≡ []
+  pub no_entry : sections.dictionary.count ≡ 0
+  pub no_previous : sections.dictionary.previous.items ≡ []
+  pub grams : HoldsGrams sections.grams []
+  pub stop_terms : sections.stop.items ≡ stop_section stop
+  pub documents : sections.documents.items ≡ documents_section rows
+  pub counted : sections.rows ≡ length rows
 
 -- the coded stop terms and rows stay
 pub record KeepsFront (old new : Sections) : Type 0 where

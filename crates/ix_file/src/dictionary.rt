@@ -52,12 +52,7 @@ impl Dictionary {
 }
 
 /// Appends a term at its place in the dictionary, behind the term before.
-fn push_term(
-    out: &mut Vec<u8>,
-    place: u32,
-    before: &[u8],
-    term: &[u8],
-) -> Result<(), AllocError>
+fn push_term(out: &mut Vec<u8>, place: u32, before: &[u8], term: &[u8]) -> Result<(), AllocError>
     requires { length term.now < 2 ^ 32 }
     ensures { OnOk result (out.new.items ≡ out.old.items ++ grouped place before.now term.now) }
 {

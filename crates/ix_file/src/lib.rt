@@ -7,10 +7,13 @@ mod grams;
 mod laws;
 mod list;
 mod put_error;
+mod row;
 mod sections;
+mod trailer;
 mod writer;
 
 pub use laws::{index_text_has_one_version, index_text_has_sixty_four_bytes};
 pub use put_error::PutError;
+pub use row::DocRow;
 pub use sections::Sections;
 pub use writer::IndexWriter;

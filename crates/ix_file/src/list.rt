@@ -13,11 +13,12 @@ pub(crate) struct ListAtHand {
 }
 
 impl ListAtHand {
-    ghost use Rattle.std.specs.Prelude.{◌≡◌};
+    ghost use Rattle.std.specs.Prelude.{◌≡◌, []};
 
     /// No entry. Takes no memory.
     pub(crate) fn none(alloc: Global) -> ListAtHand
         ensures documents { result.documents ≡ 0 }
+        ensures term { result.term.items ≡ [] }
         ensures bytes { result.bytes ≡ 0 }
     {
         ListAtHand {

@@ -1,18 +1,23 @@
 //! A writer of the index text that is told its parts in order.
-ghost use Rattle.std.specs.Prelude.{◌≡◌, ◌≤◌, ◌<◌, ◌-◌, ◌^◌, ℕ, List, [], ◌∷◌, ◌++◌, Option, None, Some, length, OnOk, OnErr, IfErr};
-ghost use Rattle.std.specs.Io.KnownBytes.{Keeps};
+ghost use Rattle.std.specs.Prelude.{◌≡◌, ◌≤◌, ◌<◌, ◌-◌, ◌^◌, ℕ, List, [], ◌∷◌, ◌++◌, Option, None, Some, length, OnOk, OnErr, IfErr, All, map};
+ghost use Rattle.std.specs.Io.KnownBytes.{Appends, Keeps};
 ghost use Rattle.ix_vbyte.specs.Gaps.{Ascends};
+ghost use Rattle.ix_text.specs.Parts.{GramEntry, terms_of};
 ghost use Rattle.ix_text.specs.Sinks.{AppendsFront};
+ghost use Rattle.ix_file.specs.Endings.{IsFinished};
+ghost use Rattle.ix_file.specs.Grams.{AreGramsOfTerms};
+ghost use Rattle.ix_file.specs.IndexText.{layout};
+ghost use Rattle.ix_file.specs.Sections.{FrontCoded};
+ghost use Rattle.ix_file.specs.Rows.{row_of};
 ghost use Rattle.ix_file.specs.SectionSteps.{KeepsTold};
 ghost use Rattle.ix_file.specs.Telling.{IsTold, Spells, MayPost, CanPost, IsClosable, CanClose};
-ghost use Rattle.ix_file.specs.Told.{Told, with_term, with_posting, text_of};
+ghost use Rattle.ix_file.specs.Told.{Told, told_first, with_term, with_posting, entries_of, parts_of, text_of};
 
-use crate::{PutError, Sections};
-use ix_text::put_all;
+use crate::sections::FULL;
+use crate::{DocRow, PutError, Sections};
+use ix_text::{StopList, WriteRefused, flush, put_all};
+use std::alloc::Global;
 use std::io::Write;
-
-/// What is pending goes out once it has so many bytes.
-const FULL: usize = 1 << 16;
 
 /// A writer of the index text, version 2, of a collection that is told to it in the order of the text: postings
 /// go out as they are told, and what is kept until the end is the dictionary, the grams and the rows.
@@ -34,6 +39,28 @@ impl<'a, W, S: Drop> Drop for IndexWriter<'a, W, S> {
 }
 
 impl<'a, W: Write> IndexWriter<'a, W> {
+    /// Begins the text of a collection with this stop set and, in the order of their numbers, these documents.
+    /// Writes nothing yet. Where memory is refused, the writer's next call answers `Memory`.
+    pub fn begin(
+        alloc: Global,
+        out: &'a mut W,
+        stop: &StopList,
+        rows: &[DocRow<'_>],
+    ) -> IndexWriter<'a, W>
+        requires few { length rows.now < 2 ^ 32 }
+        requires names { All (λ row. length row.name.now < 2 ^ 32) rows.now }
+        ensures same_writer { result.out.ghost_name ≡ out.entry.ghost_name }
+        ensures nothing_written { result.out.now ≡ out.entry.now }
+        ensures told { result.sections.refusal ≡ None → IsTold (W.contents out.entry.now) (W.contents result.out.now) result.sections (told_first stop.now (map row_of rows.now)) }
+        ensures refused { (error : PutError) → result.sections.refusal ≡ Some error → error ≡ PutError.Memory }
+    {
+        let mut sections = Sections::empty(alloc);
+        if sections.begin(stop, rows).is_err() {
+            sections.refusal = Some(PutError::Memory);
+        }
+        IndexWriter { out, sections }
+    }
+
     /// Begins the entry of a term, of at most 255 bytes.
     pub fn term(&mut self, term: &str) -> Result<(), PutError>
         requires short { length term.now ≤ 255 }
@@ -73,6 +100,24 @@ impl<'a, W: Write> IndexWriter<'a, W> {
         Ok(())
     }
 
+    /// Finishes the entry at hand, writes what is not written yet, STOP, DOCS, DICTIONARY, GRAMS and the trailer,
+    /// and flushes.
+    fn complete(&mut self) -> Result<(), PutError>
+        requires may { self.old.sections.refusal ≡ None → CanClose self.old.sections }
+        ensures same_writer { self.new.out.ghost_name ≡ self.old.out.ghost_name }
+        ensures told { (before : Option (List ℕ)) (told : Told) → IsTold before (W.contents self.old.out.now) self.old.sections told → IsClosable told → OnOk result (IsFinished before (W.contents self.new.out.now) told) }
+        ensures front { (before : Option (List ℕ)) (told : Told) → IsTold before (W.contents self.old.out.now) self.old.sections told → IsClosable told → (grams : List GramEntry) → AreGramsOfTerms (terms_of (entries_of told)) grams → OnErr result (AppendsFront before (W.contents self.new.out.now) (layout FrontCoded (parts_of told) grams)) }
+        ensures failed { (error : PutError) → self.old.sections.refusal ≡ Some error → (result ≡ Err error) × Keeps (W.contents self.old.out.now) (W.contents self.new.out.now) }
+    {
+        self.sections.take_up()?;
+        self.sections.close()?;
+        let ending = self.sections.ending()?;
+        self.send()?;
+        put_tail(self.out, &self.sections, ending.as_slice())?;
+        flush(self.out)?;
+        Ok(())
+    }
+
     /// Writes what is pending, if it is enough to be worth a write.
     #[inline]
     fn send_if_full(&mut self) -> Result<(), PutError>
@@ -103,4 +148,16 @@ impl<'a, W: Write> IndexWriter<'a, W> {
         self.sections.pending.clear();
         Ok(())
     }
+}
+
+/// Writes STOP, DOCS and DICTIONARY, and the ending behind them.
+fn put_tail<W: Write>(out: &mut W, sections: &Sections, ending: &[u8]) -> Result<(), WriteRefused>
+    ensures whole { OnOk result (Appends (W.contents out.old) (W.contents out.new) (sections.now.stop.items ++ sections.now.documents.items ++ sections.now.dictionary.bytes.items ++ ending.now)) }
+    ensures front { OnErr result (AppendsFront (W.contents out.old) (W.contents out.new) (sections.now.stop.items ++ sections.now.documents.items ++ sections.now.dictionary.bytes.items ++ ending.now)) }
+{
+    put_all(out, sections.stop.as_slice())?;
+    put_all(out, sections.documents.as_slice())?;
+    put_all(out, sections.dictionary.bytes.as_slice())?;
+    put_all(out, ending)?;
+    Ok(())
 }
