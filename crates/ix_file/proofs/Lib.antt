@@ -1,5 +1,10 @@
 pub mod DictionaryLemmas
+pub mod EndingLemmas
+pub mod GramLists
+pub mod HeldLemmas
+pub mod PairOrder
 pub mod SectionLemmas
 pub mod SpellLemmas
 pub mod TellingLemmas
+pub mod TermPairs
 pub mod TextLaws

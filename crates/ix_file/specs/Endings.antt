@@ -2,16 +2,17 @@
 use Rattle.std.specs.Prelude.{◌≡◌, ℕ, List, ◌++◌, Option, length}
 use Rattle.std.specs.Int.{to_le_bytes, w32, w64}
 use Rattle.std.specs.Io.KnownBytes.{Appends}
+use Rattle.ix_text.specs.Collections.{Collection}
 use Rattle.ix_text.specs.Parts.{GramEntry, terms_of}
 use Rattle.ix_file.specs.Grams.{AreGramsOfTerms}
-use Rattle.ix_file.specs.IndexText.{end_mark, layout}
+use Rattle.ix_file.specs.IndexText.{IsIndexText, end_mark, layout}
 use Rattle.ix_file.specs.Sections.{FrontCoded, grams_section}
 use Rattle.ix_file.specs.Told.{Told, entries_of, parts_of}
 use Rattle.ix_file.specs.declared.sections.Sections.{Sections}
 use Rattle.ix_file.specs.declared.trailer.Trailer.{Trailer}
 
 -- the lengths of the five sections, the numbers of rows and entries, and the mark of the end
-abbrev pub trailer_bytes : Trailer → List ℕ
+unfoldable pub trailer_bytes : Trailer → List ℕ
 trailer_bytes trailer =
     to_le_bytes w64 trailer.postings ++ to_le_bytes w64 trailer.stop ++ to_le_bytes w64 trailer.documents
     ++ to_le_bytes w64 trailer.dictionary ++ to_le_bytes w64 trailer.grams ++ to_le_bytes w32 trailer.rows
@@ -41,3 +42,9 @@ pub record IsFinished (before now : Option (List ℕ)) (told : Told) : Type 0 wh
   pub grams : List GramEntry
   pub of_terms : AreGramsOfTerms (terms_of (entries_of told)) grams
   pub written : Appends before now (layout FrontCoded (parts_of told) grams)
+
+-- A whole index text of the collection went out since `before`.
+pub record WritesIndexText (before now : Option (List ℕ)) (collection : Collection) : Type 0 where
+  pub text : List ℕ
+  pub of_collection : IsIndexText FrontCoded collection text
+  pub written : Appends before now text

@@ -12,7 +12,10 @@ mod sections;
 mod trailer;
 mod writer;
 
-pub use laws::{index_text_has_one_version, index_text_has_sixty_four_bytes};
+pub use laws::{
+    grams_of_the_vocabulary, index_text_has_one_version, index_text_has_sixty_four_bytes,
+    terms_have_one_gram_list,
+};
 pub use put_error::PutError;
 pub use row::DocRow;
 pub use sections::Sections;

@@ -125,6 +125,7 @@ impl Sections {
 
     /// GRAMS and the trailer, after the last entry was closed.
     pub(crate) fn ending(&mut self) -> Result<Vec<u8>, AllocError>
+        requires { (terms : List (List ℕ)) × HoldsGrams self.old.grams terms }
         ensures ending { (terms : List (List ℕ)) → HoldsGrams self.old.grams terms → IfOk result (λ ending. IsEnding self.old terms ending.items) }
         ensures kept { self.new ≡ record self.old { grams = self.new.grams } }
     {

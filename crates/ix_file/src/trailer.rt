@@ -32,6 +32,7 @@ impl Trailer {
         out.extend_from_slice(&self.grams.to_le_bytes())?;
         out.extend_from_slice(&self.rows.to_le_bytes())?;
         out.extend_from_slice(&self.entries.to_le_bytes())?;
-        out.extend_from_slice(END_MARK)
+        out.extend_from_slice(END_MARK)?;
+        Ok(())
     }
 }

@@ -2,9 +2,10 @@
 ghost use Rattle.std.specs.Prelude.{◌≡◌, ◌≤◌, ◌<◌, ◌-◌, ◌^◌, ℕ, List, [], ◌∷◌, ◌++◌, Option, None, Some, length, OnOk, OnErr, IfErr, All, map};
 ghost use Rattle.std.specs.Io.KnownBytes.{Appends, Keeps};
 ghost use Rattle.ix_vbyte.specs.Gaps.{Ascends};
-ghost use Rattle.ix_text.specs.Parts.{GramEntry, terms_of};
+ghost use Rattle.ix_text.specs.Collections.{Collection, IsLawful};
+ghost use Rattle.ix_text.specs.Parts.{ArePartsOf, GramEntry, terms_of};
 ghost use Rattle.ix_text.specs.Sinks.{AppendsFront};
-ghost use Rattle.ix_file.specs.Endings.{IsFinished};
+ghost use Rattle.ix_file.specs.Endings.{IsFinished, WritesIndexText};
 ghost use Rattle.ix_file.specs.Grams.{AreGramsOfTerms};
 ghost use Rattle.ix_file.specs.IndexText.{layout};
 ghost use Rattle.ix_file.specs.Sections.{FrontCoded};
@@ -98,6 +99,22 @@ impl<'a, W: Write> IndexWriter<'a, W> {
         self.send_if_full()?;
         self.sections.refusal = None;
         Ok(())
+    }
+
+    /// Finishes the text: its last entry, what is not written yet, and everything behind POSTINGS; and flushes.
+    pub fn finish(mut self) -> Result<(), PutError>
+        requires may { self.sections.refusal ≡ None → CanClose self.sections }
+        ensures told { (before : Option (List ℕ)) (told : Told) → IsTold before (W.contents self.entry.out.now) self.entry.sections told → IsClosable told → OnOk result (IsFinished before (W.contents self.exit.0.now) told) }
+        ensures front { (before : Option (List ℕ)) (told : Told) → IsTold before (W.contents self.entry.out.now) self.entry.sections told → IsClosable told → (grams : List GramEntry) → AreGramsOfTerms (terms_of (entries_of told)) grams → OnErr result (AppendsFront before (W.contents self.exit.0.now) (layout FrontCoded (parts_of told) grams)) }
+        ensures index_text { (before : Option (List ℕ)) (told : Told) (collection : Collection) → IsTold before (W.contents self.entry.out.now) self.entry.sections told → IsClosable told → IsLawful collection → ArePartsOf collection (parts_of told) → OnOk result (WritesIndexText before (W.contents self.exit.0.now) collection) }
+        ensures failed { (error : PutError) → self.entry.sections.refusal ≡ Some error → (result ≡ Err error) × Keeps (W.contents self.entry.out.now) (W.contents self.exit.0.now) }
+    {
+        let completed = self.complete();
+        let IndexWriter {
+            out: _,
+            sections: _,
+        } = self;
+        completed
     }
 
     /// Finishes the entry at hand, writes what is not written yet, STOP, DOCS, DICTIONARY, GRAMS and the trailer,

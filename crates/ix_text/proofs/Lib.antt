@@ -1,3 +1,4 @@
+pub mod AscendingLists
 pub mod CollectionLaws
 pub mod CollectionLemmas
 pub mod CollectionTold
