@@ -1,9 +1,16 @@
+pub mod Beginnings
 pub mod DictionaryLemmas
+pub mod DictionaryTold
 pub mod EndingLemmas
+pub mod EntryLemmas
 pub mod GramLists
+pub mod GramOrder
 pub mod HeldLemmas
+pub mod IndexTold
+pub mod PairGrams
 pub mod PairOrder
 pub mod SectionLemmas
+pub mod SectionSizes
 pub mod SpellLemmas
 pub mod TellingLemmas
 pub mod TermPairs

@@ -1,5 +1,7 @@
 pub mod Dictionaries
 pub mod Endings
+pub mod GramEntries
+pub mod GramLaws
 pub mod Grams
 pub mod HeldGrams
 pub mod IndexText

@@ -6,6 +6,7 @@ mod dictionary;
 mod grams;
 mod laws;
 mod list;
+mod output;
 mod put_error;
 mod row;
 mod sections;
@@ -14,7 +15,7 @@ mod writer;
 
 pub use laws::{
     grams_of_the_vocabulary, index_text_has_one_version, index_text_has_sixty_four_bytes,
-    terms_have_one_gram_list,
+    index_text_tells_collection, index_text_tells_version_and_collection, terms_have_one_gram_list,
 };
 pub use put_error::PutError;
 pub use row::DocRow;

@@ -14,9 +14,9 @@ ghost use Rattle.ix_file.specs.SectionSteps.{KeepsTold};
 ghost use Rattle.ix_file.specs.Telling.{IsTold, Spells, MayPost, CanPost, IsClosable, CanClose};
 ghost use Rattle.ix_file.specs.Told.{Told, told_first, with_term, with_posting, entries_of, parts_of, text_of};
 
-use crate::sections::FULL;
+use crate::output::{complete, send_if_full};
 use crate::{DocRow, PutError, Sections};
-use ix_text::{StopList, WriteRefused, flush, put_all};
+use ix_text::StopList;
 use std::alloc::Global;
 use std::io::Write;
 
@@ -96,85 +96,20 @@ impl<'a, W: Write> IndexWriter<'a, W> {
     {
         self.sections.take_up()?;
         self.sections.stage(document, positions)?;
-        self.send_if_full()?;
+        send_if_full(self.out, &mut self.sections)?;
         self.sections.refusal = None;
         Ok(())
     }
 
     /// Finishes the text: its last entry, what is not written yet, and everything behind POSTINGS; and flushes.
-    pub fn finish(mut self) -> Result<(), PutError>
+    pub fn finish(self) -> Result<(), PutError>
         requires may { self.sections.refusal ≡ None → CanClose self.sections }
         ensures told { (before : Option (List ℕ)) (told : Told) → IsTold before (W.contents self.entry.out.now) self.entry.sections told → IsClosable told → OnOk result (IsFinished before (W.contents self.exit.0.now) told) }
         ensures front { (before : Option (List ℕ)) (told : Told) → IsTold before (W.contents self.entry.out.now) self.entry.sections told → IsClosable told → (grams : List GramEntry) → AreGramsOfTerms (terms_of (entries_of told)) grams → OnErr result (AppendsFront before (W.contents self.exit.0.now) (layout FrontCoded (parts_of told) grams)) }
         ensures index_text { (before : Option (List ℕ)) (told : Told) (collection : Collection) → IsTold before (W.contents self.entry.out.now) self.entry.sections told → IsClosable told → IsLawful collection → ArePartsOf collection (parts_of told) → OnOk result (WritesIndexText before (W.contents self.exit.0.now) collection) }
         ensures failed { (error : PutError) → self.entry.sections.refusal ≡ Some error → (result ≡ Err error) × Keeps (W.contents self.entry.out.now) (W.contents self.exit.0.now) }
     {
-        let completed = self.complete();
-        let IndexWriter {
-            out: _,
-            sections: _,
-        } = self;
-        completed
+        let IndexWriter { out, mut sections } = self;
+        complete(out, &mut sections)
     }
-
-    /// Finishes the entry at hand, writes what is not written yet, STOP, DOCS, DICTIONARY, GRAMS and the trailer,
-    /// and flushes.
-    fn complete(&mut self) -> Result<(), PutError>
-        requires may { self.old.sections.refusal ≡ None → CanClose self.old.sections }
-        ensures same_writer { self.new.out.ghost_name ≡ self.old.out.ghost_name }
-        ensures told { (before : Option (List ℕ)) (told : Told) → IsTold before (W.contents self.old.out.now) self.old.sections told → IsClosable told → OnOk result (IsFinished before (W.contents self.new.out.now) told) }
-        ensures front { (before : Option (List ℕ)) (told : Told) → IsTold before (W.contents self.old.out.now) self.old.sections told → IsClosable told → (grams : List GramEntry) → AreGramsOfTerms (terms_of (entries_of told)) grams → OnErr result (AppendsFront before (W.contents self.new.out.now) (layout FrontCoded (parts_of told) grams)) }
-        ensures failed { (error : PutError) → self.old.sections.refusal ≡ Some error → (result ≡ Err error) × Keeps (W.contents self.old.out.now) (W.contents self.new.out.now) }
-    {
-        self.sections.take_up()?;
-        self.sections.close()?;
-        let ending = self.sections.ending()?;
-        self.send()?;
-        put_tail(self.out, &self.sections, ending.as_slice())?;
-        flush(self.out)?;
-        Ok(())
-    }
-
-    /// Writes what is pending, if it is enough to be worth a write.
-    #[inline]
-    fn send_if_full(&mut self) -> Result<(), PutError>
-        ensures same_writer { self.new.out.ghost_name ≡ self.old.out.ghost_name }
-        ensures kept { KeepsTold self.old.sections self.new.sections }
-        ensures refusal { self.new.sections.refusal ≡ self.old.sections.refusal }
-        ensures sent { (before : Option (List ℕ)) (text : List ℕ) → Spells before (W.contents self.old.out.now) self.old.sections.pending.items text → OnOk result (Spells before (W.contents self.new.out.now) self.new.sections.pending.items text) }
-        ensures front { (before : Option (List ℕ)) (text : List ℕ) → Spells before (W.contents self.old.out.now) self.old.sections.pending.items text → OnErr result (AppendsFront before (W.contents self.new.out.now) text) }
-        ensures error { IfErr result (λ error. error ≡ PutError.Write) }
-    {
-        if self.sections.pending.len() < FULL {
-            return Ok(());
-        }
-        self.send()
-    }
-
-    /// Writes what is pending.
-    fn send(&mut self) -> Result<(), PutError>
-        ensures same_writer { self.new.out.ghost_name ≡ self.old.out.ghost_name }
-        ensures kept { KeepsTold self.old.sections self.new.sections }
-        ensures refusal { self.new.sections.refusal ≡ self.old.sections.refusal }
-        ensures empty { OnOk result (self.new.sections.pending.items ≡ []) }
-        ensures sent { (before : Option (List ℕ)) (text : List ℕ) → Spells before (W.contents self.old.out.now) self.old.sections.pending.items text → OnOk result (Spells before (W.contents self.new.out.now) self.new.sections.pending.items text) }
-        ensures front { (before : Option (List ℕ)) (text : List ℕ) → Spells before (W.contents self.old.out.now) self.old.sections.pending.items text → OnErr result (AppendsFront before (W.contents self.new.out.now) text) }
-        ensures error { IfErr result (λ error. error ≡ PutError.Write) }
-    {
-        put_all(self.out, self.sections.pending.as_slice())?;
-        self.sections.pending.clear();
-        Ok(())
-    }
-}
-
-/// Writes STOP, DOCS and DICTIONARY, and the ending behind them.
-fn put_tail<W: Write>(out: &mut W, sections: &Sections, ending: &[u8]) -> Result<(), WriteRefused>
-    ensures whole { OnOk result (Appends (W.contents out.old) (W.contents out.new) (sections.now.stop.items ++ sections.now.documents.items ++ sections.now.dictionary.bytes.items ++ ending.now)) }
-    ensures front { OnErr result (AppendsFront (W.contents out.old) (W.contents out.new) (sections.now.stop.items ++ sections.now.documents.items ++ sections.now.dictionary.bytes.items ++ ending.now)) }
-{
-    put_all(out, sections.stop.as_slice())?;
-    put_all(out, sections.documents.as_slice())?;
-    put_all(out, sections.dictionary.bytes.as_slice())?;
-    put_all(out, ending)?;
-    Ok(())
 }

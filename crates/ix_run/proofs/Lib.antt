@@ -1,1 +1,2 @@
+pub mod RunTold
 pub mod TextLaws

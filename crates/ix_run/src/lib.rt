@@ -4,4 +4,6 @@
 
 mod laws;
 
-pub use laws::run_text_has_eighteen_bytes;
+pub use laws::{
+    no_run_text_begins_another, run_text_has_eighteen_bytes, run_text_tells_collection,
+};

@@ -5,6 +5,8 @@ pub mod CollectionTold
 pub mod FoldLemmas
 pub mod FoldTables
 pub mod LawfulLemmas
+pub mod PartsCounted
+pub mod PartsLawful
 pub mod PartsLemmas
 pub mod SinkLemmas
 pub mod StopSetLemmas

@@ -1,6 +1,6 @@
 use Rattle.std.proofs.Common.{◌++◌, sym, ap, ◌∙◌, append-nil}
 use Rattle.ix_file.specs.Rows.{row_of}
-use Rattle.ix_file.proofs.SectionLemmas.{documents_section-none, documents_section-more, row_appended}
+use Rattle.ix_file.proofs.Beginnings.{documents_section-none, documents_section-more, row_appended}
 use Rattle.ix_file.proofs.sections.push_rows.Goals as goal
 
 pub loop-row-init : goal.loop-row-init

@@ -1,7 +1,7 @@
 use Rattle.std.proofs.Common.{◌++◌, ◌≤◌, ◌≡◌, length, map, take, sym, ap, ◌∙◌, arith, append-nil, append_assoc, string_bytes}
 use Rattle.ix_vbyte.specs.Texts.{counted}
 use Rattle.ix_file.specs.Sections.{stop_section}
-use Rattle.ix_file.proofs.SectionLemmas.{stop_section-none, stop_section-more, short_term}
+use Rattle.ix_file.proofs.Beginnings.{stop_section-none, stop_section-more, short_term}
 use Rattle.ix_file.proofs.sections.push_stop.Goals as goal
 
 pub loop-term-init : goal.loop-term-init

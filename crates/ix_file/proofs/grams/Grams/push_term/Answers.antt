@@ -1,6 +1,4 @@
-use Rattle.std.proofs.Common.{◌+◌, [], ◌∷◌, ◌++◌, length, arith, length-append}
-use Rattle.ix_file.specs.HeldGrams.{HasPair}
-use Rattle.ix_file.specs.Grams.{IsGramOfTerm}
+use Rattle.std.proofs.Common.{[], ◌∷◌, arith, length-append}
 use Rattle.ix_file.proofs.HeldLemmas.{more_held}
 use Rattle.ix_file.proofs.grams.Grams.push_term.Goals as goal
 

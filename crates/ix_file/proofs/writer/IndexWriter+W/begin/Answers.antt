@@ -3,7 +3,7 @@ use Rattle.ix_file.specs.Rows.{row_of}
 use Rattle.ix_file.specs.Told.{told_first}
 use Rattle.ix_file.specs.Telling.{IsTold}
 use Rattle.ix_file.specs.declared.sections.Sections.{Sections}
-use Rattle.ix_file.proofs.SectionLemmas.{told_at_first, ok_of_no_error, not_refused}
+use Rattle.ix_file.proofs.Beginnings.{told_at_first, ok_of_no_error, not_refused}
 use Rattle.ix_file.proofs.writer.IndexWriter+W.begin.Goals as goal
 use Rattle.ix_file.proofs.writer.IndexWriter+W.begin.Goals.{then-is_err, else-is_err}
 use Rattle.std.proofs.Common.{map, ◌∙◌}

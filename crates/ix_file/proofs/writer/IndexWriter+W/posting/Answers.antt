@@ -15,7 +15,7 @@ returns-in_err-send_if_full-clause-front g c before told is may =
 pub returns-clause-told : goal.returns-clause-told
 returns-clause-told g c before told is may = record {
   ready = refl;
-  kept = posting_kept _ _ _ _ _ _ told c.args.document c.args.positions.now is.kept may c.requires.document c.requires.some c.requires.ascending c.take_up.ensures.set c.in_ok-stage.ensures.staged c.send_if_full.ensures.kept (refusal_set c.send_if_full.new.self.sections _ _ refl);
+  kept = posting_kept _ _ _ _ _ _ told c.args.document c.args.positions.now is.kept may c.requires.document c.requires.some c.requires.ascending c.take_up.ensures.set c.in_ok-stage.ensures.staged c.send_if_full.ensures.kept (refusal_set c.send_if_full.new.sections _ _ refl);
   written = c.in_ok-send_if_full.ensures.sent before _
       (posting_spelled before _ _ _ _ _ told c.args.document c.args.positions.now is.kept is.written may c.take_up.ensures.set c.in_ok-stage.ensures.staged);
 }

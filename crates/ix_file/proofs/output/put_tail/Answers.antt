@@ -1,6 +1,6 @@
 use Rattle.ix_text.proofs.SinkLemmas.{on_err_always, appends_then}
 use Rattle.ix_file.proofs.EndingLemmas.{front_more, front_then}
-use Rattle.ix_file.proofs.writer.put_tail.Goals as goal
+use Rattle.ix_file.proofs.output.put_tail.Goals as goal
 
 pub returns-in_err-put_all-clause-front : goal.returns-in_err-put_all-clause-front
 returns-in_err-put_all-clause-front g c =

@@ -1,6 +1,6 @@
 use Rattle.ix_text.proofs.SinkLemmas.{on_err_always}
 use Rattle.ix_file.proofs.SpellLemmas.{spells_sent, spells_front}
-use Rattle.ix_file.proofs.writer.IndexWriter+W.send.Goals as goal
+use Rattle.ix_file.proofs.output.send.Goals as goal
 
 pub returns-in_err-put_all-clause-front : goal.returns-in_err-put_all-clause-front
 returns-in_err-put_all-clause-front g c before text spells =
