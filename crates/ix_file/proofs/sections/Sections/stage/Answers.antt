@@ -1,4 +1,4 @@
-use Rattle.std.proofs.Common.{◌≡◌, ◌+◌, ◌-◌, ◌*◌, ◌≤◌, arith, ap, length, length-append, ◌++◌, ◌∙◌, sym}
+use Rattle.std.proofs.Common.{◌≡◌, ◌+◌, ◌-◌, ◌*◌, ◌≤◌, arith, ap, length, length-append, ◌++◌}
 use Rattle.ix_vbyte.specs.Postings.{posting_bytes}
 use Rattle.ix_vbyte.proofs.PostingLengths.{length-posting_bytes}
 use Rattle.ix_file.proofs.sections.Sections.stage.Goals as goal
