@@ -7,8 +7,8 @@ use Rattle.std.proofs.lemmas.List.Concat.{flat_map-append}
 use Rattle.ix_vbyte.specs.Gaps.{Ascends, next_after}
 use Rattle.ix_vbyte.specs.Postings.{documents_of, posting_bytes, list_bytes}
 use Rattle.ix_vbyte.proofs.Postings.{list_bytes_from-push}
-use Rattle.ix_vbyte.proofs.Gaps.{next_after-push}
-use Rattle.ix_vbyte.proofs.PostingLengths.{length-posting_bytes}
+use Rattle.ix_vbyte.proofs.Gaps.{length-Ascends, next_after-push}
+use Rattle.ix_vbyte.proofs.Sizes.{posting_short}
 use Rattle.ix_text.specs.Parts.{DictionaryEntry, DocumentRow, terms_of}
 use Rattle.ix_text.specs.Sinks.{AppendsFront}
 use Rattle.ix_file.specs.IndexText.{magic}
@@ -25,6 +25,12 @@ use Rattle.ix_file.proofs.DictionaryLemmas.{dictionary_closed, entries_closed}
 -- an entry without postings
 abbrev pub entry_of : List ℕ → DictionaryEntry
 entry_of term = record { term = term; postings = [] }
+
+-- a posting has at most fifteen bytes a position
+pub length-posting_bytes : (gap document : ℕ) (positions : List ℕ) → gap < 2 ^ 32 → 0 < length positions → Ascends 0 (2 ^ 32 - 1) positions → length (posting_bytes gap (document, positions)) ≤ 15 * length positions
+length-posting_bytes gap document positions fits some ascending =
+    posting_short gap (2 ^ 32 - 1) (document, positions) (omega arith) (omega (arith, length-Ascends 0 (2 ^ 32 - 1) positions (omega arith) ascending))
+    (record { some = some; positions = ascending }) (omega arith)
 
 -- ---- sections and counts of entries one after another
 postings_section-append : (one other : List DictionaryEntry) → postings_section (one ++ other) ≡ postings_section one ++ postings_section other

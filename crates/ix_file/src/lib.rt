@@ -15,7 +15,8 @@ mod writer;
 
 pub use laws::{
     grams_of_the_vocabulary, index_text_has_one_version, index_text_has_sixty_four_bytes,
-    index_text_tells_collection, index_text_tells_version_and_collection, terms_have_one_gram_list,
+    index_text_tells_collection, index_text_tells_version_and_collection,
+    settled_front_begins_index_text, terms_have_one_gram_list,
 };
 pub use put_error::PutError;
 pub use row::DocRow;

@@ -1,5 +1,5 @@
 //! A writer of the index text that is told its parts in order.
-ghost use Rattle.std.specs.Prelude.{◌≡◌, ◌≤◌, ◌<◌, ◌-◌, ◌^◌, ℕ, List, [], ◌∷◌, ◌++◌, Option, None, Some, length, OnOk, OnErr, IfErr, All, map};
+ghost use Rattle.std.specs.Prelude.{◌≡◌, ◌≤◌, ◌<◌, ◌-◌, ◌^◌, ℕ, List, [], ◌∷◌, ◌++◌, ◌⊎◌, Option, None, Some, length, OnOk, OnErr, IfErr, All, map};
 ghost use Rattle.std.specs.Io.KnownBytes.{Appends, Keeps};
 ghost use Rattle.ix_vbyte.specs.Gaps.{Ascends};
 ghost use Rattle.ix_text.specs.Collections.{Collection, IsLawful};
@@ -92,6 +92,7 @@ impl<'a, W: Write> IndexWriter<'a, W> {
         ensures front { (before : Option (List ℕ)) (told : Told) → IsTold before (W.contents self.old.out.now) self.old.sections told → MayPost told document (length positions.now) → OnErr result (AppendsFront before (W.contents self.new.out.now) (text_of (with_posting told document positions.now))) }
         ensures refused { OnErr result (self.new.sections.refusal ≡ Some PutError.Failed) }
         ensures failed { (error : PutError) → self.old.sections.refusal ≡ Some error → (result ≡ Err error) × Keeps (W.contents self.old.out.now) (W.contents self.new.out.now) }
+        ensures error { self.old.sections.refusal ≡ None → IfErr result (λ error. (error ≡ PutError.Write) ⊎ (error ≡ PutError.Memory)) }
         ensures memory { IfErr result (λ error. error ≡ PutError.Memory → Keeps (W.contents self.old.out.now) (W.contents self.new.out.now)) }
     {
         self.sections.take_up()?;
@@ -107,6 +108,7 @@ impl<'a, W: Write> IndexWriter<'a, W> {
         ensures told { (before : Option (List ℕ)) (told : Told) → IsTold before (W.contents self.entry.out.now) self.entry.sections told → IsClosable told → OnOk result (IsFinished before (W.contents self.exit.0.now) told) }
         ensures front { (before : Option (List ℕ)) (told : Told) → IsTold before (W.contents self.entry.out.now) self.entry.sections told → IsClosable told → (grams : List GramEntry) → AreGramsOfTerms (terms_of (entries_of told)) grams → OnErr result (AppendsFront before (W.contents self.exit.0.now) (layout FrontCoded (parts_of told) grams)) }
         ensures index_text { (before : Option (List ℕ)) (told : Told) (collection : Collection) → IsTold before (W.contents self.entry.out.now) self.entry.sections told → IsClosable told → IsLawful collection → ArePartsOf collection (parts_of told) → OnOk result (WritesIndexText before (W.contents self.exit.0.now) collection) }
+        ensures error { self.entry.sections.refusal ≡ None → IfErr result (λ error. (error ≡ PutError.Write) ⊎ (error ≡ PutError.Memory)) }
         ensures failed { (error : PutError) → self.entry.sections.refusal ≡ Some error → (result ≡ Err error) × Keeps (W.contents self.entry.out.now) (W.contents self.exit.0.now) }
     {
         let IndexWriter { out, mut sections } = self;
