@@ -1,1 +1,3 @@
+pub mod CodedLists
+pub mod Dictionaries
 pub mod TextLaws

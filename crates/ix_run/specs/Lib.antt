@@ -1,2 +1,5 @@
+pub mod Dictionaries
+pub mod Inverted
 pub mod Laws
 pub mod RunText
+pub mod TermLists

@@ -2,6 +2,8 @@
 //! the run as a value, its writer and its exact reader are to come.
 #![tactic(auto)]
 
+mod dictionary;
 mod laws;
+mod term_list;
 
 pub use laws::run_text_has_eighteen_bytes;

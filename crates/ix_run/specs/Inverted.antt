@@ -1,0 +1,39 @@
+-- Inverted documents: which terms occur where, and the postings that a term's occurrences make (IIR 1.2, 2.4.2).
+use Rattle.std.specs.Prelude.{ℕ, ◌+◌, ◌==◌, List, [], ◌∷◌, ◌++◌, Some, None, fold, bytes_eq, if◌then◌else◌}
+use Rattle.ix_text.specs.Collections.{Document}
+use Rattle.ix_text.specs.Parts.{Posting}
+use Rattle.ix_text.specs.TokenLists.{Entry}
+
+-- a term stands in the document of that number at that position
+pub record Occurrence : Type 0 where
+  pub term : List ℕ
+  pub document : ℕ
+  pub position : ℕ
+
+-- the terms of a token list, whose first entry stands at that position of that document
+abbrev pub occurrences_in : ℕ → ℕ → List Entry → List Occurrence
+occurrences_in document position [] = []
+occurrences_in document position (None ∷ entries) = occurrences_in document (position + 1) entries
+occurrences_in document position (Some term ∷ entries) =
+    record { term = term; document = document; position = position } ∷ occurrences_in document (position + 1) entries
+
+-- the terms of documents, the first of which has that number
+abbrev pub occurrences_of : ℕ → List Document → List Occurrence
+occurrences_of number [] = []
+occurrences_of number (document ∷ documents) = occurrences_in number 0 document.tokens ++ occurrences_of (number + 1) documents
+
+-- the postings with one more position: in the last posting, if it is of that document, or in a new one behind it
+abbrev pub grown : List Posting → ℕ → ℕ → List Posting
+grown [] document position = (document, position ∷ []) ∷ []
+grown (posting ∷ []) document position =
+    if posting.0 == document then (document, posting.1 ++ position ∷ []) ∷ [] else posting ∷ (document, position ∷ []) ∷ []
+grown (posting ∷ next ∷ postings) document position = posting ∷ grown (next ∷ postings) document position
+
+-- the postings with one more occurrence, which counts where it is of the term
+abbrev pub posted : List ℕ → List Posting → Occurrence → List Posting
+posted term postings occurrence =
+    if bytes_eq occurrence.term term then grown postings occurrence.document occurrence.position else postings
+
+-- the postings that a term has in occurrences
+abbrev pub postings_of : List ℕ → List Occurrence → List Posting
+postings_of term occurrences = fold (posted term) [] occurrences
