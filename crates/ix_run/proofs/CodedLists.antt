@@ -1,5 +1,5 @@
 -- The bytes of a term's list, a position or a posting at a time.
-use Rattle.std.proofs.Common.{◌≡◌, ℕ, ◌+◌, ◌-◌, ◌<◌, ◌==◌, Bool, List, [], ◌∷◌, ◌++◌, length, map, refl, sym, ap, ap₂, ◌∙◌, subst, arith, eq-eqb, Result, Ok, Err, is_ok, if◌then◌else◌, OnOk}
+use Rattle.std.proofs.Common.{◌≡◌, ℕ, ◌+◌, ◌-◌, ◌<◌, ◌==◌, Bool, List, [], ◌∷◌, ◌++◌, length, map, refl, sym, ap, ap₂, ◌∙◌, subst, arith, eq-eqb, Result, Ok, Err, is_ok, if◌then◌else◌, IfOk, OnOk}
 use Rattle.std.proofs.lemmas.Bool.{ne_eqb}
 use Rattle.std.proofs.lemmas.Grind.{flat_map-append}
 use Rattle.std.proofs.lemmas.List.{append_assoc, append-nil, map-append, length_push}
@@ -24,7 +24,7 @@ codes_of_gaps-push positions position =
 -- the coded list with one more posting, as three appends leave it
 pub list_bytes-push : (front : List Posting) (document : ℕ) (positions : List ℕ)
     → ((list_bytes front ++ code_of (document + 1 - next_after 0 (documents_of front))) ++ code_of (length positions)) ++ codes_of (gaps_of positions)
-      ≡ list_bytes (front ++ (document, positions) ∷ [])
+    ≡ list_bytes (front ++ (document, positions) ∷ [])
 list_bytes-push front document positions =
     let gap = code_of (document + 1 - next_after 0 (documents_of front)) in
     append_assoc (list_bytes front ++ gap) (code_of (length positions)) (codes_of (gaps_of positions))
@@ -129,3 +129,8 @@ on_ok_appended (Err e) now was more is shows = tt
 pub on_ok_two : {T E : Type 0} {P Q R : Type 0} (result : Result T E) → OnOk result P → OnOk result Q → (P → Q → R) → OnOk result R
 on_ok_two (Ok x) one other shows = shows one other
 on_ok_two (Err e) one other shows = tt
+
+-- what a result that is well shows of another
+pub if_ok_then : {T E : Type 0} {P Q : T → Type 0} (result : Result T E) → IfOk result P → ((x : T) → P x → Q x) → IfOk result Q
+if_ok_then (Ok x) holds shows = shows x holds
+if_ok_then (Err e) holds shows = tt

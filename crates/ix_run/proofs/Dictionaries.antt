@@ -1,11 +1,13 @@
 -- One more occurrence in the dictionary.
-use Rattle.std.proofs.Common.{◌≡◌, ◌≢◌, ℕ, ◌+◌, ◌≤◌, Bool, true, false, cond, bytes_eq, List, [], ◌∷◌, ◌++◌, fold, Option, Some, None, MatchOption, IfSome, String, refl, sym, ap, subst, ◌∙◌, inl, inr, arith, if◌then◌else◌}
+use Rattle.std.proofs.Common.{◌≡◌, ◌≢◌, ℕ, ◌+◌, ◌<◌, ◌≤◌, Bool, true, false, cond, bytes_eq, List, [], ◌∷◌, ◌++◌, map, length, take, get_or, fold, Option, Some, None, MatchOption, IfSome, String, refl, sym, ap, subst, ◌∙◌, inl, inr, arith, if◌then◌else◌}
+use Rattle.std.proofs.lemmas.List.{append-nil, append_assoc, map-append, length-map, length-take-le, take_more}
 use Rattle.std.proofs.lemmas.List.Sums.{fold-append}
 use Rattle.std.proofs.lemmas.Slice.Eq.{bytes_eq-Decides}
 use Rattle.std.specs.HashMap.{HashMap, get_by_text}
 use Rattle.std.specs.Map.{update}
 use Rattle.ix_text.specs.Parts.{Posting}
-use Rattle.ix_run.specs.Inverted.{Occurrence, grown, posted, postings_of}
+use Rattle.ix_text.specs.TokenLists.{Entry}
+use Rattle.ix_run.specs.Inverted.{Occurrence, grown, occurrences_in, posted, postings_of}
 use Rattle.ix_run.specs.TermLists.{HoldsPostings, IsBefore, IsOpen}
 use Rattle.ix_run.specs.Dictionaries.{HoldsOccurrences, AreBefore}
 use Rattle.ix_run.specs.declared.term_list.TermList.{TermList}
@@ -124,3 +126,60 @@ first_before start list document position here same before documents next positi
 pub takes_old : (found : Option TermList) (old list : TermList) (document position : ℕ) → found ≡ Some old
     → ((postings : List Posting) → HoldsPostings old postings → HoldsPostings list (grown postings document position)) → Takes found list document position
 takes_old found old list document position is holds = let P : Option TermList → Type 0 = λ o. Takes o list document position in subst P (sym is) holds
+
+-- ---- token by token
+
+-- the one dictionary holds these occurrences beside those of the other
+pub record HoldsMore {Y S : Type 0} (old new : HashMap (String Y) TermList S) (more : List Occurrence) : Type 0 where
+  pub each : (occurrences : List Occurrence) → HoldsOccurrences old occurrences → HoldsOccurrences new (occurrences ++ more)
+
+pub holds_no_more : {Y S : Type 0} (dictionary : HashMap (String Y) TermList S) → HoldsMore dictionary dictionary []
+holds_no_more dictionary = record { each = λ occurrences holds. subst (HoldsOccurrences dictionary) (sym (append-nil occurrences)) holds }
+
+pub holds_more_again : {Y S : Type 0} (old middle new : HashMap (String Y) TermList S) (first second : List Occurrence) → HoldsMore old middle first
+    → ((occurrences : List Occurrence) → HoldsOccurrences middle occurrences → HoldsOccurrences new (occurrences ++ second)) → HoldsMore old new (first ++ second)
+holds_more_again old middle new first second one other = record {
+  each = λ occurrences holds. subst (HoldsOccurrences new) (append_assoc occurrences first second) (other (occurrences ++ first) (one.each occurrences holds));
+}
+
+pub occurrences_in-append : (document position : ℕ) (xs ys : List Entry) → occurrences_in document position (xs ++ ys) ≡ occurrences_in document position xs ++ occurrences_in document (position + length xs) ys
+occurrences_in-append document position [] ys = ap (λ n. occurrences_in document n ys) (omega arith)
+occurrences_in-append document position (None ∷ xs) ys =
+    occurrences_in-append document (position + 1) xs ys
+    ∙ ap (λ n. occurrences_in document (position + 1) xs ++ occurrences_in document n ys) (omega arith)
+occurrences_in-append document position (Some term ∷ xs) ys =
+    ap (λ rest. record { term = term; document = document; position = position } ∷ rest)
+    (occurrences_in-append document (position + 1) xs ys
+    ∙ ap (λ n. occurrences_in document (position + 1) xs ++ occurrences_in document n ys) (omega arith))
+
+-- the terms before the next position
+pub occurrences_in-more : {X : Type 0} (shown : X → Entry) (document : ℕ) (list : List X) (position : ℕ) (token : X) → position < length list → token ≡ get_or list position token
+    → occurrences_in document 0 (map shown (take (position + 1) list)) ≡ occurrences_in document 0 (map shown (take position list)) ++ occurrences_in document position (shown token ∷ [])
+occurrences_in-more shown document list position token within is =
+    let size : length (map shown (take position list)) ≡ position = length-map (take position list) shown ∙ length-take-le position list (omega arith) in
+    ap (λ xs. occurrences_in document 0 (map shown xs)) (take_more list position token within ∙ ap (λ x. take position list ++ x ∷ []) (sym is))
+    ∙ ap (occurrences_in document 0) (map-append shown (take position list) (token ∷ []))
+    ∙ occurrences_in-append document 0 (map shown (take position list)) (shown token ∷ [])
+    ∙ ap (λ n. occurrences_in document 0 (map shown (take position list)) ++ occurrences_in document n (shown token ∷ [])) (omega (arith, size))
+
+module _ {Y S : Type 0} (old middle now : HashMap (String Y) TermList S) (document position : ℕ) (seen seen' : List Occurrence) (entry : Entry)
+    (more : seen' ≡ seen ++ occurrences_in document position (entry ∷ [])) (so_far : HoldsMore old middle seen) where
+  -- an entry that is a term
+  pub posted_entry : (new : HashMap (String Y) TermList S) (term : List ℕ) → entry ≡ Some term → now ≡ new
+      → ((occurrences : List Occurrence) → HoldsOccurrences middle occurrences → HoldsOccurrences new (occurrences ++ record { term = term; document = document; position = position } ∷ []))
+      → HoldsMore old now seen'
+  posted_entry new term is same holds =
+      let P : List Occurrence → Type 0 = HoldsMore old now in
+      let Q : HashMap (String Y) TermList S → Type 0 = λ m. HoldsMore old m (seen ++ record { term = term; document = document; position = position } ∷ []) in
+      subst P (sym (more ∙ ap (λ e. seen ++ occurrences_in document position (e ∷ [])) is))
+      (subst Q (sym same) (holds_more_again old middle new seen (record { term = term; document = document; position = position } ∷ []) so_far holds))
+
+  -- an entry that is nothing
+  pub passed_entry : entry ≡ None → now ≡ middle → HoldsMore old now seen'
+  passed_entry is same =
+      let P : List Occurrence → Type 0 = HoldsMore old now in
+      let Q : HashMap (String Y) TermList S → Type 0 = λ m. HoldsMore old m seen in
+      subst P (sym (more ∙ ap (λ e. seen ++ occurrences_in document position (e ∷ [])) is ∙ append-nil seen)) (subst Q (sym same) so_far)
+
+pub same_before : {Y S : Type 0} (old new : HashMap (String Y) TermList S) (document position : ℕ) → new ≡ old → AreBefore old document position → AreBefore new document position
+same_before {Y} {S} old new document position same before = let P : HashMap (String Y) TermList S → Type 0 = λ m. AreBefore m document position in subst P (sym same) before

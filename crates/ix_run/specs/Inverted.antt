@@ -1,8 +1,8 @@
 -- Inverted documents: which terms occur where, and the postings that a term's occurrences make (IIR 1.2, 2.4.2).
-use Rattle.std.specs.Prelude.{ℕ, ◌+◌, ◌==◌, List, [], ◌∷◌, ◌++◌, Some, None, fold, bytes_eq, if◌then◌else◌}
-use Rattle.ix_text.specs.Collections.{Document}
+use Rattle.std.specs.Prelude.{ℕ, ◌+◌, ◌==◌, List, [], ◌∷◌, ◌++◌, map, length, sum_by, All, Some, None, fold, bytes_eq, if◌then◌else◌}
+use Rattle.ix_text.specs.Collections.{Document, IsLawfulEntry, IsName, NamedText}
 use Rattle.ix_text.specs.Parts.{Posting}
-use Rattle.ix_text.specs.TokenLists.{Entry}
+use Rattle.ix_text.specs.TokenLists.{Entry, token_list}
 
 -- a term stands in the document of that number at that position
 pub record Occurrence : Type 0 where
@@ -37,3 +37,19 @@ posted term postings occurrence =
 -- the postings that a term has in occurrences
 abbrev pub postings_of : List ℕ → List Occurrence → List Posting
 postings_of term occurrences = fold (posted term) [] occurrences
+
+-- the documents of named texts under a stop list
+abbrev pub document_of : List (List ℕ) → NamedText → Document
+document_of stop text = record { name = text.name; tokens = token_list stop text.text }
+
+abbrev pub documents_of : List (List ℕ) → List NamedText → List Document
+documents_of stop texts = map (document_of stop) texts
+
+-- the number of tokens of documents, entries that are nothing included
+abbrev pub tokens_of : List Document → ℕ
+tokens_of documents = sum_by (λ d. length d.tokens) documents
+
+-- a document that a lawful collection under this stop list may have
+pub record IsLawfulDocument (stop : List (List ℕ)) (document : Document) : Type 0 where
+  pub name : IsName document.name
+  pub entries : All (IsLawfulEntry stop) document.tokens

@@ -1,5 +1,8 @@
+pub mod CodedTerms
 pub mod Dictionaries
+pub mod Errors
 pub mod Inverted
 pub mod Laws
 pub mod RunText
+pub mod Runs
 pub mod TermLists

@@ -15,7 +15,7 @@ pub returns-clause-held : goal.returns-clause-held
 returns-clause-held c =
     held_one_more c.args.dictionary.now c.insert.new.self c.args.term.now c.add.new.self c.args.document c.args.position (updates c)
     (takes_new (get_by_text c.args.dictionary.now c.args.term.now) c.add.new.self c.args.document c.args.position c.requires.absent
-        (first_held c.new-list.result c.add.new.self c.args.document c.args.position c.new-list.ensures.document c.in_ok-add.ensures.document c.in_ok-add.ensures.held c.new-list.ensures.held))
+    (first_held c.new-list.result c.add.new.self c.args.document c.args.position c.new-list.ensures.document c.in_ok-add.ensures.document c.in_ok-add.ensures.held c.new-list.ensures.held))
 
 pub returns-clause-before : goal.returns-clause-before
 returns-clause-before c =

@@ -20,10 +20,10 @@ pub returns-in-Some-clause-held : goal.returns-in-Some-clause-held
 returns-in-Some-clause-held c =
     on_ok_two c.push.result c.push.ensures.held c.push.ensures.held
     (λ holds _. held_one_more c.args.dictionary.now (c.get_mut.follows.lender c.push.new.self) c.args.term.now c.push.new.self c.args.document c.args.position (updates c)
-        (takes_old (get_by_text c.args.dictionary.now c.args.term.now) c.in-Some.list.now c.push.new.self c.args.document c.args.position (sym c.in-Some.ensures.value) holds))
+    (takes_old (get_by_text c.args.dictionary.now c.args.term.now) c.in-Some.list.now c.push.new.self c.args.document c.args.position (sym c.in-Some.ensures.value) holds))
 
 pub returns-in-Some-clause-before : goal.returns-in-Some-clause-before
 returns-in-Some-clause-before c =
     on_ok_two c.push.result c.push.ensures.before c.push.ensures.before
     (λ before _. before_one_more c.args.dictionary.now (c.get_mut.follows.lender c.push.new.self) c.args.term.now c.push.new.self c.args.document c.args.position (updates c) c.args.document (c.args.position + 1)
-        before (lists_before_later c.args.dictionary.now c.args.document c.args.position c.requires.behind).each)
+    before (lists_before_later c.args.dictionary.now c.args.document c.args.position c.requires.behind).each)

@@ -1,0 +1,48 @@
+-- What a run is of a collection: its head, and each term's list coded as the run text has it.
+use Rattle.std.specs.Prelude.{◌≡◌, ℕ, ◌+◌, ◌^◌, ◌≤◌, ◌<◌, ◌⊎◌, List, map, length, string_bytes}
+use Rattle.ix_text.specs.Collections.{Collection, IsLawful, token_count}
+use Rattle.ix_text.specs.Parts.{Parts, DictionaryEntry, DocumentRow, ArePartsOf}
+use Rattle.ix_vbyte.specs.Postings.{list_bytes}
+use Rattle.ix_run.specs.declared.head.RunDoc.{RunDoc}
+use Rattle.ix_run.specs.declared.coded_term.CodedTerm.{CodedTerm}
+
+-- a term, the number of its documents, and the bytes of its list
+pub record TermValue : Type 0 where
+  pub term : List ℕ
+  pub documents : ℕ
+  pub list : List ℕ
+
+-- the first document's number, the stop terms, the rows of the documents, and the terms
+pub record RunValue : Type 0 where
+  pub first : ℕ
+  pub stop : List (List ℕ)
+  pub rows : List DocumentRow
+  pub terms : List TermValue
+
+-- a document of a head as its row
+abbrev pub row_shown : RunDoc → DocumentRow
+row_shown doc = record { name = string_bytes doc.name; tokens = doc.tokens }
+
+-- a term of a run as its value
+abbrev pub term_shown : CodedTerm → TermValue
+term_shown coded = record { term = string_bytes coded.term; documents = coded.documents; list = coded.list.items }
+
+-- a dictionary entry with its list coded
+abbrev pub coded : DictionaryEntry → TermValue
+coded entry = record { term = entry.term; documents = length entry.postings; list = list_bytes entry.postings }
+
+-- the run of these parts
+abbrev pub run_value : ℕ → Parts → RunValue
+run_value first parts = record { first = first; stop = parts.stop; rows = parts.rows; terms = map coded parts.entries }
+
+-- The run is that of the collection, its documents counted from this number.
+pub record IsRunOf (run : RunValue) (first : ℕ) (collection : Collection) : Type 0 where
+  pub lawful : IsLawful collection
+  pub within : first + length collection.documents ≤ 2 ^ 28
+  pub parts : Parts
+  pub of_collection : ArePartsOf collection parts
+  pub held : run ≡ run_value first parts
+
+-- no run holds the documents under these numbers, or so many tokens
+abbrev pub IsTooLarge : ℕ → Collection → Type 0
+IsTooLarge first collection = (2 ^ 28 < first + length collection.documents) ⊎ (2 ^ 28 < token_count collection)
