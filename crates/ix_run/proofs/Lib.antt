@@ -5,3 +5,4 @@ pub mod Inverting
 pub mod Postings
 pub mod Sorting
 pub mod TextLaws
+pub mod Writing

@@ -6,3 +6,4 @@ pub mod Laws
 pub mod RunText
 pub mod Runs
 pub mod TermLists
+pub mod Writing

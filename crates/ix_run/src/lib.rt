@@ -9,6 +9,7 @@ mod head;
 mod inversion;
 mod laws;
 mod run;
+mod run_text;
 mod term_list;
 
 pub use errors::{RunError, WriteError};
