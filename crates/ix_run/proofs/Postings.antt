@@ -106,7 +106,7 @@ postings_counted term documents = documents_fold term 0 documents [] tt
 
 -- ---- they are the term's postings
 
-positions_ascend : (term : List ℕ) (position top : ℕ) (entries : List Entry) → position + length entries ≤ top → Ascends position top (positions_at term position entries)
+pub positions_ascend : (term : List ℕ) (position top : ℕ) (entries : List Entry) → position + length entries ≤ top → Ascends position top (positions_at term position entries)
 positions_ascend term position top [] fits = tt
 positions_ascend term position top (None ∷ entries) fits =
     Ascends-lower (position + 1) position top (positions_at term (position + 1) entries) (omega arith) (positions_ascend term (position + 1) top entries (omega arith))

@@ -47,7 +47,7 @@ returns-in_err-put_texts g c =
     let counts : length c.terms-stop.result.now ≡ length c.args.head.now.stop = sym (length-map c.terms-stop.result.now string_bytes) ∙ ap length c.terms-stop.ensures.value in
     writes_refused _ _ _ _ c.from_residual-in_err-put_texts.ensures.0
     (front_more _ _ (numbers ++ count ++ stop) rows
-        (front_then _ _ _ (numbers ++ count) stop (appends_then _ _ _ numbers count (rw size at c.in_ok-put_numbers.ensures) (rw counts at c.in_ok-put_code.ensures)) (rw c.terms-stop.ensures.value at c.in_err-put_texts.ensures)))
+    (front_then _ _ _ (numbers ++ count) stop (appends_then _ _ _ numbers count (rw size at c.in_ok-put_numbers.ensures) (rw counts at c.in_ok-put_code.ensures)) (rw c.terms-stop.ensures.value at c.in_err-put_texts.ensures)))
 
 pub returns : goal.returns
 returns g c =
