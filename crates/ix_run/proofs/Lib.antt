@@ -1,2 +1,11 @@
 pub mod RunTold
+pub mod Blocks
+pub mod CodedLists
+pub mod Dictionaries
+pub mod Inverting
+pub mod Lengths
+pub mod Postings
+pub mod RunSizes
+pub mod Sorting
 pub mod TextLaws
+pub mod Writing

@@ -2,8 +2,21 @@
 //! the run as a value, its writer and its exact reader are to come.
 #![tactic(auto)]
 
+mod coded_term;
+mod dictionary;
+mod errors;
+mod head;
+mod inversion;
 mod laws;
+mod run;
+mod run_text;
+mod term_list;
 
 pub use laws::{
     no_run_text_begins_another, run_text_has_eighteen_bytes, run_text_tells_collection,
 };
+pub use errors::{RunError, WriteError};
+pub use head::{RunDoc, RunHead};
+pub use inversion::invert;
+pub use laws::run_text_has_eighteen_bytes;
+pub use run::Run;

@@ -1,0 +1,58 @@
+use Rattle.std.proofs.Common.{◌≡◌, ◌+◌, ◌<◌, ◌≤◌, ◌^◌, map, length, ap, sym, subst, ◌∙◌, refl, arith}
+use Rattle.std.proofs.lemmas.List.{length-map}
+use Rattle.std.proofs.lemmas.Result.{err_from_is_err_and}
+use Rattle.ix_text.specs.Collections.{collection_of}
+use Rattle.ix_text.specs.Docs.{named_text}
+use Rattle.ix_run.specs.Inverted.{document_of, documents_of, occurrences_of}
+use Rattle.ix_run.specs.Runs.{row_shown, term_shown}
+use Rattle.ix_run.specs.declared.errors.RunError.TheVariants.{TooLarge}
+use Rattle.ix_run.proofs.Blocks.{block_run, block_fits, numbers_too_large, tokens_too_large}
+use Rattle.ix_run.proofs.Lengths.{lists_short}
+use Rattle.ix_run.proofs.inversion.invert.Goals as goal
+use Rattle.ix_run.proofs.inversion.invert.Goals.{then-docs-gt-MAX_COUNT-via-then-docs-gt-MAX_COUNT, then-docs-gt-MAX_COUNT-via-else-docs-gt-MAX_COUNT+then-first-docs}
+
+pub returns-then-docs-gt-MAX_COUNT-clause-too_large : goal.returns-then-docs-gt-MAX_COUNT-clause-too_large
+returns-then-docs-gt-MAX_COUNT-clause-too_large c _ =
+    let size = length-map c.args.docs.now named_text in
+    numbers_too_large c.args.stop.now (map named_text c.args.docs.now) c.args.first
+    (elim c.then-docs-gt-MAX_COUNT.branch [
+      | then-docs-gt-MAX_COUNT-via-then-docs-gt-MAX_COUNT w ↦ omega (arith, size)
+      | then-docs-gt-MAX_COUNT-via-else-docs-gt-MAX_COUNT+then-first-docs w ↦ omega (arith, size)
+    ])
+
+pub returns-in_err-rows-clause-too_large : goal.returns-in_err-rows-clause-too_large
+returns-in_err-rows-clause-too_large c =
+    let p = err_from_is_err_and c.from_residual-in_err-rows.result c.from_residual-in_err-rows.ensures.1 in
+    rw (p.1, p.2)
+    (λ large.
+    let same : c.in_err-rows.field-0.0 ≡ TooLarge = cc in
+    tokens_too_large c.args.stop.now (map named_text c.args.docs.now) c.args.first (c.in_err-rows.ensures.many same))
+
+pub new-requires : goal.new-requires
+new-requires c =
+    let texts = map named_text c.args.docs.now in
+    let size = length-map c.args.docs.now named_text in
+    let documents = length-map texts (document_of c.args.stop.now) in
+    let terms = c.in_ok-terms.ensures (occurrences_of 0 (documents_of c.args.stop.now texts)) c.in_ok-rows.ensures.held in
+    record {
+      first = c.args.first;
+      collection = collection_of c.args.stop.now texts;
+      of_collection =
+          block_run c.args.stop.now texts c.args.first _ (map row_shown c.in_ok-rows.rows.items) c.in_ok-terms.terms.items c.in_ok-stop_terms.ensures.lawful c.in_ok-rows.ensures.lawful
+          (omega (arith, size)) c.in_ok-rows.ensures.few c.in_ok-rows.ensures.rows terms
+          (ap (λ stop. record { first = c.args.first; stop = stop; rows = map row_shown c.in_ok-rows.rows.items; terms = map term_shown c.in_ok-terms.terms.items }) c.in_ok-stop_terms.ensures.same);
+      short = lists_short (documents_of c.args.stop.now texts) c.in_ok-terms.terms.items (omega (arith, size, documents)) c.in_ok-rows.ensures.few terms;
+    }
+
+pub returns-clause-run : goal.returns-clause-run
+returns-clause-run c =
+    let texts = map named_text c.args.docs.now in
+    let size = length-map c.args.docs.now named_text in
+    block_run c.args.stop.now texts c.args.first c.new.result (map row_shown c.in_ok-rows.rows.items) c.in_ok-terms.terms.items c.in_ok-stop_terms.ensures.lawful c.in_ok-rows.ensures.lawful
+    (omega (arith, size)) c.in_ok-rows.ensures.few c.in_ok-rows.ensures.rows (c.in_ok-terms.ensures (occurrences_of 0 (documents_of c.args.stop.now texts)) c.in_ok-rows.ensures.held)
+    (c.new.ensures ∙ ap (λ stop. record { first = c.args.first; stop = stop; rows = map row_shown c.in_ok-rows.rows.items; terms = map term_shown c.in_ok-terms.terms.items }) c.in_ok-stop_terms.ensures.same)
+
+pub returns-clause-refused : goal.returns-clause-refused
+returns-clause-refused c = λ many.
+    let size = length-map c.args.docs.now named_text in
+    absurd (block_fits c.args.stop.now (map named_text c.args.docs.now) c.args.first (omega (arith, size)) c.in_ok-rows.ensures.few many)

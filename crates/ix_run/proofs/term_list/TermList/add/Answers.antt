@@ -1,0 +1,6 @@
+use Rattle.std.proofs.Common.{refl}
+use Rattle.ix_run.proofs.CodedLists.{added}
+use Rattle.ix_run.proofs.term_list.TermList.add.Goals as goal
+
+pub returns-clause-held : goal.returns-clause-held
+returns-clause-held c = added _ _ c.args.position refl refl refl refl refl c.in_ok-push_code.ensures.ok refl

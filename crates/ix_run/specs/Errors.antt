@@ -1,0 +1,15 @@
+-- The numbers of the errors of this crate, from 1.
+use Rattle.std.specs.Prelude.{ℕ}
+use Rattle.ix_run.specs.declared.errors.RunError.{RunError}
+use Rattle.ix_run.specs.declared.errors.RunError.TheVariants.{TooLarge, Memory}
+use Rattle.ix_run.specs.declared.errors.WriteError.{WriteError}
+use Rattle.ix_run.specs.declared.errors.WriteError.TheVariants.{Write}
+
+-- the number of a refusal to invert
+abbrev pub run_error_number : RunError → ℕ
+run_error_number TooLarge = 1
+run_error_number Memory = 2
+
+-- the number of a refusal to write
+abbrev pub write_error_number : WriteError → ℕ
+write_error_number Write = 1

@@ -1,0 +1,82 @@
+-- What a run is of a collection: its head, and each term's list coded as the run text has it.
+use Rattle.std.specs.Prelude.{◌≡◌, ℕ, ◌+◌, ◌^◌, ◌≤◌, ◌<◌, ◌⊎◌, List, [], ◌∷◌, ◌++◌, map, length, flat_map, codes, string_bytes, All}
+use Rattle.std.specs.Int.{to_le_bytes, w32}
+use Rattle.ix_text.specs.Collections.{Collection, IsLawful, token_count}
+use Rattle.ix_text.specs.Parts.{Parts, DictionaryEntry, DocumentRow, ArePartsOf}
+use Rattle.ix_vbyte.specs.Code.{code_of}
+use Rattle.ix_vbyte.specs.Postings.{list_bytes}
+use Rattle.ix_vbyte.specs.Texts.{counted}
+use Rattle.ix_run.specs.RunText.{row_bytes}
+use Rattle.ix_run.specs.declared.head.RunHead.{RunHead}
+use Rattle.ix_run.specs.declared.head.RunDoc.{RunDoc}
+use Rattle.ix_run.specs.declared.coded_term.CodedTerm.{CodedTerm}
+
+-- a term, the number of its documents, and the bytes of its list
+pub record TermValue : Type 0 where
+  pub term : List ℕ
+  pub documents : ℕ
+  pub list : List ℕ
+
+-- the first document's number, the stop terms, the rows of the documents, and the terms
+pub record RunValue : Type 0 where
+  pub first : ℕ
+  pub stop : List (List ℕ)
+  pub rows : List DocumentRow
+  pub terms : List TermValue
+
+-- a document of a head as its row
+abbrev pub row_shown : RunDoc → DocumentRow
+row_shown doc = record { name = string_bytes doc.name; tokens = doc.tokens }
+
+-- a term of a run as its value
+abbrev pub term_shown : CodedTerm → TermValue
+term_shown coded = record { term = string_bytes coded.term; documents = coded.documents; list = coded.list.items }
+
+-- a run of this head and these terms
+abbrev pub head_value : RunHead → List CodedTerm → RunValue
+head_value head terms = record { first = head.first; stop = head.stop; rows = map row_shown head.docs.items; terms = map term_shown terms }
+
+-- a dictionary entry with its list coded
+abbrev pub coded : DictionaryEntry → TermValue
+coded entry = record { term = entry.term; documents = length entry.postings; list = list_bytes entry.postings }
+
+-- the run of these parts
+abbrev pub run_value : ℕ → Parts → RunValue
+run_value first parts = record { first = first; stop = parts.stop; rows = parts.rows; terms = map coded parts.entries }
+
+-- The run is that of the collection, its documents counted from this number.
+pub record IsRunOf (run : RunValue) (first : ℕ) (collection : Collection) : Type 0 where
+  pub lawful : IsLawful collection
+  pub within : first + length collection.documents ≤ 2 ^ 28
+  pub parts : Parts
+  pub of_collection : ArePartsOf collection parts
+  pub held : run ≡ run_value first parts
+
+-- no run holds the documents under these numbers, or so many tokens
+abbrev pub IsTooLarge : ℕ → Collection → Type 0
+IsTooLarge first collection = (2 ^ 28 < first + length collection.documents) ⊎ (2 ^ 28 < token_count collection)
+
+-- a term with its list, as the run text has them
+abbrev pub value_bytes : TermValue → List ℕ
+value_bytes value = counted value.term ++ code_of value.documents ++ counted value.list
+
+-- the front of the run text of a run
+abbrev pub front_bytes : RunValue → List ℕ
+front_bytes run =
+    codes "PIIXRUN1" ++ to_le_bytes w32 run.first ++ to_le_bytes w32 (length run.rows) ++ code_of (length run.stop)
+    ++ flat_map counted run.stop ++ flat_map row_bytes run.rows
+
+-- the run text of a run
+unfoldable pub run_bytes : RunValue → List ℕ
+run_bytes run = front_bytes run ++ flat_map value_bytes run.terms ++ 128 ∷ []
+
+-- what may be counted in 32 bits
+abbrev pub IsShort : List ℕ → Type 0
+IsShort bytes = length bytes < 2 ^ 32
+
+-- What a run always is: a run of some lawful collection, whose lists are of a size that the run text can tell.
+pub record IsRun (run : RunValue) : Type 0 where
+  pub first : ℕ
+  pub collection : Collection
+  pub of_collection : IsRunOf run first collection
+  pub short : All (λ value. IsShort value.list) run.terms

@@ -1,0 +1,12 @@
+//! A term of a run.
+
+/// A term with its coded list.
+#[derive(Drop)]
+pub(crate) struct CodedTerm {
+    /// 1 to 255 bytes.
+    pub(crate) term: String,
+    /// How many documents have it.
+    pub(crate) documents: u32,
+    /// Its postings, as the run text has them, documents counted from 0 within the run.
+    pub(crate) list: Vec<u8>,
+}

@@ -1,0 +1,56 @@
+//! Runs: a block of documents inverted and sorted (IIR 4.3).
+
+use crate::coded_term::CodedTerm;
+use crate::errors::WriteError;
+use crate::head::RunHead;
+use crate::run_text::put_run;
+use std::io::Write;
+use std::marker::Model;
+
+/// A block of documents, inverted: what single-pass in-memory indexing leaves of it (IIR 4.3).
+#[derive(Drop)]
+pub struct Run {
+    head: RunHead,
+    terms: Vec<CodedTerm>,
+}
+
+impl Model for Run {
+    ghost use Rattle.ix_run.specs.Runs.{RunValue, IsRun, head_value};
+
+    ghost Value = { RunValue };
+
+    ghost view = { λ run. head_value run.head run.terms.items };
+
+    ghost invariant = { λ run. IsRun (head_value run.head run.terms.items) };
+}
+
+impl Run {
+    ghost use Rattle.std.specs.Prelude.{◌≡◌, ℕ, OnOk, OnErr};
+    ghost use Rattle.std.specs.Io.KnownBytes.{Appends};
+    ghost use Rattle.ix_text.specs.Collections.{Collection};
+    ghost use Rattle.ix_text.specs.Sinks.{AppendsFront};
+    ghost use Rattle.ix_run.specs.RunText.{IsRunText};
+    ghost use Rattle.ix_run.specs.Runs.{IsRun, IsRunOf, head_value, run_bytes};
+
+    /// The run of these parts.
+    pub(crate) fn new(head: RunHead, terms: Vec<CodedTerm>) -> Run
+        requires { IsRun (head_value head terms.items) }
+        ensures { result ≡ head_value head terms.items }
+    {
+        Run { head, terms }
+    }
+
+    /// Writes the run text, without a flush. Takes no memory.
+    ///
+    /// After a refusal, which is `Write`, a beginning of the text is out.
+    pub fn write_to<W: Write>(&self, out: &mut W) -> Result<(), WriteError>
+        ensures whole { OnOk result (Appends (W.contents out.old) (W.contents out.new) (run_bytes self.now)) }
+        ensures front { OnErr result (AppendsFront (W.contents out.old) (W.contents out.new) (run_bytes self.now)) }
+        ensures text { (first : ℕ) (collection : Collection) → IsRunOf self.now first collection → IsRunText first collection (run_bytes self.now) }
+    {
+        match put_run(out, &self.head, self.terms.as_slice()) {
+            Ok(()) => Ok(()),
+            Err(_) => Err(WriteError::Write),
+        }
+    }
+}
