@@ -1,2 +1,4 @@
+pub mod Heads
 pub mod Laws
 pub mod RunText
+pub mod Sources

@@ -2,6 +2,10 @@
 //! the run as a value, its writer and its exact reader are to come.
 #![tactic(auto)]
 
+mod head;
 mod laws;
+mod source;
 
+pub use head::{RunDoc, RunHead};
 pub use laws::run_text_has_eighteen_bytes;
+pub use source::Source;
