@@ -1,4 +1,7 @@
+pub mod CodeFaults
 pub mod Heads
+pub mod Inputs
 pub mod Laws
 pub mod RunText
+pub mod RunTextErrors
 pub mod Sources

@@ -2,10 +2,13 @@
 //! the run as a value, its writer and its exact reader are to come.
 #![tactic(auto)]
 
+mod errors;
 mod head;
+mod input;
 mod laws;
 mod source;
 
+pub use errors::RunTextError;
 pub use head::{RunDoc, RunHead};
 pub use laws::run_text_has_eighteen_bytes;
 pub use source::Source;
