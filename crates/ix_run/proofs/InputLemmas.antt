@@ -1,6 +1,6 @@
 -- What an input has left, from call to call.
-use Rattle.std.proofs.Common.{◌≡◌, ℕ, suc, ◌+◌, ◌-◌, ◌<◌, ◌≤◌, List, [], ◌∷◌, ◌++◌, Option, Some, None, length, take, drop, get_or, refl, sym, ap, ◌∙◌, subst, arith, append_assoc, zero, nat_lt, MatchBool}
-use Rattle.std.proofs.lemmas.List.{drop_more, get_or-take, length-take, length-drop, nil_from_length, get_or_read}
+use Rattle.std.proofs.Common.{◌≡◌, ℕ, suc, ◌+◌, ◌-◌, ◌<◌, ◌≤◌, List, [], ◌∷◌, ◌++◌, Option, Some, None, length, take, drop, get_or, refl, sym, ap, ◌∙◌, subst, arith, append_assoc, ap₂, take-append-drop, zero, nat_lt, MatchBool}
+use Rattle.std.proofs.lemmas.List.{drop_more, get_or-take, length-take, length-drop, nil_from_length, get_or_read, drop-take, take-take, drop-drop}
 use Rattle.std.proofs.lemmas.Bool.Decides.{nat_tests}
 use Rattle.std.proofs.KnownBytes.{Consumes-trans, Keeps-refl, prepend_known-read, prepend_known-nil}
 use Rattle.std.specs.Io.KnownBytes.{Consumes, IsAtEnd, Keeps, prepend_known}
@@ -56,3 +56,35 @@ byte_taken known buffer start end byte before kept lt le is =
     let same : byte ≡ get_or buffer start 0 = get_or_read buffer start byte (omega arith) is 0 in
     let e : held buffer start end ≡ (byte ∷ []) ++ held buffer (start + 1) end = held-byte buffer start end lt le ∙ ap (λ (b : ℕ). b ∷ held buffer (start + 1) end) (sym same) in
     Consumes-trans before (prepend_known (held buffer start end) known) (prepend_known (held buffer (start + 1) end) known) [] (byte ∷ []) (Consumes-from_keeps before (prepend_known (held buffer start end) known) kept) (held-moved known (held buffer start end) (byte ∷ []) (held buffer (start + 1) end) e)
+
+-- a front of what is held, as the slice of the buffer that it is
+pub held-range : (buffer : List ℕ) (start end count : ℕ) → start + count ≤ end → end ≤ length buffer
+    → held buffer start end ≡ take ((start + count) - start) (drop start buffer) ++ held buffer (start + count) end
+held-range buffer start end count le within =
+    let front : take count (held buffer start end) ≡ take ((start + count) - start) (drop start buffer) =
+    let n : (start + count) - start ≡ count = omega arith in
+    rw n (sym (drop-take start count (take end buffer)) ∙ ap (drop start) (take-take (start + count) end buffer le) ∙ drop-take start count buffer) in
+    sym (take-append-drop count (held buffer start end)) ∙ ap₂ (λ (xs ys : List ℕ). xs ++ ys) front (drop-drop count start (take end buffer))
+
+pub length-range : (buffer : List ℕ) (start end count : ℕ) → start + count ≤ end → end ≤ length buffer → length (take ((start + count) - start) (drop start buffer)) ≡ count
+length-range buffer start end count le within = omega (arith, length-take ((start + count) - start) (drop start buffer), length-drop start buffer)
+
+-- several bytes are taken
+pub part_taken : (known : Option (List ℕ)) (buffer : List ℕ) (start end count : ℕ) (before : Option (List ℕ)) → Keeps before (prepend_known (held buffer start end) known)
+    → start + count ≤ end → end ≤ length buffer → Consumes before (prepend_known (held buffer (start + count) end) known) (take ((start + count) - start) (drop start buffer))
+part_taken known buffer start end count before kept le within =
+    let part = take ((start + count) - start) (drop start buffer) in
+    Consumes-trans before (prepend_known (held buffer start end) known) (prepend_known (held buffer (start + count) end) known) [] part
+    (Consumes-from_keeps before (prepend_known (held buffer start end) known) kept)
+    (held-moved known (held buffer start end) part (held buffer (start + count) end) (held-range buffer start end count le within))
+
+-- what begins what is held is taken
+pub code_taken : (known : Option (List ℕ)) (buffer code : List ℕ) (start end count : ℕ) → start ≤ end → end ≤ length buffer → count ≡ length code
+    → take (end - start) (drop start buffer) ≡ code ++ drop count (take (end - start) (drop start buffer))
+    → Consumes (prepend_known (held buffer start end) known) (prepend_known (held buffer (start + count) end) known) code
+code_taken known buffer code start end count le within len front =
+    let all : held buffer start end ≡ take (end - start) (drop start buffer) =
+    let n : start + (end - start) ≡ end = omega arith in
+    ap (λ (k : ℕ). drop start (take k buffer)) (sym n) ∙ drop-take start (end - start) buffer in
+    held-moved known (held buffer start end) code (held buffer (start + count) end)
+    (all ∙ front ∙ ap (λ (xs : List ℕ). code ++ drop count xs) (sym all) ∙ ap (λ (xs : List ℕ). code ++ xs) (drop-drop count start (take end buffer)))

@@ -1,2 +1,3 @@
+pub mod CodeLemmas
 pub mod InputLemmas
 pub mod TextLaws
