@@ -1,3 +1,4 @@
 pub mod CodeLemmas
 pub mod InputLemmas
+pub mod SpelledLemmas
 pub mod TextLaws

@@ -4,6 +4,7 @@
 
 mod errors;
 mod head;
+mod heading;
 mod input;
 mod laws;
 mod source;
