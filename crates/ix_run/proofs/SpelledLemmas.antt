@@ -68,20 +68,29 @@ text_accepted (Some x) (Some y) taken text rest h len e =
       ap (λ (bytes : List ℕ). Some bytes) (sym (drop_at taken y (length text) len) ∙ ap (drop (length text)) same ∙ drop_at text rest (length text) refl),
     )
 
+-- ---- a number, and what it counts
+
+module _ (a : Option (List ℕ)) (number : ℕ) (body rest : List ℕ) (fits : number < 2 ^ 32) (e : a ≡ Some ((code_of number ++ body) ++ rest)) where
+  number_parts : a ≡ Some (code_of number ++ (body ++ rest))
+  number_parts = e ∙ ap (λ (bytes : List ℕ). Some bytes) (append_assoc (code_of number) body rest)
+
+  pub number_refused : (limit : ℕ) (error : RunTextError) → 5 ≤ limit → IfSome a (λ bytes. IsCodeFault limit bytes error) → IsRefusal error
+  number_refused limit error le h = code_refused a (body ++ rest) number limit error fits (omega (arith, length-code_of number fits)) number_parts h
+
+  pub number_accepted : (b : Option (List ℕ)) (taken : ℕ) → Consumes a b (code_of taken) → (taken ≡ number) × (b ≡ Some (body ++ rest))
+  number_accepted b taken h = code_accepted a b (body ++ rest) taken number h number_parts
+
 -- ---- a text behind the code of its length
 
 module _ (a : Option (List ℕ)) (text rest : List ℕ) (term : IsTerm text) (e : a ≡ Some (counted text ++ rest)) where
-  counted_parts : a ≡ Some (code_of (length text) ++ (text ++ rest))
-  counted_parts = e ∙ ap (λ (bytes : List ℕ). Some bytes) (append_assoc (code_of (length text)) text rest)
-
   few : length text < 2 ^ 32
   few = omega (arith, term.short)
 
   pub length_refused : (limit : ℕ) (error : RunTextError) → 5 ≤ limit → IfSome a (λ bytes. IsCodeFault limit bytes error) → IsRefusal error
-  length_refused limit error le h = code_refused a (text ++ rest) (length text) limit error few (omega (arith, length-code_of (length text) few)) counted_parts h
+  length_refused limit error le h = number_refused a (length text) text rest few e limit error le h
 
-  pub length_accepted : (b : Option (List ℕ)) (taken : ℕ) → Consumes a b (code_of taken) → (taken ≡ length text) × (b ≡ Some (text ++ rest))
-  length_accepted b taken h = code_accepted a b (text ++ rest) taken (length text) h counted_parts
+  length_accepted : (b : Option (List ℕ)) (taken : ℕ) → Consumes a b (code_of taken) → (taken ≡ length text) × (b ≡ Some (text ++ rest))
+  length_accepted b taken h = number_accepted a (length text) text rest few e b taken h
 
   pub length_in_range : (b : Option (List ℕ)) (taken : ℕ) → Consumes a b (code_of taken) → (taken ≡ 0) ⊎ (255 < taken) → ⊥
   length_in_range b taken h (inl none) = omega (arith, (length_accepted b taken h).0, term.some_byte)

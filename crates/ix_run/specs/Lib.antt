@@ -2,6 +2,8 @@ pub mod CodeFaults
 pub mod Heads
 pub mod Inputs
 pub mod Laws
+pub mod Orders
+pub mod Pieces
 pub mod RunText
 pub mod RunTextErrors
 pub mod Sources

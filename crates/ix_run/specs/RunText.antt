@@ -16,6 +16,10 @@ abbrev pub term_bytes : DictionaryEntry → List ℕ
 term_bytes entry =
     counted entry.term ++ code_of (length entry.postings) ++ counted (list_bytes entry.postings)
 
+-- the number of the stop terms, and each of them
+abbrev pub stop_bytes : List (List ℕ) → List ℕ
+stop_bytes stop = code_of (length stop) ++ flat_map counted stop
+
 -- the front of a run: magic, numbers, stop terms and documents
 unfoldable pub head_bytes : ℕ → Parts → List ℕ
 head_bytes first parts =

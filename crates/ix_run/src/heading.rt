@@ -16,7 +16,7 @@ use std::io::Read;
 const MAX_TEXT_BYTES: u32 = 255;
 
 /// More bytes than any code has.
-const CODE_LIMIT: usize = 8;
+pub(crate) const CODE_LIMIT: usize = 8;
 
 /// Takes a text of 1 to 255 bytes behind the code of that number.
 ///

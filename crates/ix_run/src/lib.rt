@@ -8,6 +8,7 @@ mod heading;
 mod input;
 mod laws;
 mod source;
+mod stop_terms;
 
 pub use errors::RunTextError;
 pub use head::{RunDoc, RunHead};

@@ -21,8 +21,9 @@ returns-then-length-eq0-clause-accepted g c text rest term e =
     let new = known_left g.R.Read.remaining c.code.new.self in
     absurd (length_in_range old text rest term e new c.in_ok-length.length c.in_ok-length.ensures.taken
     (elim c.then-length-eq0.branch [
-      then-length-eq0-via-then-length-eq0 w ↦ inl w.if-length-eq0.true
-    | then-length-eq0-via-else-length-eq0+then-length-gt-MAX_TEXT_BYTES w ↦ inr w.if-length-gt-MAX_TEXT_BYTES.true ]))
+      | then-length-eq0-via-then-length-eq0 w ↦ inl w.if-length-eq0.true
+      | then-length-eq0-via-else-length-eq0+then-length-gt-MAX_TEXT_BYTES w ↦ inr w.if-length-gt-MAX_TEXT_BYTES.true
+    ]))
 
 pub returns-in_err-take-clause-accepted : goal.returns-in_err-take-clause-accepted
 returns-in_err-take-clause-accepted g c text rest term e =
