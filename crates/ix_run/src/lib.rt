@@ -7,6 +7,7 @@ mod head;
 mod heading;
 mod input;
 mod laws;
+mod rows;
 mod source;
 mod stop_terms;
 
