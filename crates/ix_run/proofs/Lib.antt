@@ -1,4 +1,5 @@
 pub mod CodeLemmas
+pub mod HeadLemmas
 pub mod InputLemmas
 pub mod OrderLemmas
 pub mod PieceLemmas

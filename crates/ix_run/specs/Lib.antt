@@ -4,6 +4,7 @@ pub mod Inputs
 pub mod Laws
 pub mod Orders
 pub mod Pieces
+pub mod RunReaders
 pub mod RunText
 pub mod RunTextErrors
 pub mod Sources

@@ -61,10 +61,14 @@ fn read_magic<R: Read>(alloc: Global, input: &mut Input<R>) -> Result<(), RunTex
 {
     let mut bytes = Vec::new(alloc);
     match input.take(MAGIC.len(), &mut bytes) {
-        Ok(()) if bytes.as_slice() == MAGIC.as_slice() => Ok(()),
-        Ok(()) | Err(RunTextError::Number(_)) => Err(RunTextError::Magic),
-        Err(error) => Err(error),
+        Ok(()) => {}
+        Err(RunTextError::Number(_)) => return Err(RunTextError::Magic),
+        Err(error) => return Err(error),
     }
+    if bytes.as_slice() != MAGIC.as_slice() {
+        return Err(RunTextError::Magic);
+    }
+    Ok(())
 }
 
 /// Takes a number of four bytes, the least significant first.

@@ -16,6 +16,7 @@ use std::io::{ErrorKind, Read};
 const BUFFER_BYTES: usize = 1 << 16;
 
 /// A reader with the bytes that it gave and that were not taken yet.
+#[derive(Drop)]
 pub(crate) struct Input<R> {
     reader: R,
     buffer: Vec<u8>,

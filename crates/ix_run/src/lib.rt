@@ -8,10 +8,12 @@ mod heading;
 mod input;
 mod laws;
 mod rows;
+mod run_reader;
 mod source;
 mod stop_terms;
 
 pub use errors::RunTextError;
 pub use head::{RunDoc, RunHead};
 pub use laws::run_text_has_eighteen_bytes;
+pub use run_reader::RunReader;
 pub use source::Source;
