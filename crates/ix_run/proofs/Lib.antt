@@ -7,5 +7,13 @@ pub mod Lengths
 pub mod Postings
 pub mod RunSizes
 pub mod Sorting
+pub mod CodeLemmas
+pub mod HeadLemmas
+pub mod InputLemmas
+pub mod OrderLemmas
+pub mod PieceLemmas
+pub mod RowLemmas
+pub mod SpelledLemmas
+pub mod StopTermLemmas
 pub mod TextLaws
 pub mod Writing

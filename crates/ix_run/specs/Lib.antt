@@ -2,8 +2,16 @@ pub mod CodedTerms
 pub mod Dictionaries
 pub mod Errors
 pub mod Inverted
+pub mod CodeFaults
+pub mod Heads
+pub mod Inputs
 pub mod Laws
+pub mod Orders
+pub mod Pieces
+pub mod RunReaders
 pub mod RunText
 pub mod Runs
 pub mod TermLists
 pub mod Writing
+pub mod RunTextErrors
+pub mod Sources

@@ -3,6 +3,7 @@ use Rattle.std.specs.Prelude.{◌≡◌, ℕ, ◌+◌, ◌^◌, ◌≤◌, List,
 use Rattle.std.specs.Int.{to_le_bytes, w32}
 use Rattle.ix_text.specs.Collections.{Collection, IsLawful}
 use Rattle.ix_text.specs.Parts.{Parts, DictionaryEntry, DocumentRow, ArePartsOf}
+use Rattle.ix_run.specs.Heads.{Heading, parts_with}
 use Rattle.ix_vbyte.specs.Code.{code_of}
 use Rattle.ix_vbyte.specs.Postings.{list_bytes}
 use Rattle.ix_vbyte.specs.Texts.{counted}
@@ -16,6 +17,10 @@ abbrev pub term_bytes : DictionaryEntry → List ℕ
 term_bytes entry =
     counted entry.term ++ code_of (length entry.postings) ++ counted (list_bytes entry.postings)
 
+-- the number of the stop terms, and each of them
+abbrev pub stop_bytes : List (List ℕ) → List ℕ
+stop_bytes stop = code_of (length stop) ++ flat_map counted stop
+
 -- the front of a run: magic, numbers, stop terms and documents
 unfoldable pub head_bytes : ℕ → Parts → List ℕ
 head_bytes first parts =
@@ -25,6 +30,10 @@ head_bytes first parts =
     ++ code_of (length parts.stop)
     ++ flat_map counted parts.stop
     ++ flat_map row_bytes parts.rows
+
+-- the front of a run that has this heading
+abbrev pub heading_bytes : Heading → List ℕ
+heading_bytes heading = head_bytes heading.first (parts_with heading [])
 
 -- the bytes of a run: its front, its terms, and the end mark
 unfoldable pub run_layout : ℕ → Parts → List ℕ

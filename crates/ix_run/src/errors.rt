@@ -1,9 +1,10 @@
-//! Why a block is not inverted, and why a run is not written.
+//! Why a block is not inverted, why a run is not written, and why a run text is not read.
 
 ghost use Rattle.std.specs.Prelude.{◌≡◌};
 ghost use Rattle.ix_run.specs.Errors.{run_error_number, write_error_number};
 
 use ix_text::WriteRefused;
+use ix_vbyte::VbError;
 use std::alloc::{AllocError, AllocFailed};
 use thiserror::Error;
 
@@ -74,5 +75,151 @@ impl WriteError {
 impl From<WriteRefused> for WriteError {
     fn from(_refused: WriteRefused) -> WriteError {
         WriteError::Write
+    }
+}
+
+/// Why some bytes are no run text, or why that could not be told.
+#[derive(Clone, Copy, Debug, Error, PartialEq, Eq)]
+pub enum RunTextError {
+    /// The bytes do not begin with the eight bytes of a run text.
+    #[error("Magic")]
+    Magic,
+    /// A number is not coded as it must be, or the input ends inside a number or a text.
+    #[error("Number({0})")]
+    Number(VbError),
+    /// A term, a stop term or a name is not UTF-8.
+    #[error("Text")]
+    Text,
+    /// A name has not 1 to 255 bytes, or holds a TAB or an LF.
+    #[error("Name")]
+    Name,
+    /// A term has more than 255 bytes, or a stop term has not 1 to 255.
+    #[error("TermSize")]
+    TermSize,
+    /// A term does not stand above the term before it.
+    #[error("TermOrder")]
+    TermOrder,
+    /// A list of postings does not end where its length says.
+    #[error("ListLength")]
+    ListLength,
+    /// A posting names a document that the run does not have.
+    #[error("DocRange")]
+    DocRange,
+    /// A gap or a count is 0.
+    #[error("Zero")]
+    Zero,
+    /// A position is not below its document's number of tokens.
+    #[error("PositionRange")]
+    PositionRange,
+    /// A term is one of the stop terms.
+    #[error("StopIndexed")]
+    StopIndexed,
+    /// A stop term does not stand above the one before it.
+    #[error("StopOrder")]
+    StopOrder,
+    /// Bytes stand behind the end mark.
+    #[error("Extra")]
+    Extra,
+    /// More than 2^28 stop terms, tokens or documents, those before the run included.
+    #[error("TooLarge")]
+    TooLarge,
+    /// The reader refused a read.
+    #[error("Read")]
+    Read,
+    /// Memory was refused.
+    #[error("Memory")]
+    Memory,
+    /// Two terms claim one position of one document.
+    #[error("Doubled")]
+    Doubled,
+    /// An earlier call was refused.
+    #[error("Failed")]
+    Failed,
+}
+
+impl RunTextError {
+    ghost use Rattle.ix_run.specs.RunTextErrors.{run_text_error_number};
+
+    /// The error's number in the list of this crate's run text errors, from 1.
+    pub fn number(&self) -> u8
+        ensures { result ≡ run_text_error_number self.now }
+    {
+        match self {
+            RunTextError::Magic => 1,
+            RunTextError::Number(_) => 2,
+            RunTextError::Text => 3,
+            RunTextError::Name => 4,
+            RunTextError::TermSize => 5,
+            RunTextError::TermOrder => 6,
+            RunTextError::ListLength => 7,
+            RunTextError::DocRange => 8,
+            RunTextError::Zero => 9,
+            RunTextError::PositionRange => 10,
+            RunTextError::StopIndexed => 11,
+            RunTextError::StopOrder => 12,
+            RunTextError::Extra => 13,
+            RunTextError::TooLarge => 14,
+            RunTextError::Read => 15,
+            RunTextError::Memory => 16,
+            RunTextError::Doubled => 17,
+            RunTextError::Failed => 18,
+        }
+    }
+}
+
+impl<T: Drop> From<AllocFailed<T>> for RunTextError {
+    ghost use Rattle.std.specs.Prelude.{◌≡◌};
+    ghost use Rattle.ix_run.specs.declared.errors.RunTextError.TheVariants.{Memory};
+
+    ghost from_gives = { λ _ e. e ≡ Memory };
+
+    fn from(_error: AllocFailed<T>) -> RunTextError {
+        RunTextError::Memory
+    }
+}
+
+impl From<AllocError> for RunTextError {
+    ghost use Rattle.std.specs.Prelude.{◌≡◌};
+    ghost use Rattle.ix_run.specs.declared.errors.RunTextError.TheVariants.{Memory};
+
+    ghost from_gives = { λ _ e. e ≡ Memory };
+
+    fn from(_error: AllocError) -> RunTextError {
+        RunTextError::Memory
+    }
+}
+
+#[cfg(test)]
+mod tests {
+    use super::*;
+    use std::test::Fail;
+
+    #[test]
+    fn errors_have_numbers_and_names(rt: HostRuntime) -> Result<(), Fail> {
+        let cases = [
+            (RunTextError::Magic, 1, "Magic"),
+            (RunTextError::Number(VbError::Cut), 2, "Number(Cut)"),
+            (RunTextError::Text, 3, "Text"),
+            (RunTextError::Name, 4, "Name"),
+            (RunTextError::TermSize, 5, "TermSize"),
+            (RunTextError::TermOrder, 6, "TermOrder"),
+            (RunTextError::ListLength, 7, "ListLength"),
+            (RunTextError::DocRange, 8, "DocRange"),
+            (RunTextError::Zero, 9, "Zero"),
+            (RunTextError::PositionRange, 10, "PositionRange"),
+            (RunTextError::StopIndexed, 11, "StopIndexed"),
+            (RunTextError::StopOrder, 12, "StopOrder"),
+            (RunTextError::Extra, 13, "Extra"),
+            (RunTextError::TooLarge, 14, "TooLarge"),
+            (RunTextError::Read, 15, "Read"),
+            (RunTextError::Memory, 16, "Memory"),
+            (RunTextError::Doubled, 17, "Doubled"),
+            (RunTextError::Failed, 18, "Failed"),
+        ];
+        for (error, number, line) in cases {
+            assert_eq!(rt; error.number(), number);
+            assert_eq!(rt; error.to_string(rt.alloc())?.as_str(), line);
+        }
+        Ok(())
     }
 }

@@ -1,22 +1,23 @@
-//! What a run or a source of postings says of its documents.
+//! The head of a run: what stands in it before its terms.
 
 use ix_text::StopList;
 
-/// A document of a run: its name, and how many tokens it has, those that are nothing included.
-#[derive(Drop)]
+/// A document of a run: its name, and the number of its tokens, entries that are nothing included.
+#[derive(Debug, Drop)]
 pub struct RunDoc {
-    /// 1 to 255 bytes without TAB and LF.
+    /// UTF-8 text of 1 to 255 bytes without TAB and LF.
     pub name: String,
-    /// The length of the token list.
+    /// How many words its text has.
     pub tokens: u32,
 }
 
-/// The head of a run: what its postings are counted in.
+/// What a run says before its terms: the number of its first document in the whole collection, the stop terms under
+/// which it was made, and its documents, which count from 0 within the run.
 #[derive(Drop)]
 pub struct RunHead {
-    /// The number of the first document within the whole collection.
+    /// The number of the first document.
     pub first: u32,
-    /// The terms that were left out.
+    /// The stop terms.
     pub stop: StopList,
     /// The documents, in order.
     pub docs: Vec<RunDoc>,

@@ -1,22 +1,28 @@
-//! Runs: a block of documents inverted and sorted. Today this is the definition of the run text and what holds of it;
-//! the run as a value, its writer and its exact reader are to come.
+//! Runs: a block of documents inverted and sorted, as a value and as a text that another machine may have written.
 #![tactic(auto)]
 
 mod coded_term;
 mod dictionary;
 mod errors;
 mod head;
+mod heading;
+mod input;
 mod inversion;
 mod laws;
+mod rows;
 mod run;
+mod run_reader;
 mod run_text;
+mod source;
+mod stop_terms;
 mod term_list;
 
+pub use errors::{RunError, RunTextError, WriteError};
+pub use head::{RunDoc, RunHead};
+pub use inversion::invert;
 pub use laws::{
     no_run_text_begins_another, run_text_has_eighteen_bytes, run_text_tells_collection,
 };
-pub use errors::{RunError, WriteError};
-pub use head::{RunDoc, RunHead};
-pub use inversion::invert;
-pub use laws::run_text_has_eighteen_bytes;
 pub use run::Run;
+pub use run_reader::RunReader;
+pub use source::Source;

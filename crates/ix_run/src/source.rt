@@ -1,0 +1,81 @@
+//! A run as its consumer meets it: term by term, posting by posting.
+
+ghost use Rattle.std.specs.Prelude.{◌≡◌, ℕ, List, Option, Some, None, IsSome, IfOk, OnOk, MatchBool, MatchOption, option_map, ◌++◌};
+ghost use Rattle.ix_text.specs.Parts.{DictionaryEntry, Posting};
+ghost use Rattle.ix_run.specs.Heads.{Heading, heading_of};
+ghost use Rattle.ix_run.specs.Sources.{AreWhole, IsLawfulFront, BeginsTerm, EndsTerms, GivesPosting, EndsPostings, closed};
+
+use crate::RunHead;
+
+/// A lawful collection's dictionary as a stream: its terms ascending, and the postings of each in order. Documents are
+/// numbered from 0 within the source.
+///
+/// Two ghost relations carry what is known of a stream that is read once. `gives` looks back: what the source may have
+/// given so far is lawful under its head. `yields` looks ahead: what it may yield yet makes, with all that it gave, a
+/// lawful whole. Each call moves one step from the one to the other, so that a consumer that has read to the end knows
+/// what the source yielded as a whole.
+pub trait Source {
+    /// Why a call may be refused.
+    type Error;
+
+    // The head: the number of the first document, the stop terms and the documents.
+    ghost heading: { Self → Heading };
+
+    // The term at hand, where the last `next_term` answered true.
+    ghost current: { Self → Option (List ℕ) };
+
+    // Postings of the term at hand and entries behind it that the source may yield yet.
+    ghost yields: { Self → List Posting → List DictionaryEntry → Type 0 };
+
+    // Finished entries, and the one at hand with the postings given of it, that the source may have given so far.
+    ghost gives: { Self → List DictionaryEntry → Option DictionaryEntry → Type 0 };
+
+    // No posting of the term at hand is left.
+    ghost is_drained: { Self → Type 0 };
+
+    // No term is left.
+    ghost is_ended: { Self → Type 0 };
+
+    /// The head of the source.
+    fn head(&self) -> &RunHead
+        ensures { heading_of result.now ≡ heading self.now };
+
+    /// Goes on to the next term, over the postings of the one at hand that were not asked for. False: there is none,
+    /// now and at each later call.
+    fn next_term(&mut self) -> Result<bool, Self::Error>
+        ensures heading { heading self.new ≡ heading self.old }
+        ensures begun { IfOk result (λ more. MatchBool more
+            ((term : List ℕ) × (current self.new ≡ Some term) × BeginsTerm yields gives is_drained self.old self.new term)
+            ((current self.new ≡ None) × is_ended self.new × EndsTerms yields gives is_drained self.old self.new)) }
+        ensures ended { is_ended self.old → IfOk result (λ more. MatchBool more ⊥ (is_ended self.new)) };
+
+    /// The term at hand.
+    fn term(&self) -> &str
+        requires { IsSome (current self.now) }
+        ensures { current self.now ≡ Some result.now };
+
+    /// The document of the next posting of the term at hand, whose positions are put into `positions` in place of what
+    /// it held. None: there is no further one, now and at each later call for this term.
+    fn next_posting(&mut self, positions: &mut Vec<u32>) -> Result<Option<u32>, Self::Error>
+        requires { IsSome (current self.old) }
+        ensures heading { heading self.new ≡ heading self.old }
+        ensures current { OnOk result (current self.new ≡ current self.old) }
+        ensures given { IfOk result (λ found. MatchOption found
+            (is_drained self.new × EndsPostings yields gives self.old self.new)
+            (λ document. GivesPosting yields gives self.old self.new (document, positions.new.items))) }
+        ensures drained { is_drained self.old → IfOk result (λ found. found ≡ None) };
+
+    // What was given so far is the front of a lawful dictionary.
+    ghost given_lawfully: { (source : Self) (finished : List DictionaryEntry) (at_hand : Option DictionaryEntry)
+        → gives source finished at_hand → IsLawfulFront (heading source) finished at_hand };
+
+    // The entry at hand is that of the term at hand.
+    ghost given_of_term: { (source : Self) (finished : List DictionaryEntry) (at_hand : Option DictionaryEntry)
+        → gives source finished at_hand → option_map (λ entry. entry.term) at_hand ≡ current source };
+
+    // What was given so far and what is yielded yet are a lawful whole.
+    ghost yielded_lawfully: { (source : Self) (finished : List DictionaryEntry) (at_hand : Option DictionaryEntry)
+        (postings : List Posting) (entries : List DictionaryEntry)
+        → gives source finished at_hand → yields source postings entries
+        → AreWhole (heading source) (closed finished at_hand postings ++ entries) };
+}
