@@ -1,3 +1,5 @@
 pub mod IndexText
 pub mod Laws
+pub mod OpenErrors
+pub mod Refusals
 pub mod Sections

@@ -3,8 +3,11 @@
 #![tactic(auto)]
 
 mod laws;
+mod open;
+mod open_error;
 
 pub use laws::{
     index_text_has_one_version, index_text_has_sixty_four_bytes, index_text_tells_collection,
     index_text_tells_version_and_collection,
 };
+pub use open_error::{OpenError, Section};
