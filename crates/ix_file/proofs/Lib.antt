@@ -3,6 +3,7 @@ pub mod Continuing
 pub mod DictionaryTold
 pub mod FrontLemmas
 pub mod IndexTold
+pub mod RowReading
 pub mod SectionSizes
 pub mod StopReading
 pub mod TextLaws

@@ -2,4 +2,5 @@ pub mod IndexText
 pub mod Laws
 pub mod OpenErrors
 pub mod Refusals
+pub mod Rows
 pub mod Sections
