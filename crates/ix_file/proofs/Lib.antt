@@ -1,6 +1,7 @@
 pub mod AscendingLemmas
 pub mod Continuing
 pub mod DictionaryTold
+pub mod FrameReading
 pub mod FrontLemmas
 pub mod IndexTold
 pub mod RowReading

@@ -1,3 +1,4 @@
+pub mod Frames
 pub mod IndexText
 pub mod Laws
 pub mod OpenErrors
