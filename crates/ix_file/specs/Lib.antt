@@ -1,12 +1,16 @@
 pub mod Dictionaries
 pub mod Endings
+pub mod Frames
 pub mod GramEntries
 pub mod GramLaws
 pub mod Grams
 pub mod HeldGrams
 pub mod IndexText
 pub mod Laws
+pub mod OpenErrors
+pub mod OpenedRows
 pub mod PutErrors
+pub mod Refusals
 pub mod Rows
 pub mod SectionSteps
 pub mod Sections

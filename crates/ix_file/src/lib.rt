@@ -6,6 +6,8 @@ mod dictionary;
 mod grams;
 mod laws;
 mod list;
+mod open;
+mod open_error;
 mod output;
 mod put_error;
 mod row;
@@ -18,6 +20,7 @@ pub use laws::{
     index_text_tells_collection, index_text_tells_version_and_collection,
     settled_front_begins_index_text, terms_have_one_gram_list,
 };
+pub use open_error::{OpenError, Section};
 pub use put_error::PutError;
 pub use row::DocRow;
 pub use sections::Sections;

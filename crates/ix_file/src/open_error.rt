@@ -1,0 +1,151 @@
+//! Why bytes are refused as an index text.
+ghost use Rattle.std.specs.Prelude.{◌≡◌};
+ghost use Rattle.ix_file.specs.OpenErrors.{open_error_number};
+ghost use Rattle.ix_file.specs.declared.open_error.OpenError.TheVariants.{Memory};
+
+use ix_vbyte::VbError;
+use std::alloc::{AllocError, AllocFailed};
+use std::fmt;
+use thiserror::Error;
+
+/// The sections of an index text, in their order.
+#[derive(Clone, Copy, Debug, PartialEq, Eq)]
+pub enum Section {
+    /// The coded lists of the terms.
+    Postings,
+    /// The stop terms.
+    Stop,
+    /// The names of the documents, and how many tokens each has.
+    Documents,
+    /// The terms.
+    Dictionary,
+    /// The grams of the terms.
+    Grams,
+}
+
+impl fmt::Display for Section {
+    fn fmt<W: fmt::Write>(&self, f: &mut fmt::Formatter<W>) -> fmt::Result {
+        f.write_str(match self {
+            Section::Postings => "POSTINGS",
+            Section::Stop => "STOP",
+            Section::Documents => "DOCS",
+            Section::Dictionary => "DICTIONARY",
+            Section::Grams => "GRAMS",
+        })
+    }
+}
+
+/// Why bytes are no index text of a lawful collection, or `Memory`.
+#[derive(Clone, Copy, Debug, PartialEq, Eq, Error)]
+pub enum OpenError {
+    /// There are fewer than 64 bytes.
+    #[error("Short")]
+    Short,
+    /// The first eight bytes are those of no version.
+    #[error("Magic")]
+    Magic,
+    /// The last eight bytes are not those of the version.
+    #[error("Trailer")]
+    Trailer,
+    /// The lengths of the sections do not sum to what is there.
+    #[error("Lengths")]
+    Lengths,
+    /// In this section a number is not coded as it must be, or the section ends inside a number or a text.
+    #[error("Number({0}, {1})")]
+    Number(Section, VbError),
+    /// A term, a stop term or a name is not UTF-8.
+    #[error("Text")]
+    Text,
+    /// A name has not 1 to 255 bytes, or holds a TAB or an LF.
+    #[error("Name")]
+    Name,
+    /// A term or a stop term has not 1 to 255 bytes.
+    #[error("TermSize")]
+    TermSize,
+    /// A term does not stand above the term before it.
+    #[error("TermOrder")]
+    TermOrder,
+    /// A stop term does not stand above the one before it.
+    #[error("StopOrder")]
+    StopOrder,
+    /// A term is one of the stop terms.
+    #[error("StopIndexed")]
+    StopIndexed,
+    /// A list of postings does not end where its length says, or the lists are not as long as POSTINGS.
+    #[error("ListLength")]
+    ListLength,
+    /// A gap or a count is 0.
+    #[error("Zero")]
+    Zero,
+    /// A posting names a document that is not there.
+    #[error("DocRange")]
+    DocRange,
+    /// A position is not below its document's number of tokens.
+    #[error("PositionRange")]
+    PositionRange,
+    /// Two terms claim one position of one document.
+    #[error("Doubled")]
+    Doubled,
+    /// GRAMS is not the section that belongs to the terms.
+    #[error("Grams")]
+    Grams,
+    /// There are not as many documents or terms as the trailer says.
+    #[error("Counts")]
+    Counts,
+    /// More than 2^28 documents, stop terms or tokens.
+    #[error("TooLarge")]
+    TooLarge,
+    /// Memory was refused.
+    #[error("Memory")]
+    Memory,
+    /// What a term shares with the term before it is not the longest front that they share.
+    #[error("Front")]
+    Front,
+}
+
+impl OpenError {
+    /// The error's number, from 1 in the order of the list.
+    pub fn number(self) -> u8
+        ensures { result ≡ open_error_number self }
+    {
+        match self {
+            OpenError::Short => 1,
+            OpenError::Magic => 2,
+            OpenError::Trailer => 3,
+            OpenError::Lengths => 4,
+            OpenError::Number(_, _) => 5,
+            OpenError::Text => 6,
+            OpenError::Name => 7,
+            OpenError::TermSize => 8,
+            OpenError::TermOrder => 9,
+            OpenError::StopOrder => 10,
+            OpenError::StopIndexed => 11,
+            OpenError::ListLength => 12,
+            OpenError::Zero => 13,
+            OpenError::DocRange => 14,
+            OpenError::PositionRange => 15,
+            OpenError::Doubled => 16,
+            OpenError::Grams => 17,
+            OpenError::Counts => 18,
+            OpenError::TooLarge => 19,
+            OpenError::Memory => 20,
+            OpenError::Front => 21,
+        }
+    }
+}
+
+impl From<AllocError> for OpenError {
+    ghost from_gives = { λ _ e. e ≡ Memory };
+
+    fn from(_error: AllocError) -> OpenError {
+        OpenError::Memory
+    }
+}
+
+impl<T: Drop> From<AllocFailed<T>> for OpenError {
+    ghost from_gives = { λ _ e. e ≡ Memory };
+
+    fn from(_error: AllocFailed<T>) -> OpenError {
+        OpenError::Memory
+    }
+}
