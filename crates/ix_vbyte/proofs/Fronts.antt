@@ -1,10 +1,11 @@
 -- What stands at the front of some bytes, byte by byte, and that it is one thing at most.
-use Rattle.std.proofs.Common.{◌≡◌, ◌≢◌, ℕ, zero, suc, ◌+◌, ◌*◌, ◌%◌, ◌^◌, ◌<◌, ◌≤◌, List, [], ◌∷◌, ◌++◌, length, take, drop, get_or, Result, Ok, Err, refl, sym, ap, ap₂, ◌∙◌, subst, arith, rules, lit<, add-one, zero-lt-suc, ◌↔◌, IsErr, IfOk, slice_get, Some, None, take-append-drop}
-use Rattle.std.proofs.lemmas.List.{append_assoc, take_more, drop_more, take_at, take_all, length-take-le, length-append}
+use Rattle.std.proofs.Common.{◌≡◌, ◌≢◌, ℕ, zero, suc, ◌+◌, ◌-◌, ◌*◌, ◌%◌, ◌^◌, ◌<◌, ◌≤◌, List, [], ◌∷◌, ◌++◌, length, take, drop, get_or, Result, Ok, Err, refl, sym, ap, ap₂, ◌∙◌, subst, arith, rules, lit<, add-one, zero-lt-suc, ◌↔◌, IsErr, IfOk, slice_get, Some, None, take-append-drop}
+use Rattle.std.proofs.lemmas.List.{append_assoc, drop_at, take_rest, take_more, drop_more, take_at, take_all, length-take-le, length-append}
 use Rattle.std.proofs.lemmas.List.Elements.{All-nil, All-more, All-head, All-tail}
 use Rattle.ix_vbyte.specs.Code.{value_of, AreUnmarked, IsCode, code_of}
 use Rattle.ix_vbyte.specs.Reading.{StartsWithCode, StartsWithZero, IsTooBig, IsCut}
 use Rattle.ix_vbyte.specs.Decoded.{HasFault, Finds}
+use Rattle.ix_vbyte.specs.Walking.{BeginsWithNumber, ReadsNumber}
 use Rattle.ix_vbyte.specs.declared.errors.VbError.{VbError}
 use Rattle.ix_vbyte.specs.declared.errors.VbError.TheVariants.{Cut, LeadingZero, TooBig}
 use Rattle.ix_vbyte.proofs.Values.{value_of-none, length-code_of, value_of-push, value_of-append_ge, code_of-apart, code_of-code, IsCode-code_of}
@@ -117,7 +118,7 @@ starts_from bytes number rest fits e =
       code = subst (IsCode number) (sym whole) (IsCode-code_of number fits);
     }
 
-same_code : (bytes : List ℕ) (m n j k : ℕ) → StartsWithCode bytes m j → StartsWithCode bytes n k → (m ≡ n) × (j ≡ k)
+pub same_code : (bytes : List ℕ) (m n j k : ℕ) → StartsWithCode bytes m j → StartsWithCode bytes n k → (m ≡ n) × (j ≡ k)
 same_code bytes m n j k s t =
     let a = starts_as bytes m j s in
     let b = starts_as bytes n k t in
@@ -227,3 +228,31 @@ read_all bytes place number so_far end fits =
     }
 
 pub ruleset reads = (cut_at_once, no_zero, read_none, read_more, read_code, read_big, read_all)
+
+-- a code that was found is the one that was written
+pub reads_from : (bytes : List ℕ) (number count : ℕ) → StartsWithCode bytes number count → ReadsNumber bytes number (drop count bytes)
+reads_from bytes number count starts written others fits coded =
+    let same = same_code bytes number written count (length (code_of written)) starts (starts_from bytes written others fits coded) in
+    (same.0, ap₂ (λ n xs. drop n xs) same.1 coded ∙ drop_at (code_of written) others (length (code_of written)) refl)
+
+-- a code of one byte
+read_one : (bytes : List ℕ) (low : ℕ) → 0 < length bytes → 128 ≤ get_or bytes 0 0 → get_or bytes 0 0 < 256 → low ≡ get_or bytes 0 0 % 128 → StartsWithCode bytes low 1
+read_one [] low some marked byte is = absurd (omega arith)
+read_one (a ∷ bytes) low some marked byte is = read_first (a ∷ bytes) a low refl marked byte is
+
+pub reads_one : (bytes : List ℕ) (low : ℕ) → 0 < length bytes → 128 ≤ get_or bytes 0 0 → get_or bytes 0 0 < 256 → low ≡ get_or bytes 0 0 % 128 → ReadsNumber bytes low (take (length bytes - 1) (drop 1 bytes))
+reads_one bytes low some marked byte is = subst (ReadsNumber bytes low) (sym (take_rest bytes 1)) (reads_from bytes low 1 (read_one bytes low some marked byte is))
+
+-- a code of two bytes
+read_two : (bytes : List ℕ) (number : ℕ) → BeginsWithNumber bytes → 1 < length bytes → get_or bytes 0 0 < 128 → 128 ≤ get_or bytes 1 0 → get_or bytes 1 0 < 256 → number ≡ get_or bytes 0 0 * 128 + get_or bytes 1 0 % 128 → StartsWithCode bytes number 2
+read_two [] number begins some below marked byte is = absurd (omega arith)
+read_two (a ∷ []) number begins some below marked byte is = absurd (omega arith)
+read_two (a ∷ b ∷ bytes) number begins some below marked byte is =
+    let written = starts_from (a ∷ b ∷ bytes) begins.number begins.rest begins.fits begins.coded in
+    let so_far = read_none (a ∷ b ∷ bytes) (λ zero. code_or_fault (a ∷ b ∷ bytes) begins.number (length (code_of begins.number)) LeadingZero written zero) in
+    let one = read_more (a ∷ b ∷ bytes) 0 0 (a % 128) so_far (omega arith) below refl in
+    let same : (0 * 128 + a % 128) * 128 + b % 128 ≡ number = omega arith in
+    subst (λ n. StartsWithCode (a ∷ b ∷ bytes) n 2) same (read_code (a ∷ b ∷ bytes) 1 (0 * 128 + a % 128) (b % 128) one (omega arith) (omega arith) marked byte refl)
+
+pub reads_two : (bytes : List ℕ) (number : ℕ) → BeginsWithNumber bytes → 1 < length bytes → get_or bytes 0 0 < 128 → 128 ≤ get_or bytes 1 0 → get_or bytes 1 0 < 256 → number ≡ get_or bytes 0 0 * 128 + get_or bytes 1 0 % 128 → ReadsNumber bytes number (take (length bytes - 2) (drop 2 bytes))
+reads_two bytes number begins some below marked byte is = subst (ReadsNumber bytes number) (sym (take_rest bytes 2)) (reads_from bytes number 2 (read_two bytes number begins some below marked byte is))

@@ -292,17 +292,14 @@ one_dropped (suc left) marks next total some is so_far =
 pub none_dropped : (left marks total : ℕ) → left ≡ 0 → without_lowest_of left marks ≡ total → marks ≡ total
 none_dropped left marks total none so_far = sym (first_left marks) ∙ ap (λ n. without_lowest_of n marks) (sym none) ∙ so_far
 
--- three times
-pub few_dropped : (first second third fourth : ℕ) → second ≡ without_lowest first → third ≡ without_lowest second → fourth ≡ without_lowest third
-    → (first ≡ without_lowest_of 0 first) × (second ≡ without_lowest_of 1 first) × (third ≡ without_lowest_of 2 first) × (fourth ≡ without_lowest_of 3 first)
+-- up to three times
+pub few_dropped : (count marks one two three : ℕ) → one ≡ without_lowest marks → two ≡ without_lowest one → three ≡ without_lowest two
+    → (count ≡ 0 → marks ≡ without_lowest_of count marks) × (count ≡ 1 → one ≡ without_lowest_of count marks) × (count ≡ 2 → two ≡ without_lowest_of count marks) × (count ≡ 3 → three ≡ without_lowest_of count marks)
 unfolding without_lowest_of
-few_dropped first second third fourth a b d =
-    let once : without_lowest (without_lowest first) ≡ third = ap without_lowest (sym a) ∙ sym b in
-    (refl, a, sym once, d ∙ ap without_lowest (sym once))
-
--- the code numbered `count` ends in the word
-pub found_in_word : (before count : ℕ) (word behind : List ℕ) (first taken marks : ℕ) → count ≡ suc before → first ≡ marks_of 8 128 word → taken ≡ without_lowest_of before first → marks ≡ taken → marks ≢ 0 → taken < 2 ^ 64
-    → end_of count (word ++ behind) ≡ trailing_zeros w64 marks / 8 + 1
-found_in_word before count word behind first taken marks is whole dropped same some fits =
-    ap (λ n. end_of n (word ++ behind)) is
-    ∙ end_in_word before word behind marks (same ∙ dropped ∙ ap (without_lowest_of before) whole) (omega arith) (omega arith)
+few_dropped count marks one two three a b d =
+    let twice : without_lowest (without_lowest marks) ≡ two = ap without_lowest (sym a) ∙ sym b in (
+      λ e. ap (λ n. without_lowest_of n marks) (sym e),
+      λ e. a ∙ ap (λ n. without_lowest_of n marks) (sym e),
+      λ e. sym twice ∙ ap (λ n. without_lowest_of n marks) (sym e),
+      λ e. d ∙ ap without_lowest (sym twice) ∙ ap (λ n. without_lowest_of n marks) (sym e),
+    )

@@ -29,9 +29,31 @@ pub fn decode(bytes: &[u8]) -> Result<(u32, usize), VbError>
     read(bytes)
 }
 
-/// The number whose code the bytes begin with, and what follows the code.
+/// The number whose code the bytes begin with, and what follows the code. Codes of one and two bytes take no loop.
 #[inline]
 pub(crate) fn first_number(bytes: &[u8]) -> (u32, &[u8])
+    requires { BeginsWithNumber bytes.now }
+    ensures { ReadsNumber bytes.now result.0 result.1.now }
+{
+    if bytes.len() < 2 {
+        return long_number(bytes);
+    }
+    let first = bytes[0];
+    let second = bytes[1];
+    if first >= 128 {
+        return (u32::from(first % 128), &bytes[1..]);
+    }
+    if second >= 128 {
+        return (
+            u32::from(first) * 128 + u32::from(second % 128),
+            &bytes[2..],
+        );
+    }
+    long_number(bytes)
+}
+
+/// The same of a code of any length.
+fn long_number(bytes: &[u8]) -> (u32, &[u8])
     requires { BeginsWithNumber bytes.now }
     ensures { ReadsNumber bytes.now result.0 result.1.now }
 {

@@ -1,5 +1,5 @@
 //! How many bytes some codes take, found by the top bits alone.
-ghost use Rattle.std.specs.Prelude.{◌≡◌, ◌≤◌, ◌-◌, ◌++◌, ℕ, List, length, count_by, count_ones, nat_le, IfSome};
+ghost use Rattle.std.specs.Prelude.{◌≡◌, ◌<◌, ◌≤◌, ◌-◌, ◌++◌, ℕ, List, length, count_by, count_ones, nat_le, IfSome};
 ghost use Rattle.ix_vbyte.specs.Ends.{end_of, marks_of, without_lowest, without_lowest_of};
 ghost use Rattle.ix_vbyte.specs.Postings.{codes_of};
 
@@ -33,21 +33,32 @@ pub fn skip_codes(bytes: &[u8], count: u32) -> usize
 fn end_in_word(word: &[u8; WORD], count: u32) -> Option<usize>
     ensures { IfSome result (λ end. (behind : List ℕ) → end_of count (word.now ++ behind) ≡ end) }
 {
-    let marks = marks_in_word(word);
-    let second = drop_lowest(marks);
-    let third = drop_lowest(second);
-    let fourth = drop_lowest(third);
-    let marks = match count {
-        1 => marks,
-        2 => second,
-        3 => third,
-        4 => fourth,
-        _ => 0,
-    };
+    if count == 0 || count > 4 {
+        return None;
+    }
+    let marks = drop_few(marks_in_word(word), count - 1);
     if marks == 0 {
         return None;
     }
     Some(marks.trailing_zeros() as usize / 8 + 1)
+}
+
+/// The marks without the lowest of them, at most three. Each choice is made at the end, so that none is a jump.
+#[inline(always)]
+fn drop_few(marks: u64, count: u32) -> u64
+    requires { count < 4 }
+    ensures { result ≡ without_lowest_of count marks }
+{
+    let one = drop_lowest(marks);
+    let two = drop_lowest(one);
+    let three = drop_lowest(two);
+    if count < 2 {
+        if count == 0 { marks } else { one }
+    } else if count == 2 {
+        two
+    } else {
+        three
+    }
 }
 
 /// The top bits of a word, the first byte's lowest.
