@@ -41,7 +41,7 @@ postings_section-one : (entry : DictionaryEntry) → postings_section (entry ∷
 unfolding postings_section
 postings_section-one entry = append-nil (list_bytes entry.postings)
 
-postings_section-push : (done : List DictionaryEntry) (entry : DictionaryEntry) → postings_section (done ++ entry ∷ []) ≡ postings_section done ++ list_bytes entry.postings
+pub postings_section-push : (done : List DictionaryEntry) (entry : DictionaryEntry) → postings_section (done ++ entry ∷ []) ≡ postings_section done ++ list_bytes entry.postings
 postings_section-push done entry = postings_section-append done (entry ∷ []) ∙ ap (λ bytes. postings_section done ++ bytes) (postings_section-one entry)
 
 -- a term without postings adds nothing
@@ -58,19 +58,19 @@ postings_section-posted done entry document positions =
     ∙ ap (λ bytes. bytes ++ added) (sym (postings_section-push done entry))
 
 -- ---- positions
-position_count-push : (done : List DictionaryEntry) (entry : DictionaryEntry) → position_count (done ++ entry ∷ []) ≡ position_count done + position_count (entry ∷ [])
+pub position_count-push : (done : List DictionaryEntry) (entry : DictionaryEntry) → position_count (done ++ entry ∷ []) ≡ position_count done + position_count (entry ∷ [])
 position_count-push done entry = sum_by-append (λ e. sum_by (λ posting. length posting.1) e.postings) done (entry ∷ [])
 
-position_count-posted : (done : List DictionaryEntry) (entry : DictionaryEntry) (document : ℕ) (positions : List ℕ) → position_count (done ++ posted document positions entry ∷ []) ≡ position_count (done ++ entry ∷ []) + length positions
+pub position_count-posted : (done : List DictionaryEntry) (entry : DictionaryEntry) (document : ℕ) (positions : List ℕ) → position_count (done ++ posted document positions entry ∷ []) ≡ position_count (done ++ entry ∷ []) + length positions
 position_count-posted done entry document positions =
     let more : sum_by (λ posting. length posting.1) (entry.postings ++ (document, positions) ∷ []) ≡ sum_by (λ posting. length posting.1) entry.postings + (0 + length positions) = sum_by-append (λ posting. length posting.1) entry.postings ((document, positions) ∷ []) in
     omega (arith, position_count-push done entry, position_count-push done (posted document positions entry), more)
 
-position_count-term : (done : List DictionaryEntry) (term : List ℕ) → position_count (done ++ entry_of term ∷ []) ≡ position_count done
+pub position_count-term : (done : List DictionaryEntry) (term : List ℕ) → position_count (done ++ entry_of term ∷ []) ≡ position_count done
 position_count-term done term = omega (arith, position_count-push done (entry_of term))
 
 -- ---- terms
-terms_of-push : (done : List DictionaryEntry) (entry : DictionaryEntry) → terms_of (done ++ entry ∷ []) ≡ terms_of done ++ entry.term ∷ []
+pub terms_of-push : (done : List DictionaryEntry) (entry : DictionaryEntry) → terms_of (done ++ entry ∷ []) ≡ terms_of done ++ entry.term ∷ []
 terms_of-push done entry = map-append (λ e. e.term) done (entry ∷ [])
 
 terms_of-posted : (done : List DictionaryEntry) (entry : DictionaryEntry) (document : ℕ) (positions : List ℕ) → terms_of (done ++ entry ∷ []) ≡ terms_of (done ++ posted document positions entry ∷ [])

@@ -1,5 +1,5 @@
 //! The index text: a collection as postings lists, names, a dictionary and grams, in a plain and in a front-coded version.
-//! Today this is its definition and what holds of it; its writer and its exact reader are to come.
+//! Here are its definition, what holds of it, and its writer; its exact reader is to come.
 #![tactic(auto)]
 
 mod dictionary;
