@@ -11,6 +11,8 @@ mod laws;
 mod run;
 mod run_text;
 mod term_list;
+#[cfg(test)]
+mod tests;
 
 pub use errors::{RunError, WriteError};
 pub use head::{RunDoc, RunHead};
