@@ -1,5 +1,5 @@
 -- What every run text shows of itself.
-use Rattle.std.specs.Prelude.{◌≡◌, ℕ, ◌≤◌, List, length}
+use Rattle.std.specs.Prelude.{ℕ, ◌≤◌, List, length}
 use Rattle.ix_text.specs.Collections.{Collection}
 use Rattle.ix_run.specs.RunText.{IsRunText}
 
