@@ -1,16 +1,14 @@
 -- A block of documents, inverted document by document.
-use Rattle.std.proofs.Common.{◌≡◌, ◌≢◌, ℕ, zero, suc, ◌+◌, ◌-◌, ◌^◌, ◌<◌, ◌≤◌, ◌⊎◌, Bool, List, [], ◌∷◌, ◌++◌, length, map, take, drop, get_or, sum_by, All, Some, None, Option, Contains, String, string_bytes, bytes_eq, MatchOption, IfSome, refl, sym, ap, ap₂, subst, ◌∙◌, inl, inr, arith, zero-add}
-use Rattle.std.proofs.lemmas.List.{append_assoc, append-nil, map-append, length-map, length_push, length-take-le, take_more, take_all}
-use Rattle.std.proofs.lemmas.List.Elements.{All-nil, All-cons, All-push, All-map, All-weaker}
+use Rattle.std.proofs.Common.{◌≡◌, ℕ, zero, suc, ◌+◌, ◌-◌, ◌^◌, ◌<◌, ◌≤◌, List, [], ◌∷◌, ◌++◌, length, map, take, get_or, All, None, Option, String, string_bytes, bytes_eq, MatchOption, IfSome, refl, sym, ap, ap₂, subst, ◌∙◌, inl, inr, arith, zero-add}
+use Rattle.std.proofs.lemmas.List.{append_assoc, append-nil, map-append, length-map, take_more}
+use Rattle.std.proofs.lemmas.List.Elements.{All-nil, All-push, All-weaker}
 use Rattle.std.proofs.lemmas.List.Sums.{sum_by-cons}
-use Rattle.std.specs.HashMap.{HashMap, get_by_text, IsEmpty}
+use Rattle.std.specs.HashMap.{HashMap, get_by_text}
 use Rattle.std.specs.Map.{lookup}
-use Rattle.ix_text.specs.ByteOrder.{IsAscending}
-use Rattle.ix_text.specs.Collections.{Collection, Document, IsLawful, IsLawfulEntry, IsName, NamedText, collection_of, token_count}
+use Rattle.ix_text.specs.Collections.{Document, IsLawful, IsLawfulEntry, IsName, NamedText, collection_of}
 use Rattle.ix_text.specs.Parts.{DocumentRow, row_of}
-use Rattle.ix_text.specs.StopSets.{HasTermSize, IsStopSet}
+use Rattle.ix_text.specs.StopSets.{IsStopSet}
 use Rattle.ix_text.specs.TokenLists.{token_list}
-use Rattle.ix_text.specs.Terms.{IsTerm}
 use Rattle.ix_run.specs.CodedTerms.{AreTermsOf}
 use Rattle.ix_run.specs.Dictionaries.{AreBefore, HoldsOccurrences}
 use Rattle.ix_run.specs.Inverted.{IsLawfulDocument, Occurrence, document_of, documents_of, occurrences_in, occurrences_of, postings_of, tokens_of}

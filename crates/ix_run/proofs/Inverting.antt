@@ -1,9 +1,7 @@
 -- The terms of inverted documents are the dictionary of their collection.
-use Rattle.std.proofs.Common.{◌≡◌, ◌≢◌, ℕ, ◌+◌, ◌^◌, ◌<◌, ◌≤◌, ◌↔◌, List, [], ◌∷◌, length, map, sum_by, All, Contains, slice_get, string_bytes, refl, sym, ap, ap₂, subst, ◌∙◌, arith}
-use Rattle.std.proofs.lemmas.List.{length-map}
-use Rattle.std.proofs.lemmas.List.Elements.{All-nil, All-cons, All-head, All-tail, All-map, All-weaker, All-contains}
-use Rattle.ix_text.specs.ByteOrder.{IsAscending}
-use Rattle.ix_text.specs.Collections.{Collection, Document, HasPosting, IsVocabulary}
+use Rattle.std.proofs.Common.{◌≡◌, ◌≢◌, ℕ, ◌+◌, ◌<◌, ◌↔◌, List, [], ◌∷◌, length, map, All, Contains, slice_get, string_bytes, refl, sym, ap, ap₂, subst, ◌∙◌, arith}
+use Rattle.std.proofs.lemmas.List.Elements.{All-head, All-tail, All-map, All-weaker, All-contains}
+use Rattle.ix_text.specs.Collections.{Collection, HasPosting, IsVocabulary}
 use Rattle.ix_text.specs.Parts.{Parts, Posting, DictionaryEntry, ArePartsOf, ArePostings, HasPosition, IsEntryOf, row_of, terms_of}
 use Rattle.ix_text.proofs.CollectionTold.{some_position}
 use Rattle.ix_run.specs.CodedTerms.{AreTermsOf, IsCoded, texts_of}

@@ -1,17 +1,16 @@
 -- The sizes of coded lists.
-use Rattle.std.proofs.Common.{◌≡◌, ℕ, ◌+◌, ◌-◌, ◌*◌, ◌^◌, ◌<◌, ◌≤◌, ◌⊎◌, List, [], ◌∷◌, ◌++◌, length, map, sum_by, All, string_bytes, refl, sym, ap, subst, ◌∙◌, inl, inr, arith, length-append}
+use Rattle.std.proofs.Common.{◌≡◌, ℕ, ◌+◌, ◌-◌, ◌*◌, ◌^◌, ◌<◌, ◌≤◌, List, [], ◌∷◌, ◌++◌, length, map, All, string_bytes, ap, ◌∙◌, inl, inr, arith, length-append}
 use Rattle.std.proofs.lemmas.Bool.{cases_lt}
 use Rattle.std.proofs.lemmas.List.Elements.{All-map, All-weaker}
 use Rattle.std.proofs.lemmas.List.Sums.{sum_by-cons}
 use Rattle.ix_text.specs.Collections.{Document}
-use Rattle.ix_text.specs.Parts.{Posting}
 use Rattle.ix_vbyte.specs.Code.{code_of}
 use Rattle.ix_vbyte.specs.Gaps.{Ascends, gaps_from, gaps_of, next_after}
 use Rattle.ix_vbyte.specs.Postings.{codes_of, list_bytes, list_bytes_from, posting_bytes}
 use Rattle.ix_vbyte.proofs.Gaps.{length-Ascends, next_after-le}
 use Rattle.ix_vbyte.proofs.Widths.{code_of_1, code_of_2, code_of_3, code_of_4, code_of_5}
 use Rattle.ix_run.specs.CodedTerms.{AreTermsOf, IsCoded}
-use Rattle.ix_run.specs.Inverted.{Occurrence, occurrences_of, postings_of, tokens_of}
+use Rattle.ix_run.specs.Inverted.{occurrences_of, postings_of, tokens_of}
 use Rattle.ix_run.specs.Runs.{IsShort, TermValue, term_shown}
 use Rattle.ix_run.specs.declared.coded_term.CodedTerm.{CodedTerm}
 use Rattle.ix_run.proofs.Postings.{positions_ascend, positions_at, posting_at, postings_counted, postings_in}

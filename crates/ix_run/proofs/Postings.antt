@@ -1,8 +1,8 @@
 -- The postings of a term in documents, and that counting its occurrences makes them.
-use Rattle.std.proofs.Common.{◌≡◌, ℕ, zero, suc, ◌+◌, ◌<◌, ◌≤◌, ◌⊎◌, Bool, true, false, cond, bytes_eq, List, [], ◌∷◌, ◌++◌, length, map, fold, Option, Some, None, All, Contains, slice_get, refl, sym, ap, ap₂, subst, ◌∙◌, inl, inr, arith, eq-eqb}
+use Rattle.std.proofs.Common.{◌≡◌, ℕ, zero, suc, ◌+◌, ◌<◌, ◌≤◌, ◌⊎◌, Bool, true, false, cond, bytes_eq, List, [], ◌∷◌, ◌++◌, length, map, fold, Some, None, All, Contains, slice_get, refl, sym, ap, subst, ◌∙◌, inl, inr, arith}
 use Rattle.std.proofs.lemmas.Bool.{ne_eqb}
-use Rattle.std.proofs.lemmas.List.{append_assoc, append-nil, map-append}
-use Rattle.std.proofs.lemmas.List.Elements.{All-nil, All-cons, Contains-append_left, Contains-append_right}
+use Rattle.std.proofs.lemmas.List.{append_assoc, append-nil}
+use Rattle.std.proofs.lemmas.List.Elements.{All-nil, All-cons, Contains-append_right}
 use Rattle.std.proofs.lemmas.List.Sums.{fold-append}
 use Rattle.std.proofs.lemmas.Slice.Eq.{bytes_eq-Decides}
 use Rattle.std.specs.List.Sorted.{IsStrictlyIncreasing}
@@ -13,7 +13,7 @@ use Rattle.ix_text.proofs.PartsLemmas.{injected}
 use Rattle.ix_text.proofs.TokensTold.{contains_head, contains_tail}
 use Rattle.ix_vbyte.specs.Gaps.{Ascends}
 use Rattle.ix_vbyte.proofs.Gaps.{Ascends-lower, Ascends-rising}
-use Rattle.ix_run.specs.Inverted.{Occurrence, grown, occurrences_in, occurrences_of, posted, postings_of}
+use Rattle.ix_run.specs.Inverted.{grown, occurrences_in, occurrences_of, posted, postings_of}
 use Rattle.ix_run.proofs.CodedLists.{grown-same}
 
 -- the positions of a term in a token list, whose first entry has that position

@@ -1,15 +1,14 @@
 -- The sizes of what a run holds, and its run text.
-use Rattle.std.proofs.Common.{◌≡◌, ℕ, ◌+◌, ◌^◌, ◌<◌, ◌≤◌, List, [], ◌∷◌, ◌++◌, length, map, flat_map, All, Some, slice_get, refl, sym, ap, subst, ◌∙◌, arith}
+use Rattle.std.proofs.Common.{◌≡◌, ℕ, ◌^◌, ◌<◌, List, [], ◌∷◌, ◌++◌, length, map, All, Some, slice_get, sym, ap, subst, ◌∙◌, arith}
 use Rattle.std.proofs.lemmas.List.{length-map}
-use Rattle.std.proofs.lemmas.List.Elements.{All-contains, All-map, All-weaker, All-get_or}
+use Rattle.std.proofs.lemmas.List.Elements.{All-map, All-weaker, All-get_or}
 use Rattle.std.proofs.lemmas.List.Folds.{flat_map-map}
 use Rattle.std.proofs.lemmas.Option.{get_or_from_slice_get, slice_get_within}
 use Rattle.ix_text.specs.Collections.{Collection, Document, HasPosting, IsLawful, IsLawfulEntry, IsName}
-use Rattle.ix_text.specs.Parts.{Parts, ArePartsOf, DictionaryEntry, DocumentRow, IsEntryOf, row_of}
+use Rattle.ix_text.specs.Parts.{Parts, DictionaryEntry, DocumentRow, IsEntryOf, row_of}
 use Rattle.ix_text.specs.Terms.{IsTerm}
-use Rattle.ix_text.specs.TokenLists.{Entry}
 use Rattle.ix_text.proofs.CollectionTold.{some_position}
-use Rattle.ix_run.specs.RunText.{IsRunText, head_bytes, run_layout, term_bytes}
+use Rattle.ix_run.specs.RunText.{IsRunText, head_bytes, run_layout}
 use Rattle.ix_run.specs.Runs.{IsRun, IsRunOf, IsShort, RunValue, TermValue, coded, run_bytes, run_value, value_bytes}
 
 All-at : {A : Type 0} (P : A → Type 0) (xs : List A) (i : ℕ) (x : A) → slice_get xs i ≡ Some x → All P xs → P x

@@ -5,7 +5,7 @@ use Rattle.std.proofs.lemmas.List.{append_assoc, append-nil, map-append, take_al
 use Rattle.std.proofs.lemmas.List.Elements.{All-nil, All-cons, All-head, All-tail}
 use Rattle.std.specs.Io.KnownBytes.{Appends}
 use Rattle.ix_text.specs.Sinks.{AppendsFront}
-use Rattle.ix_text.proofs.SinkLemmas.{appends_nothing, appends_then}
+use Rattle.ix_text.proofs.SinkLemmas.{appends_then}
 use Rattle.ix_run.specs.Writing.{Writes}
 use Rattle.ix_run.proofs.Blocks.{map_take_more}
 

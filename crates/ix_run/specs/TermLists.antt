@@ -1,5 +1,5 @@
 -- One term's coded list while its documents are counted.
-use Rattle.std.specs.Prelude.{◌≡◌, ℕ, ◌+◌, ◌-◌, ◌^◌, ◌<◌, ◌≤◌, List, [], ◌∷◌, ◌++◌, length}
+use Rattle.std.specs.Prelude.{◌≡◌, ℕ, ◌+◌, ◌-◌, ◌≤◌, List, [], ◌∷◌, ◌++◌, length}
 use Rattle.ix_text.specs.Parts.{Posting}
 use Rattle.ix_vbyte.specs.Gaps.{gaps_of, next_after}
 use Rattle.ix_vbyte.specs.Postings.{codes_of, documents_of, list_bytes}

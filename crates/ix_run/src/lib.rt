@@ -16,6 +16,8 @@ mod run_text;
 mod source;
 mod stop_terms;
 mod term_list;
+#[cfg(test)]
+mod tests;
 
 pub use errors::{RunError, RunTextError, WriteError};
 pub use head::{RunDoc, RunHead};

@@ -1,7 +1,6 @@
-use Rattle.std.proofs.Common.{◌≡◌, ℕ, ◌+◌, ◌∷◌, ◌++◌, [], List, Some, map, option_map, string_bytes, take, ap, subst, sym, ◌∙◌}
-use Rattle.ix_run.specs.Inverted.{Occurrence, occurrences_in}
-use Rattle.ix_run.specs.Dictionaries.{HoldsOccurrences}
-use Rattle.ix_run.proofs.Dictionaries.{HoldsMore, lists_before_later, occurrences_in-more, posted_entry, passed_entry, same_before}
+use Rattle.std.proofs.Common.{◌+◌, Some, map, option_map, string_bytes, take, ap, sym, ◌∙◌}
+use Rattle.ix_run.specs.Inverted.{occurrences_in}
+use Rattle.ix_run.proofs.Dictionaries.{lists_before_later, occurrences_in-more, posted_entry, passed_entry, same_before}
 use Rattle.ix_run.proofs.dictionary.post_all.Goals as goal
 use Rattle.ix_run.proofs.dictionary.post_all.Goals.{in-Some+in_ok-post, in_default}
 

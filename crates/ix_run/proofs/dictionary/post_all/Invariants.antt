@@ -1,6 +1,6 @@
-use Rattle.std.proofs.Common.{List, ◌++◌, map, option_map, string_bytes, take}
-use Rattle.ix_run.specs.Dictionaries.{AreBefore, HoldsOccurrences}
-use Rattle.ix_run.specs.Inverted.{Occurrence, occurrences_in}
+use Rattle.std.proofs.Common.{map, option_map, string_bytes, take}
+use Rattle.ix_run.specs.Dictionaries.{AreBefore}
+use Rattle.ix_run.specs.Inverted.{occurrences_in}
 use Rattle.ix_run.proofs.Dictionaries.{HoldsMore}
 use Rattle.ix_run.proofs.dictionary.post_all.Given as goal
 

@@ -1,4 +1,4 @@
-use Rattle.std.proofs.Common.{◌≡◌, ◌≤◌, ◌++◌, ◌∷◌, [], length, map, string_bytes, take, ap, ap₂, sym, subst, ◌∙◌, arith, List, ℕ, All}
+use Rattle.std.proofs.Common.{◌≡◌, ◌++◌, ◌∷◌, [], length, map, string_bytes, ap, ap₂, sym, subst, ◌∙◌, arith, All}
 use Rattle.std.proofs.lemmas.List.{length-map, map-append, take_all}
 use Rattle.std.proofs.lemmas.List.Elements.{All-weaker}
 use Rattle.ix_text.specs.ByteOrder.{IsAscending}

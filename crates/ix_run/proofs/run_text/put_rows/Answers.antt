@@ -1,5 +1,5 @@
 use Rattle.ix_run.specs.RunText.{row_bytes}
-use Rattle.ix_run.specs.Runs.{row_shown, term_shown, value_bytes}
+use Rattle.ix_run.specs.Runs.{row_shown}
 use Rattle.ix_text.proofs.SinkLemmas.{appends_nothing}
 use Rattle.ix_run.proofs.Writing.{appends_all, appends_one_more, front_within, writes_refused}
 use Rattle.ix_run.proofs.run_text.put_rows.Goals as goal

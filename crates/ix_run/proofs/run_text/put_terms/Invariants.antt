@@ -1,7 +1,6 @@
 use Rattle.std.proofs.Common.{flat_map, map, take}
 use Rattle.std.specs.Io.KnownBytes.{Appends}
-use Rattle.ix_run.specs.RunText.{row_bytes}
-use Rattle.ix_run.specs.Runs.{row_shown, term_shown, value_bytes}
+use Rattle.ix_run.specs.Runs.{term_shown, value_bytes}
 use Rattle.ix_run.proofs.run_text.put_terms.Given as goal
 
 -- the elements so far are out

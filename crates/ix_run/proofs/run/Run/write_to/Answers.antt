@@ -1,4 +1,4 @@
-use Rattle.std.proofs.Common.{◌<◌, ◌^◌, All, List, length, map, string_bytes, sym, subst, arith}
+use Rattle.std.proofs.Common.{All, List, string_bytes, sym, subst, arith}
 use Rattle.std.proofs.lemmas.List.{length-map}
 use Rattle.ix_run.specs.Runs.{IsShort, TermValue, head_value, row_shown, term_shown}
 use Rattle.ix_text.specs.Parts.{DocumentRow}

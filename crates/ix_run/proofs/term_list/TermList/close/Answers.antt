@@ -1,4 +1,4 @@
-use Rattle.std.proofs.Common.{◌≡◌, ◌++◌, ap, ◌∙◌}
+use Rattle.std.proofs.Common.{◌++◌, ap, ◌∙◌}
 use Rattle.ix_run.proofs.CodedLists.{closed, on_ok_appended}
 use Rattle.ix_run.proofs.term_list.TermList.close.Goals as goal
 

@@ -1,4 +1,4 @@
-use Rattle.std.proofs.Common.{refl, ap, ◌∙◌, ◌+◌, ◌-◌}
+use Rattle.std.proofs.Common.{refl, ap, ◌+◌, ◌-◌}
 use Rattle.ix_run.proofs.CodedLists.{opened}
 use Rattle.ix_run.proofs.term_list.TermList.open.Goals as goal
 
