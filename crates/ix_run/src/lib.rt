@@ -2,18 +2,18 @@
 //! the run as a value, its writer and its exact reader are to come.
 #![tactic(auto)]
 
-mod errors;
 mod head;
 mod heading;
 mod input;
 mod laws;
 mod rows;
 mod run_reader;
+mod run_text_error;
 mod source;
 mod stop_terms;
 
-pub use errors::RunTextError;
 pub use head::{RunDoc, RunHead};
 pub use laws::run_text_has_eighteen_bytes;
 pub use run_reader::RunReader;
+pub use run_text_error::RunTextError;
 pub use source::Source;
