@@ -1,1 +1,12 @@
+pub mod DictionaryTold
+pub mod EntryLemmas
+pub mod GramLists
+pub mod GramOrder
+pub mod HeldLemmas
+pub mod IndexTold
+pub mod PairGrams
+pub mod PairOrder
+pub mod SectionLemmas
+pub mod SectionSizes
+pub mod TermPairs
 pub mod TextLaws

@@ -1,10 +1,9 @@
 -- The size of an index text, and how its first bytes tell its version.
-use Rattle.std.proofs.Common.{◌≡◌, ℕ, ◌+◌, ◌<◌, ◌≤◌, List, [], ◌∷◌, ◌++◌, length, get_or, codes, refl, sym, ap, ◌∙◌, arith, length-append}
+use Rattle.std.proofs.Common.{◌≡◌, ℕ, ◌≤◌, List, length, get_or, refl, ap, arith, length-append}
 use Rattle.std.specs.Int.{to_le_bytes, w32, w64}
-use Rattle.ix_text.specs.Collections.{Collection}
 use Rattle.ix_text.specs.Parts.{Parts, GramEntry}
-use Rattle.ix_file.specs.IndexText.{IsIndexText, magic, end_mark, tail, layout}
-use Rattle.ix_file.specs.Sections.{Version, Plain, FrontCoded, postings_section}
+use Rattle.ix_file.specs.IndexText.{magic, end_mark, tail, layout}
+use Rattle.ix_file.specs.Sections.{Version, Plain, FrontCoded}
 
 pub length-magic : (version : Version) → length (magic version) ≡ 8
 unfolding magic

@@ -2,6 +2,10 @@
 //! Today this is its definition and what holds of it; its writer and its exact reader are to come.
 #![tactic(auto)]
 
+mod grams;
 mod laws;
 
-pub use laws::{index_text_has_one_version, index_text_has_sixty_four_bytes};
+pub use laws::{
+    grams_of_the_vocabulary, index_text_has_one_version, index_text_has_sixty_four_bytes,
+    index_text_tells_collection, index_text_tells_version_and_collection, terms_have_one_gram_list,
+};

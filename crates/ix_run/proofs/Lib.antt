@@ -6,4 +6,5 @@ pub mod PieceLemmas
 pub mod RowLemmas
 pub mod SpelledLemmas
 pub mod StopTermLemmas
+pub mod RunTold
 pub mod TextLaws

@@ -2,16 +2,11 @@
 use Rattle.std.proofs.Common.{◌≡◌, ℕ, ◌≤◌, List, length, refl, ap, arith, length-append}
 use Rattle.std.specs.Int.{to_le_bytes, w32}
 use Rattle.ix_text.specs.Parts.{Parts}
-use Rattle.ix_vbyte.specs.Code.{code_of}
+use Rattle.ix_vbyte.proofs.Values.{some_code_byte}
 use Rattle.ix_run.specs.RunText.{head_bytes, run_layout}
 
 pub length-four : (n : ℕ) → length (to_le_bytes w32 n) ≡ 4
 length-four n = refl
-
--- a code has a byte
-pub some_code_byte : (n : ℕ) → 1 ≤ length (code_of n)
-unfolding code_of
-some_code_byte n = simp length-append (omega arith)
 
 pub length-run_layout : (first : ℕ) (parts : Parts) (bytes : List ℕ) → bytes ≡ run_layout first parts → 18 ≤ length bytes
 unfolding run_layout head_bytes

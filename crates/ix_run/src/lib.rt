@@ -13,7 +13,9 @@ mod source;
 mod stop_terms;
 
 pub use head::{RunDoc, RunHead};
-pub use laws::run_text_has_eighteen_bytes;
+pub use laws::{
+    no_run_text_begins_another, run_text_has_eighteen_bytes, run_text_tells_collection,
+};
 pub use run_reader::RunReader;
 pub use run_text_error::RunTextError;
 pub use source::Source;

@@ -1,9 +1,12 @@
+pub mod AscendingLists
 pub mod CollectionLaws
 pub mod CollectionLemmas
 pub mod CollectionTold
 pub mod FoldLemmas
 pub mod FoldTables
 pub mod LawfulLemmas
+pub mod PartsCounted
+pub mod PartsLawful
 pub mod PartsLemmas
 pub mod SinkLemmas
 pub mod StopSetLemmas

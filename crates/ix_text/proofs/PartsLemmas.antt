@@ -6,7 +6,7 @@ use Rattle.std.proofs.lemmas.Option.{slice_get_within, slice_get-get_or, slice_g
 use Rattle.std.specs.Option.{option_map}
 use Rattle.ix_text.specs.Collections.{Collection, Document, HasPosting}
 use Rattle.ix_text.specs.TokenLists.{Entry}
-use Rattle.ix_text.specs.Parts.{Parts, DictionaryEntry, DocumentRow, ArePartsOf, IsEntryOf, row_of, terms_of}
+use Rattle.ix_text.specs.Parts.{Parts, Posting, DictionaryEntry, DocumentRow, ArePartsOf, IsEntryOf, row_of, terms_of}
 
 -- what stands at each place tells the list
 pub same_by_places : {A : Type 0} (xs ys : List A) → length xs ≡ length ys → ((k : ℕ) (x : A) → slice_get xs k ≡ Some x → slice_get ys k ≡ Some x) → xs ≡ ys
@@ -80,6 +80,20 @@ same_fields d e names tokens = ap₂ (λ (name : List ℕ) (list : List Entry). 
 
 pub same_collection_fields : (one other : Collection) → one.stop ≡ other.stop → one.documents ≡ other.documents → one ≡ other
 same_collection_fields one other stops documents = ap₂ (λ (stop : List (List ℕ)) (list : List Document). let collection : Collection = record { stop = stop; documents = list } in collection) stops documents
+
+-- a row, an entry and parts are their fields
+pub same_row_fields : (one other : DocumentRow) → one.name ≡ other.name → one.tokens ≡ other.tokens → one ≡ other
+same_row_fields one other names counts = ap₂ (λ (name : List ℕ) (tokens : ℕ). let row : DocumentRow = record { name = name; tokens = tokens } in row) names counts
+
+pub same_entry_fields : (one other : DictionaryEntry) → one.term ≡ other.term → one.postings ≡ other.postings → one ≡ other
+same_entry_fields one other terms lists = ap₂ (λ (term : List ℕ) (postings : List Posting). let entry : DictionaryEntry = record { term = term; postings = postings } in entry) terms lists
+
+pub same_parts_fields : (one other : Parts) → one.stop ≡ other.stop → one.rows ≡ other.rows → one.entries ≡ other.entries → one ≡ other
+same_parts_fields one other stops rows entries =
+    let with_stop : List (List ℕ) → Parts = λ stop. record { stop = stop; rows = one.rows; entries = one.entries } in
+    let with_rows : List DocumentRow → Parts = λ list. record { stop = other.stop; rows = list; entries = one.entries } in
+    let with_entries : List DictionaryEntry → Parts = λ list. record { stop = other.stop; rows = other.rows; entries = list } in
+    ap with_stop stops ∙ ap with_rows rows ∙ ap with_entries entries
 
 -- what two present values hold
 pub injected : {A : Type 0} {x y : A} → Some x ≡ Some y → x ≡ y

@@ -1,7 +1,7 @@
 -- A text has one stop set or one fault, and never both.
-use Rattle.std.proofs.Common.{◌≡◌, ℕ, zero, suc, ◌+◌, ◌^◌, ◌<◌, ◌≤◌, ◌↔◌, ◌⊎◌, inl, inr, List, [], ◌∷◌, ◌++◌, length, All, Contains, Ordering, Less, Equal, Greater, refl, sym, ap, ap₂, subst, ◌∙◌, arith, length-append}
+use Rattle.std.proofs.Common.{◌≡◌, ℕ, suc, ◌+◌, ◌^◌, ◌<◌, ◌≤◌, ◌↔◌, ◌⊎◌, inl, inr, List, [], ◌∷◌, ◌++◌, length, All, Contains, Ordering, Less, Equal, Greater, refl, sym, ap, subst, ◌∙◌, arith, length-append}
 use Rattle.std.proofs.lemmas.Bool.{cases_Bool, cases_lt}
-use Rattle.std.proofs.lemmas.Cmp.{nat_list_cmp_total, tied_itself}
+use Rattle.std.proofs.lemmas.Cmp.{nat_list_cmp_total}
 use Rattle.std.proofs.lemmas.List.Elements.{All-nil, All-cons, All-head, All-tail}
 use Rattle.std.specs.List.{AllByRecursion}
 use Rattle.std.specs.List.Sorted.{IsStrictlySortedBy}
@@ -15,69 +15,12 @@ use Rattle.ix_text.specs.StopFaults.{IsStopLine, IsStopLineFault, HasStopLineFau
 use Rattle.ix_text.specs.StopText.{IsCutAtLineFeeds, stop_terms_of, IsStopText}
 use Rattle.ix_text.specs.Terms.{term_of_word}
 use Rattle.ix_text.specs.TokenLists.{is_term_size}
+use Rattle.ix_text.proofs.AscendingLists.{contains_later, contains_cases, one_ascending}
 use Rattle.ix_text.proofs.StopSetLemmas.{same_from_Equal}
 use Rattle.ix_text.proofs.StopTextLemmas.{words-nil, lines_of, lines_of-nil, cut_is, cut_at_line_feeds, stop_terms_of-nil, stop_terms_of-empty_line}
 
--- ---- two ascending lists of the same texts are one
-
 abbrev cmp : List ℕ → List ℕ → Ordering
 cmp = slice_cmp nat_cmp
-
-contains_first : (x : List ℕ) (xs : List (List ℕ)) → Contains (x ∷ xs) x
-contains_first x xs = (0, omega arith, refl)
-
-contains_later : (x : List ℕ) (xs : List (List ℕ)) (y : List ℕ) → Contains xs y → Contains (x ∷ xs) y
-contains_later x xs y (k, low, is) = (suc k, omega arith, is)
-
-contains_cases : (x : List ℕ) (xs : List (List ℕ)) (y : List ℕ) → Contains (x ∷ xs) y → (x ≡ y) ⊎ Contains xs y
-contains_cases x xs y (zero, low, is) = inl is
-contains_cases x xs y (suc k, low, is) = inr (k, omega arith, is)
-
-contains_none : (y : List ℕ) → ¬ (Contains [] y)
-contains_none y (k, low, is) = omega arith
-
-all_below : (x : List ℕ) (xs : List (List ℕ)) (y : List ℕ) → AllByRecursion (λ z. cmp x z ≡ Less) xs → Contains xs y → cmp x y ≡ Less
-all_below x [] y all has = absurd (contains_none y has)
-all_below x (z ∷ xs) y all has = elim (contains_cases z xs y has) [ inl same ↦ subst (λ (w : List ℕ). cmp x w ≡ Less) same all.0 | inr later ↦ all_below x xs y all.1 later ]
-
-not_below_itself : (x : List ℕ) → ¬ (cmp x x ≡ Less)
-not_below_itself x less = let tie = tied_itself nat_list_cmp_total x in cc
-
-not_both_below : (x y : List ℕ) → cmp x y ≡ Less → ¬ (cmp y x ≡ Less)
-not_both_below x y one two = not_below_itself x (nat_list_cmp_total.trans x y x one two)
-
-abbrev AreSameTexts : List (List ℕ) → List (List ℕ) → Type 0
-AreSameTexts xs ys = (t : List ℕ) → Contains xs t ↔ Contains ys t
-
-same_first : (x y : List ℕ) (xs ys : List (List ℕ)) → AllByRecursion (λ z. cmp x z ≡ Less) xs → AllByRecursion (λ z. cmp y z ≡ Less) ys → AreSameTexts (x ∷ xs) (y ∷ ys) → x ≡ y
-same_first x y xs ys up_x up_y same =
-    elim (contains_cases y ys x ((same x).0 (contains_first x xs))) [
-      | inl first ↦ sym first
-      | inr later ↦
-          elim (contains_cases x xs y ((same y).1 (contains_first y ys))) [
-            | inl first ↦ first
-            | inr also ↦ absurd (not_both_below x y (all_below x xs y up_x also) (all_below y ys x up_y later))
-          ]
-    ]
-
-same_rest : (x : List ℕ) (xs ys : List (List ℕ)) → AllByRecursion (λ z. cmp x z ≡ Less) xs → ((t : List ℕ) → Contains (x ∷ xs) t → Contains (x ∷ ys) t) → (t : List ℕ) → Contains xs t → Contains ys t
-same_rest x xs ys up same t has =
-    elim (contains_cases x ys t (same t (contains_later x xs t has))) [
-      | inl first ↦ absurd (not_below_itself x (subst (λ (w : List ℕ). cmp x w ≡ Less) (sym first) (all_below x xs t up has)))
-      | inr later ↦ later
-    ]
-
-one_ascending : (xs ys : List (List ℕ)) → IsAscending xs → IsAscending ys → AreSameTexts xs ys → xs ≡ ys
-unfolding IsStrictlySortedBy
-one_ascending [] [] up_x up_y same = refl
-one_ascending [] (y ∷ ys) up_x up_y same = absurd (contains_none y ((same y).1 (contains_first y ys)))
-one_ascending (x ∷ xs) [] up_x up_y same = absurd (contains_none x ((same x).0 (contains_first x xs)))
-one_ascending (x ∷ xs) (y ∷ ys) up_x up_y same =
-    let first = same_first x y xs ys up_x.0 up_y.0 same in
-    let up : AllByRecursion (λ z. cmp x z ≡ Less) ys = subst (λ (w : List ℕ). AllByRecursion (λ z. cmp w z ≡ Less) ys) (sym first) up_y.0 in
-    let there : (t : List ℕ) → Contains (x ∷ xs) t → Contains (x ∷ ys) t = λ t has. subst (λ (w : List ℕ). Contains (w ∷ ys) t) (sym first) ((same t).0 has) in
-    let back : (t : List ℕ) → Contains (x ∷ ys) t → Contains (x ∷ xs) t = λ t has. (same t).1 (subst (λ (w : List ℕ). Contains (w ∷ ys) t) first has) in
-    ap₂ ◌∷◌ first (one_ascending xs ys up_x.1 up_y.1 (λ t. (same_rest x xs ys up_x.0 there t, same_rest x ys xs up back t)))
 
 -- ---- the lines of a stop text are those of its one cut
 
@@ -94,7 +37,7 @@ one_stop_set text one other first second =
     let lines = lines_read text first.lines first.cut first.read in
     let others = lines_read text second.lines second.cut second.read in
     let terms = sym lines.1 ∙ others.1 in
-    one_ascending one other first.ascending second.ascending (λ t. (
+    one_ascending nat_list_cmp_total one other first.ascending second.ascending (λ t. (
       λ has. (second.terms t).1 (subst (λ (l : List (List ℕ)). Contains l t) terms ((first.terms t).0 has)),
       λ has. (first.terms t).1 (subst (λ (l : List (List ℕ)). Contains l t) (sym terms) ((second.terms t).0 has)),
     ))

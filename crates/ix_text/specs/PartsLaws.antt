@@ -1,8 +1,8 @@
 -- What the parts of a collection tell of it, and which parts are those of a lawful one.
 use Rattle.std.specs.Prelude.{◌≡◌, ℕ, ◌^◌, ◌<◌, ◌≤◌, List, length, sum_by, slice_get, Some, All, Contains}
 use Rattle.ix_text.specs.ByteOrder.{IsAscending}
-use Rattle.ix_text.specs.Collections.{Collection, IsName, IsLawful}
-use Rattle.ix_text.specs.Parts.{DictionaryEntry, DocumentRow, Parts, ArePartsOf, ArePostings, HasPosition, terms_of}
+use Rattle.ix_text.specs.Collections.{Collection, IsName, IsLawful, token_count}
+use Rattle.ix_text.specs.Parts.{Posting, DictionaryEntry, DocumentRow, Parts, ArePartsOf, ArePostings, HasPosition, terms_of}
 use Rattle.ix_text.specs.Terms.{IsTerm}
 
 -- two collections with the same parts are the same
@@ -44,3 +44,23 @@ pub record HasCollection (parts : Parts) : Type 0 where
 -- lawful parts are those of a lawful collection
 abbrev pub LawfulPartsHaveCollection : Type 0
 LawfulPartsHaveCollection = (parts : Parts) → AreLawful parts → HasCollection parts
+
+-- the parts of a lawful collection are lawful
+abbrev pub LawfulCollectionsHaveLawfulParts : Type 0
+LawfulCollectionsHaveLawfulParts = (collection : Collection) (parts : Parts) → IsLawful collection → ArePartsOf collection parts → AreLawful parts
+
+-- the document and each position are below the number
+abbrev pub LiesBelow : ℕ → Posting → Type 0
+LiesBelow top posting = (posting.0 < top) × All (λ position. position < top) posting.1
+
+-- documents and positions of lawful parts are below 2^28
+abbrev pub LawfulPartsLieBelow : Type 0
+LawfulPartsLieBelow = (parts : Parts) → AreLawful parts → All (λ entry. All (LiesBelow (2 ^ 28)) entry.postings) parts.entries
+
+-- the positions of a term in all documents, counted
+abbrev pub position_count : List Posting → ℕ
+position_count postings = sum_by (λ posting. length posting.1) postings
+
+-- no token is told twice: all terms have no more positions than the collection has tokens
+abbrev pub TermsShareTokens : Type 0
+TermsShareTokens = (collection : Collection) (parts : Parts) → ArePartsOf collection parts → sum_by (λ entry. position_count entry.postings) parts.entries ≤ token_count collection

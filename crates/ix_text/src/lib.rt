@@ -13,7 +13,10 @@ mod windows;
 
 pub use collection::{Collection, CollectionError, Doc, has_documents_or_a_fault};
 pub use memory::Memory;
-pub use parts::{lawful_parts_have_collection, parts_tell_collection};
+pub use parts::{
+    lawful_collections_have_lawful_parts, lawful_parts_have_collection, lawful_parts_lie_below,
+    parts_tell_collection, terms_share_tokens,
+};
 pub use sink::{WriteRefused, flush, put_all};
 pub use stop::{StopError, StopList, has_stop_set_or_a_fault};
 pub use term::{equal_terms_match, term_of};

@@ -1,5 +1,9 @@
 pub mod Fronts
+pub mod GapCodes
 pub mod Gaps
+pub mod Pieces
 pub mod Postings
+pub mod Sizes
+pub mod Texts
 pub mod Values
 pub mod Widths

@@ -164,7 +164,12 @@ code_of-apart m n xs ys e =
     let low : 128 + m % 128 ≡ 128 + n % 128 = r.1 in
     (omega arith, r.2)
 
--- a code has one to five bytes
+-- a code has a byte
+pub some_code_byte : (n : ℕ) → 1 ≤ length (code_of n)
+unfolding code_of
+some_code_byte n = omega (arith, length_push (digits_of 128 (n / 128)) (128 + n % 128))
+
+-- a code of a number below 2^32 has one to five bytes
 pub length-code_of : (n : ℕ) → n < 2 ^ 32 → (0 < length (code_of n)) × (length (code_of n) ≤ 5)
 unfolding code_of
 length-code_of n small =

@@ -20,6 +20,10 @@ pub record ArePostings (low top : ℕ) (postings : List Posting) : Type 0 where
   pub documents : Ascends low top (documents_of postings)
   pub each : All (IsPosting top) postings
 
+-- The document and each position are below `top`.
+abbrev pub LiesBelow : ℕ → Posting → Type 0
+LiesBelow top posting = (posting.0 < top) × All (λ position. position < top) posting.1
+
 -- The codes of the numbers, one behind another.
 abbrev pub codes_of : List ℕ → List ℕ
 codes_of numbers = flat_map code_of numbers

@@ -1,9 +1,10 @@
 //! Laws of codes, gaps and coded lists.
-ghost use Rattle.std.specs.Prelude.{◌≡◌, ◌↔◌, ℕ, ◌+◌, ◌<◌, ◌≤◌, ◌^◌, ◌++◌, List, length, slice_index, All, zip, flat_map};
+ghost use Rattle.std.specs.Prelude.{◌≡◌, ◌↔◌, ℕ, ◌+◌, ◌<◌, ◌≤◌, ◌^◌, ◌*◌, ◌++◌, List, length, slice_index, sum_by, All, zip, flat_map};
 ghost use Rattle.std.specs.List.Sorted.{IsStrictlyIncreasing};
 ghost use Rattle.ix_vbyte.specs.Code.{IsCode, code_of};
 ghost use Rattle.ix_vbyte.specs.Gaps.{Ascends, gaps_of, numbers_of};
-ghost use Rattle.ix_vbyte.specs.Postings.{Posting, documents_of, ArePostings, posting_bytes, list_bytes};
+ghost use Rattle.ix_vbyte.specs.Postings.{Posting, documents_of, LiesBelow, ArePostings, posting_bytes, list_bytes};
+ghost use Rattle.ix_vbyte.specs.Texts.{counted};
 
 /// A number below 2^32 has exactly one code.
 pub fn one_code()
@@ -36,6 +37,16 @@ pub fn gaps_come_back()
     ensures positive { (top : ℕ) (xs : List ℕ) → Ascends 0 top xs → All (λ gap. 0 < gap) (gaps_of xs) }
 {}
 
+/// What it is for postings to ascend from 0 and below a number.
+pub fn postings_ascending()
+    ensures { (top : ℕ) (postings : List Posting) → ArePostings 0 top postings ↔ (IsStrictlyIncreasing (documents_of postings) × All (λ posting. (0 < length posting.1) × IsStrictlyIncreasing posting.1) postings × All (LiesBelow top) postings) }
+{}
+
+/// A coded list has at most 15 bytes a position: five each for the gap, the count and the position's gap.
+pub fn list_is_short()
+    ensures { (top : ℕ) (postings : List Posting) → ArePostings 0 top postings → top < 2 ^ 32 → length (list_bytes postings) ≤ 15 * sum_by (λ posting. length posting.1) postings }
+{}
+
 /// The coded list of postings has for each document, in order, the bytes of its posting.
 pub fn list_is_its_postings()
     ensures { (postings : List Posting) → list_bytes postings ≡ flat_map (λ pair. posting_bytes pair.0 pair.1) (zip (gaps_of (documents_of postings)) postings) }
@@ -45,4 +56,11 @@ pub fn list_is_its_postings()
 /// at most, whatever follows them.
 pub fn postings_come_back()
     ensures { (top : ℕ) (postings others : List Posting) (xs ys : List ℕ) → ArePostings 0 top postings → ArePostings 0 top others → length postings ≡ length others → list_bytes postings ++ xs ≡ list_bytes others ++ ys → (postings ≡ others) × (xs ≡ ys) }
+{}
+
+/// From a counted text the text comes back, and from counted texts and their number the list of them,
+/// whatever follows.
+pub fn counted_texts_come_back()
+    ensures one { (text other xs ys : List ℕ) → counted text ++ xs ≡ counted other ++ ys → (text ≡ other) × (xs ≡ ys) }
+    ensures many { (texts others : List (List ℕ)) (xs ys : List ℕ) → length texts ≡ length others → flat_map counted texts ++ xs ≡ flat_map counted others ++ ys → (texts ≡ others) × (xs ≡ ys) }
 {}

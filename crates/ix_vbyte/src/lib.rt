@@ -3,6 +3,7 @@
 //! read, and here are the gaps of an ascending list and the coded list of a term's postings.
 #![tactic(auto)]
 
+mod appending;
 mod decoding;
 mod encoding;
 mod errors;
@@ -10,10 +11,11 @@ mod laws;
 #[cfg(test)]
 mod tests;
 
+pub use appending::{push_counted, push_gaps, push_posting};
 pub use decoding::decode;
 pub use encoding::{Code, code_len, encode, push_code};
 pub use errors::VbError;
 pub use laws::{
-    ascending, codes_apart, gaps_are_differences, gaps_come_back, list_is_its_postings, one_code,
-    postings_come_back,
+    ascending, codes_apart, counted_texts_come_back, gaps_are_differences, gaps_come_back,
+    list_is_its_postings, list_is_short, one_code, postings_ascending, postings_come_back,
 };

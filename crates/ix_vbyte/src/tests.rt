@@ -1,5 +1,5 @@
 //! Worked codes, and every short string of bytes.
-use crate::{VbError, code_len, decode, encode, push_code};
+use crate::{VbError, code_len, decode, encode, push_code, push_counted, push_gaps, push_posting};
 use std::test::Fail;
 
 /// Numbers and their codes, worked by hand.
@@ -82,6 +82,26 @@ fn edges_come_back(rt: HostRuntime) -> Result<(), Fail> {
         rest = &rest[count..];
     }
     assert!(rt; rest.is_empty());
+    Ok(())
+}
+
+#[test]
+fn appended_behind_others(rt: HostRuntime) -> Result<(), Fail> {
+    let mut out = b"x".to_vec(rt.alloc())?;
+    push_counted(&mut out, b"ab")?;
+    assert_eq!(rt; out.as_slice(), b"x\x82ab".as_slice());
+    push_counted(&mut out, b"")?;
+    assert_eq!(rt; &out[4..], b"\x80".as_slice());
+    out.clear();
+    push_gaps(&mut out, 0, &[0, 4, 5])?;
+    assert_eq!(rt; out.as_slice(), b"\x81\x84\x81".as_slice());
+    out.clear();
+    push_gaps(&mut out, 825, &[829, 215406])?;
+    assert_eq!(rt; out.as_slice(), b"\x85\x0d\x0c\xb1".as_slice());
+    out.clear();
+    push_posting(&mut out, 0, 0, &[1, 3])?;
+    push_posting(&mut out, 1, 4, &[0])?;
+    assert_eq!(rt; out.as_slice(), b"\x81\x82\x82\x82\x84\x81\x81".as_slice());
     Ok(())
 }
 

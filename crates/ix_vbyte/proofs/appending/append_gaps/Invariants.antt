@@ -1,0 +1,6 @@
+use Rattle.std.proofs.Common.{◌-◌, ◌^◌, drop}
+use Rattle.ix_vbyte.proofs.GapCodes.{HasPushed}
+use Rattle.ix_vbyte.proofs.appending.append_gaps.Given as goal
+
+abbrev pub invariant-loop-number : goal.invariant-loop-number
+invariant-loop-number l = HasPushed (2 ^ 32 - 1) l.initial.out.items l.out.items l.fn.next l.after l.numbers (drop l.number-index l.numbers)

@@ -1,0 +1,101 @@
+//! Texts, gaps and postings at the end of other bytes. Where memory is refused, nothing was appended.
+ghost use Rattle.std.specs.Prelude.{◌≡◌, ◌≤◌, ◌<◌, ◌+◌, ◌-◌, ◌^◌, ◌++◌, length, take, OnOk, OnErr};
+ghost use Rattle.ix_vbyte.specs.Code.{code_of};
+ghost use Rattle.ix_vbyte.specs.Gaps.{Ascends, gaps_from};
+ghost use Rattle.ix_vbyte.specs.Postings.{codes_of, posting_bytes};
+ghost use Rattle.ix_vbyte.specs.Texts.{counted};
+
+use crate::push_code;
+use std::alloc::AllocError;
+
+/// Appends the code of the number of bytes of a text, and the text.
+#[inline]
+pub fn push_counted(out: &mut Vec<u8>, text: &[u8]) -> Result<(), AllocError>
+    requires { length text.now < 2 ^ 32 }
+    ensures ok { OnOk result (out.new.items ≡ out.old.items ++ counted text.now) }
+    ensures err { OnErr result (out.new.items ≡ out.old.items) }
+{
+    let start = out.len();
+    let pushed = append_counted(out, text);
+    if pushed.is_err() {
+        out.truncate(start);
+    }
+    pushed
+}
+
+/// The same, but that a refusal may leave a beginning.
+#[inline]
+fn append_counted(out: &mut Vec<u8>, text: &[u8]) -> Result<(), AllocError>
+    requires { length text.now < 2 ^ 32 }
+    ensures ok { OnOk result (out.new.items ≡ out.old.items ++ counted text.now) }
+    ensures err { OnErr result (take (length out.old.items) out.new.items ≡ out.old.items) }
+{
+    push_code(out, text.len() as u32)?;
+    out.extend_from_slice(text)
+}
+
+/// Appends the codes of the gaps of ascending numbers, where `next` is one above the number before the
+/// first, or 0 (Introduction to Information Retrieval, 5.3.1).
+#[inline]
+pub fn push_gaps(out: &mut Vec<u8>, next: u32, numbers: &[u32]) -> Result<(), AllocError>
+    requires { Ascends next (2 ^ 32 - 1) numbers.now }
+    ensures ok { OnOk result (out.new.items ≡ out.old.items ++ codes_of (gaps_from next numbers.now)) }
+    ensures err { OnErr result (out.new.items ≡ out.old.items) }
+{
+    let start = out.len();
+    let pushed = append_gaps(out, next, numbers);
+    if pushed.is_err() {
+        out.truncate(start);
+    }
+    pushed
+}
+
+/// The same, but that a refusal may leave a beginning.
+#[inline]
+fn append_gaps(out: &mut Vec<u8>, next: u32, numbers: &[u32]) -> Result<(), AllocError>
+    requires { Ascends next (2 ^ 32 - 1) numbers.now }
+    ensures ok { OnOk result (out.new.items ≡ out.old.items ++ codes_of (gaps_from next numbers.now)) }
+    ensures err { OnErr result (take (length out.old.items) out.new.items ≡ out.old.items) }
+{
+    let mut after = next;
+    for &number in numbers {
+        push_code(out, number + 1 - after)?;
+        after = number + 1;
+    }
+    Ok(())
+}
+
+/// Appends the posting of a document, where `next` is one above the document before it, or 0: the code of
+/// the gap, that of the number of positions, and those of the positions' gaps.
+#[inline]
+pub fn push_posting(
+    out: &mut Vec<u8>,
+    next: u32,
+    document: u32,
+    positions: &[u32],
+) -> Result<(), AllocError>
+    requires follows { next ≤ document }
+    requires low { document < 2 ^ 32 - 1 }
+    requires ascending { Ascends 0 (2 ^ 32 - 1) positions.now }
+    ensures ok { OnOk result (out.new.items ≡ out.old.items ++ posting_bytes (document + 1 - next) (document, positions.now)) }
+    ensures err { OnErr result (out.new.items ≡ out.old.items) }
+{
+    let start = out.len();
+    let pushed = append_posting(out, document + 1 - next, positions);
+    if pushed.is_err() {
+        out.truncate(start);
+    }
+    pushed
+}
+
+/// The same under a given gap, but that a refusal may leave a beginning.
+#[inline]
+fn append_posting(out: &mut Vec<u8>, gap: u32, positions: &[u32]) -> Result<(), AllocError>
+    requires { Ascends 0 (2 ^ 32 - 1) positions.now }
+    ensures ok { OnOk result (out.new.items ≡ out.old.items ++ posting_bytes gap (0, positions.now)) }
+    ensures err { OnErr result (take (length out.old.items) out.new.items ≡ out.old.items) }
+{
+    push_code(out, gap)?;
+    push_code(out, positions.len() as u32)?;
+    append_gaps(out, 0, positions)
+}
