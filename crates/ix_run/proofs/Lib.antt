@@ -15,5 +15,6 @@ pub mod PieceLemmas
 pub mod RowLemmas
 pub mod SpelledLemmas
 pub mod StopTermLemmas
+pub mod RunTold
 pub mod TextLaws
 pub mod Writing

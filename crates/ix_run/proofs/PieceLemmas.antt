@@ -8,7 +8,7 @@ use Rattle.std.specs.Io.KnownBytes.{Consumes}
 use Rattle.std.specs.List.{flat_map}
 use Rattle.ix_run.specs.Pieces.{EachFits, ArePiecesRead}
 use Rattle.ix_run.specs.RunTextErrors.{IsRefusal}
-use Rattle.ix_run.specs.declared.errors.RunTextError.{RunTextError}
+use Rattle.ix_run.specs.declared.run_text_error.RunTextError.{RunTextError}
 
 module _ {X : Type 0} (spelled : X → List ℕ) (Fits : List X → X → Type 0) where
   pub pieces_none : (old : Option (List ℕ)) (count : ℕ) → ArePiecesRead spelled Fits old old [] count

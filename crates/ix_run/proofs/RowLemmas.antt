@@ -10,7 +10,7 @@ use Rattle.ix_vbyte.proofs.Values.{length-code_of}
 use Rattle.ix_run.specs.CodeFaults.{IsCodeFault}
 use Rattle.ix_run.specs.RunText.{row_bytes}
 use Rattle.ix_run.specs.RunTextErrors.{IsRefusal}
-use Rattle.ix_run.specs.declared.errors.RunTextError.{RunTextError}
+use Rattle.ix_run.specs.declared.run_text_error.RunTextError.{RunTextError}
 use Rattle.ix_run.proofs.SpelledLemmas.{code_refused, code_accepted}
 
 pub term_from_name : (name : List ℕ) → IsName name → IsTerm name

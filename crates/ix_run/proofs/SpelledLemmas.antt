@@ -11,8 +11,8 @@ use Rattle.ix_text.specs.Terms.{IsTerm}
 use Rattle.ix_vbyte.specs.Texts.{counted}
 use Rattle.ix_run.specs.CodeFaults.{IsCodeFault, IsTextFault}
 use Rattle.ix_run.specs.RunTextErrors.{IsRefusal}
-use Rattle.ix_run.specs.declared.errors.RunTextError.{RunTextError}
-use Rattle.ix_run.specs.declared.errors.RunTextError.TheVariants.{Magic, Number, Text, Name, TermSize, TermOrder, ListLength, DocRange, Zero, PositionRange, StopIndexed, StopOrder, Extra, TooLarge, Read, Memory, Doubled, Failed}
+use Rattle.ix_run.specs.declared.run_text_error.RunTextError.{RunTextError}
+use Rattle.ix_run.specs.declared.run_text_error.RunTextError.TheVariants.{Magic, Number, Text, Name, TermSize, TermOrder, ListLength, DocRange, Zero, PositionRange, StopIndexed, StopOrder, Extra, TooLarge, Read, Memory, Doubled, Failed}
 
 -- the code stands first in as many bytes as it may have
 code_within : (bytes : List ℕ) (number count limit : ℕ) → StartsWithCode bytes number count → count ≤ limit → StartsWithCode (take limit bytes) number count

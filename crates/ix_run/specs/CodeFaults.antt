@@ -1,7 +1,7 @@
 -- Why no code or no text could be read from the front of some bytes.
 use Rattle.std.specs.Prelude.{ℕ, ◌<◌, List, length, take, ⊤}
-use Rattle.ix_run.specs.declared.errors.RunTextError.{RunTextError}
-use Rattle.ix_run.specs.declared.errors.RunTextError.TheVariants.{Number, ListLength, Memory, Read}
+use Rattle.ix_run.specs.declared.run_text_error.RunTextError.{RunTextError}
+use Rattle.ix_run.specs.declared.run_text_error.RunTextError.TheVariants.{Number, ListLength, Memory, Read}
 use Rattle.ix_vbyte.specs.Decoded.{HasFault}
 use Rattle.ix_vbyte.specs.Reading.{IsCut}
 use Rattle.ix_vbyte.specs.declared.errors.VbError.TheVariants.{Cut}

@@ -1,7 +1,7 @@
 -- The numbers of the errors of reading a run text, and which of them say nothing of its bytes.
 use Rattle.std.specs.Prelude.{ℕ, ⊤}
-use Rattle.ix_run.specs.declared.errors.RunTextError.{RunTextError}
-use Rattle.ix_run.specs.declared.errors.RunTextError.TheVariants.{Magic, Number, Text, Name, TermSize, TermOrder, ListLength, DocRange, Zero, PositionRange, StopIndexed, StopOrder, Extra, TooLarge, Read, Memory, Doubled, Failed}
+use Rattle.ix_run.specs.declared.run_text_error.RunTextError.{RunTextError}
+use Rattle.ix_run.specs.declared.run_text_error.RunTextError.TheVariants.{Magic, Number, Text, Name, TermSize, TermOrder, ListLength, DocRange, Zero, PositionRange, StopIndexed, StopOrder, Extra, TooLarge, Read, Memory, Doubled, Failed}
 
 -- from 1, in the order of the list
 abbrev pub run_text_error_number : RunTextError → ℕ

@@ -5,7 +5,7 @@ ghost use Rattle.std.specs.Io.KnownBytes.{Consumes, IsAtEnd, Keeps};
 ghost use Rattle.std.specs.Option.{option_to_list};
 ghost use Rattle.ix_vbyte.specs.Code.{code_of};
 ghost use Rattle.ix_run.specs.CodeFaults.{IsCodeFault, IsTextFault};
-ghost use Rattle.ix_run.specs.declared.errors.RunTextError.TheVariants.{Read as ReadRefused};
+ghost use Rattle.ix_run.specs.declared.run_text_error.RunTextError.TheVariants.{Read as ReadRefused};
 
 use crate::RunTextError;
 use ix_vbyte::{VbError, decode};

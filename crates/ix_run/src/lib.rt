@@ -13,6 +13,7 @@ mod rows;
 mod run;
 mod run_reader;
 mod run_text;
+mod run_text_error;
 mod source;
 mod stop_terms;
 mod term_list;
@@ -26,5 +27,10 @@ pub use laws::{
     no_run_text_begins_another, run_text_has_eighteen_bytes, run_text_tells_collection,
 };
 pub use run::Run;
+pub use head::{RunDoc, RunHead};
+pub use laws::{
+    no_run_text_begins_another, run_text_has_eighteen_bytes, run_text_tells_collection,
+};
 pub use run_reader::RunReader;
+pub use run_text_error::RunTextError;
 pub use source::Source;

@@ -65,6 +65,9 @@ pub trait Source {
             (λ document. GivesPosting yields gives self.old self.new (document, positions.new.items))) }
         ensures drained { is_drained self.old → IfOk result (λ found. found ≡ None) };
 
+    // Where no term is at hand, no posting of one is left.
+    ghost drained_without_term: { (source : Self) → current source ≡ None → is_drained source };
+
     // What was given so far is the front of a lawful dictionary.
     ghost given_lawfully: { (source : Self) (finished : List DictionaryEntry) (at_hand : Option DictionaryEntry)
         → gives source finished at_hand → IsLawfulFront (heading source) finished at_hand };

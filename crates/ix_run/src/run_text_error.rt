@@ -169,7 +169,7 @@ impl RunTextError {
 
 impl<T: Drop> From<AllocFailed<T>> for RunTextError {
     ghost use Rattle.std.specs.Prelude.{◌≡◌};
-    ghost use Rattle.ix_run.specs.declared.errors.RunTextError.TheVariants.{Memory};
+    ghost use Rattle.ix_run.specs.declared.run_text_error.RunTextError.TheVariants.{Memory};
 
     ghost from_gives = { λ _ e. e ≡ Memory };
 
@@ -180,7 +180,7 @@ impl<T: Drop> From<AllocFailed<T>> for RunTextError {
 
 impl From<AllocError> for RunTextError {
     ghost use Rattle.std.specs.Prelude.{◌≡◌};
-    ghost use Rattle.ix_run.specs.declared.errors.RunTextError.TheVariants.{Memory};
+    ghost use Rattle.ix_run.specs.declared.run_text_error.RunTextError.TheVariants.{Memory};
 
     ghost from_gives = { λ _ e. e ≡ Memory };
 
