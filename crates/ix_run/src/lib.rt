@@ -20,17 +20,13 @@ mod term_list;
 #[cfg(test)]
 mod tests;
 
-pub use errors::{RunError, RunTextError, WriteError};
+pub use errors::{RunError, WriteError};
 pub use head::{RunDoc, RunHead};
 pub use inversion::invert;
 pub use laws::{
     no_run_text_begins_another, run_text_has_eighteen_bytes, run_text_tells_collection,
 };
 pub use run::Run;
-pub use head::{RunDoc, RunHead};
-pub use laws::{
-    no_run_text_begins_another, run_text_has_eighteen_bytes, run_text_tells_collection,
-};
 pub use run_reader::RunReader;
 pub use run_text_error::RunTextError;
 pub use source::Source;
