@@ -4,6 +4,8 @@
 
 mod grams;
 mod laws;
+#[cfg(test)]
+mod tests;
 
 pub use laws::{
     grams_of_the_vocabulary, index_text_has_one_version, index_text_has_sixty_four_bytes,

@@ -1,0 +1,4 @@
+//! The index text, byte for byte.
+mod plain;
+mod sample;
+mod vectors;
