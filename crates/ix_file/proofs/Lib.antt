@@ -1,4 +1,7 @@
+pub mod Beginnings
+pub mod DictionaryLemmas
 pub mod DictionaryTold
+pub mod EndingLemmas
 pub mod EntryLemmas
 pub mod GramLists
 pub mod GramOrder
@@ -8,5 +11,7 @@ pub mod PairGrams
 pub mod PairOrder
 pub mod SectionLemmas
 pub mod SectionSizes
+pub mod SpellLemmas
+pub mod TellingLemmas
 pub mod TermPairs
 pub mod TextLaws

@@ -1,7 +1,14 @@
+pub mod Dictionaries
+pub mod Endings
 pub mod GramEntries
 pub mod GramLaws
 pub mod Grams
 pub mod HeldGrams
 pub mod IndexText
 pub mod Laws
+pub mod PutErrors
+pub mod Rows
+pub mod SectionSteps
 pub mod Sections
+pub mod Telling
+pub mod Told

@@ -2,12 +2,24 @@
 //! Today this is its definition and what holds of it; its writer and its exact reader are to come.
 #![tactic(auto)]
 
+mod dictionary;
 mod grams;
 mod laws;
 #[cfg(test)]
 mod tests;
+mod list;
+mod output;
+mod put_error;
+mod row;
+mod sections;
+mod trailer;
+mod writer;
 
 pub use laws::{
     grams_of_the_vocabulary, index_text_has_one_version, index_text_has_sixty_four_bytes,
     index_text_tells_collection, index_text_tells_version_and_collection, terms_have_one_gram_list,
 };
+pub use put_error::PutError;
+pub use row::DocRow;
+pub use sections::Sections;
+pub use writer::IndexWriter;

@@ -1,0 +1,24 @@
+-- What went out and what is pending, over the steps of a writer.
+use Rattle.std.proofs.Common.{◌≡◌, ℕ, List, [], ◌++◌, Option, sym, ap, ◌∙◌, append_assoc}
+use Rattle.std.proofs.lemmas.List.{append-nil}
+use Rattle.std.specs.Io.KnownBytes.{Appends}
+use Rattle.ix_text.specs.Sinks.{AppendsFront}
+use Rattle.ix_text.proofs.SinkLemmas.{appends_then}
+use Rattle.ix_file.specs.Telling.{Spells}
+
+-- what was pending went out
+pub spells_sent : (before now new : Option (List ℕ)) (pending left text : List ℕ) → Spells before now pending text → Appends now new pending → left ≡ [] → Spells before new left text
+spells_sent before now new pending left text spells gained none = record {
+  gone = spells.gone ++ pending;
+  gained = appends_then before now new spells.gone pending spells.gained gained;
+  spelled = ap (λ bytes. (spells.gone ++ pending) ++ bytes) none ∙ append-nil (spells.gone ++ pending) ∙ spells.spelled;
+}
+
+-- a front of what was pending went out
+pub spells_front : (before now new : Option (List ℕ)) (pending text : List ℕ) → Spells before now pending text → AppendsFront now new pending → AppendsFront before new text
+spells_front before now new pending text spells part = record {
+  front = spells.gone ++ part.front;
+  rest = part.rest;
+  parts = sym spells.spelled ∙ ap (λ bytes. spells.gone ++ bytes) part.parts ∙ sym (append_assoc spells.gone part.front part.rest);
+  gained = appends_then before now new spells.gone part.front spells.gained part.gained;
+}

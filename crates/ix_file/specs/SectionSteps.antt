@@ -1,0 +1,90 @@
+-- What the steps of a writer do to what it keeps.
+use Rattle.std.specs.Prelude.{◌≡◌, ℕ, ◌+◌, ◌-◌, ◌<◌, List, [], ◌∷◌, ◌++◌, length, None}
+use Rattle.ix_text.specs.Parts.{DocumentRow}
+use Rattle.ix_file.specs.IndexText.{magic}
+use Rattle.ix_file.specs.Sections.{FrontCoded, stop_section, documents_section}
+use Rattle.ix_vbyte.specs.Postings.{posting_bytes}
+use Rattle.ix_file.specs.declared.sections.Sections.{Sections}
+use Rattle.ix_file.specs.Dictionaries.{GainsEntry}
+use Rattle.ix_file.specs.HeldGrams.{HoldsGrams}
+
+-- nothing was told
+pub record IsEmpty (sections : Sections) : Type 0 where
+  pub ready : sections.refusal ≡ None
+  pub pending : sections.pending.items ≡ []
+  pub postings : sections.postings ≡ 0
+  pub no_document : sections.list.documents ≡ 0
+  pub no_bytes : sections.list.bytes ≡ 0
+  pub no_term : sections.list.term.items ≡ []
+  pub no_dictionary : sections.dictionary.bytes.items ≡ []
+  pub no_entry : sections.dictionary.count ≡ 0
+  pub no_previous : sections.dictionary.previous.items ≡ []
+  pub grams : HoldsGrams sections.grams []
+  pub stop : sections.stop.items ≡ []
+  pub documents : sections.documents.items ≡ []
+
+-- the stop terms and rows were told, and no term
+pub record Begins (sections : Sections) (stop : List (List ℕ)) (rows : List DocumentRow) : Type 0 where
+  pub ready : sections.refusal ≡ None
+  pub pending : sections.pending.items ≡ magic FrontCoded
+  pub postings : sections.postings ≡ 0
+  pub no_document : sections.list.documents ≡ 0
+  pub no_bytes : sections.list.bytes ≡ 0
+  pub no_term : sections.list.term.items ≡ []
+  pub no_dictionary : sections.dictionary.bytes.items ≡ []
+  pub no_entry : sections.dictionary.count ≡ 0
+  pub no_previous : sections.dictionary.previous.items ≡ []
+  pub grams : HoldsGrams sections.grams []
+  pub stop_terms : sections.stop.items ≡ stop_section stop
+  pub documents : sections.documents.items ≡ documents_section rows
+  pub counted : sections.rows ≡ length rows
+
+-- the coded stop terms and rows stay
+pub record KeepsFront (old new : Sections) : Type 0 where
+  pub stop : new.stop ≡ old.stop
+  pub documents : new.documents ≡ old.documents
+  pub rows : new.rows ≡ old.rows
+
+-- no entry is at hand any more: the one that was, if any, is in the dictionary
+pub record Closes (old new : Sections) : Type 0 where
+  pub front : KeepsFront old new
+  pub pending : new.pending ≡ old.pending
+  pub postings : new.postings ≡ old.postings
+  pub grams : new.grams ≡ old.grams
+  pub none : new.list.documents ≡ 0
+  pub no_bytes : new.list.bytes ≡ 0
+  pub no_document : new.list.next ≡ 0
+  pub entry : 0 < old.list.documents → GainsEntry old.dictionary new.dictionary old.list.term.items old.list.documents old.list.bytes
+  pub no_entry : old.list.documents ≡ 0 → new.dictionary ≡ old.dictionary
+
+-- the term is at hand, and its grams are held
+pub record Opens (old new : Sections) (term : List ℕ) : Type 0 where
+  pub front : KeepsFront old new
+  pub pending : new.pending ≡ old.pending
+  pub postings : new.postings ≡ old.postings
+  pub dictionary : new.dictionary ≡ old.dictionary
+  pub term_at_hand : new.list.term.items ≡ term
+  pub documents : new.list.documents ≡ old.list.documents
+  pub bytes : new.list.bytes ≡ old.list.bytes
+  pub next : new.list.next ≡ old.list.next
+  pub grams : (terms : List (List ℕ)) → HoldsGrams old.grams terms → HoldsGrams new.grams (terms ++ term ∷ [])
+
+-- the entry at hand has a posting more
+pub record Stages (old new : Sections) (document : ℕ) (positions : List ℕ) : Type 0 where
+  pub front : KeepsFront old new
+  pub dictionary : new.dictionary ≡ old.dictionary
+  pub grams : new.grams ≡ old.grams
+  pub term : new.list.term ≡ old.list.term
+  pub pending : new.pending.items ≡ old.pending.items ++ posting_bytes (document + 1 - old.list.next) (document, positions)
+  pub postings : new.postings ≡ old.postings + length (posting_bytes (document + 1 - old.list.next) (document, positions))
+  pub bytes : new.list.bytes ≡ old.list.bytes + length (posting_bytes (document + 1 - old.list.next) (document, positions))
+  pub documents : new.list.documents ≡ old.list.documents + 1
+  pub next : new.list.next ≡ document + 1
+
+-- what was told stays: all but what is pending, and the refusal
+pub record KeepsTold (old new : Sections) : Type 0 where
+  pub front : KeepsFront old new
+  pub dictionary : new.dictionary ≡ old.dictionary
+  pub grams : new.grams ≡ old.grams
+  pub list : new.list ≡ old.list
+  pub postings : new.postings ≡ old.postings

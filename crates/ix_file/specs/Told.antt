@@ -1,0 +1,47 @@
+-- What the calls of a writer told: the parts of an index, the entry at hand apart from the finished ones.
+use Rattle.std.specs.Prelude.{◌≡◌, ℕ, ◌+◌, List, [], ◌∷◌, ◌++◌, Option, None, Some, length, sum_by}
+use Rattle.std.specs.Option.{option_map, option_to_list}
+use Rattle.ix_text.specs.Parts.{Parts, Posting, DictionaryEntry, DocumentRow}
+use Rattle.ix_file.specs.IndexText.{magic}
+use Rattle.ix_file.specs.Sections.{FrontCoded, postings_section}
+
+-- stop terms, rows, the entries that are finished, and the entry that is still told, or none
+pub record Told : Type 0 where
+  pub stop : List (List ℕ)
+  pub rows : List DocumentRow
+  pub done : List DictionaryEntry
+  pub at_hand : Option DictionaryEntry
+
+-- before the first term
+abbrev pub told_first : List (List ℕ) → List DocumentRow → Told
+told_first stop rows = record { stop = stop; rows = rows; done = []; at_hand = None }
+
+-- all entries
+abbrev pub entries_of : Told → List DictionaryEntry
+entries_of told = told.done ++ option_to_list told.at_hand
+
+-- a term more: the entry at hand is finished, and one without postings is at hand
+abbrev pub with_term : Told → List ℕ → Told
+with_term told term =
+    record { stop = told.stop; rows = told.rows; done = entries_of told; at_hand = Some (record { term = term; postings = [] }) }
+
+-- the entry with a posting more
+abbrev pub posted : ℕ → List ℕ → DictionaryEntry → DictionaryEntry
+posted document positions entry = record { term = entry.term; postings = entry.postings ++ (document, positions) ∷ [] }
+
+-- a posting more, of the entry at hand
+abbrev pub with_posting : Told → ℕ → List ℕ → Told
+with_posting told document positions =
+    record { stop = told.stop; rows = told.rows; done = told.done; at_hand = option_map (posted document positions) told.at_hand }
+
+-- the parts that were told
+abbrev pub parts_of : Told → Parts
+parts_of told = record { stop = told.stop; rows = told.rows; entries = entries_of told }
+
+-- the front of an index text that is settled by what was told: everything before STOP
+abbrev pub text_of : Told → List ℕ
+text_of told = magic FrontCoded ++ postings_section (entries_of told)
+
+-- how many positions the entries have
+abbrev pub position_count : List DictionaryEntry → ℕ
+position_count entries = sum_by (λ entry. sum_by (λ posting. length posting.1) entry.postings) entries
