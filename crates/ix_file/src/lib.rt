@@ -5,13 +5,13 @@
 mod dictionary;
 mod grams;
 mod laws;
-#[cfg(test)]
-mod tests;
 mod list;
 mod output;
 mod put_error;
 mod row;
 mod sections;
+#[cfg(test)]
+mod tests;
 mod trailer;
 mod writer;
 

@@ -1,4 +1,5 @@
 //! Small collections.
+use crate::DocRow;
 use std::alloc::{AllocError, Global};
 
 /// A collection: its stop words, each in a line, and its documents as names and token lists. In a list of tokens the
@@ -14,6 +15,16 @@ pub(crate) struct Sample<'a> {
 pub(crate) struct Entry {
     pub(crate) term: String,
     pub(crate) postings: Vec<(u32, Vec<u32>)>,
+}
+
+/// The rows of the documents of a collection.
+pub(crate) fn rows<'a>(alloc: Global, sample: &Sample<'a>) -> Result<Vec<DocRow<'a>>, AllocError> {
+    let mut rows = Vec::new(alloc);
+    for &(name, tokens) in sample.documents {
+        let tokens = token_count(tokens);
+        rows.push(DocRow { name, tokens })?;
+    }
+    Ok(rows)
 }
 
 /// The number of entries of a token list.
