@@ -27,9 +27,13 @@ pub(crate) fn tell<W: Write>(
         writer.term(&entry.term)?;
         let mut next = 0;
         for (document, positions) in &entry.postings {
-            assert!(rt; next <= *document && *document < 1000);
-            assert!(rt; is_ascending(positions) && !positions.is_empty());
-            assert!(rt; count < 1000 && positions.len() < 1000);
+            let positions = positions.as_slice();
+            assert!(rt; next <= *document);
+            assert!(rt; *document < 1000);
+            assert!(rt; is_ascending(positions));
+            assert!(rt; !positions.is_empty());
+            assert!(rt; count < 1000);
+            assert!(rt; positions.len() < 1000);
             writer.posting(*document, positions)?;
             next = document + 1;
             count += positions.len();
