@@ -1,9 +1,8 @@
 -- STOP and DOCS, element by element, and what is kept at the beginning.
-use Rattle.std.proofs.Common.{◌≡◌, ℕ, ◌+◌, ◌^◌, ◌<◌, ◌≤◌, List, [], ◌∷◌, ◌++◌, Option, Some, None, map, flat_map, length, take, get_or, refl, sym, ap, ap₂, ◌∙◌, subst, arith, append_assoc, All, Result, Ok, Err, OnOk, is_err, false}
+use Rattle.std.proofs.Common.{◌≡◌, ℕ, ◌+◌, ◌<◌, ◌≤◌, List, [], ◌∷◌, ◌++◌, Option, Some, None, map, flat_map, length, take, get_or, refl, sym, ap, ap₂, ◌∙◌, arith, append_assoc, All, Result, Ok, Err, OnOk, is_err, false}
 use Rattle.std.proofs.lemmas.List.{append-nil, map-append, take_more, get_or-map, length-map}
 use Rattle.std.proofs.lemmas.List.Concat.{flat_map-append}
 use Rattle.std.proofs.lemmas.List.Elements.{All-get_or}
-use Rattle.std.specs.Io.KnownBytes.{Appends}
 use Rattle.ix_vbyte.specs.Code.{code_of}
 use Rattle.ix_vbyte.specs.Texts.{counted}
 use Rattle.ix_text.specs.Parts.{DocumentRow}

@@ -3,7 +3,6 @@ use Rattle.std.proofs.Common.{◌≡◌, ℕ, suc, ◌+◌, ◌<◌, ◌≤◌, 
 use Rattle.std.specs.Option.{option_to_list}
 use Rattle.std.proofs.lemmas.List.{append-nil, length-append}
 use Rattle.ix_vbyte.specs.Code.{code_of}
-use Rattle.ix_vbyte.specs.Postings.{list_bytes}
 use Rattle.ix_text.specs.Parts.{DictionaryEntry}
 use Rattle.ix_file.specs.Sections.{FrontCoded, entry_counts, grouped, front_coded_from, dictionary_section}
 use Rattle.ix_file.specs.Dictionaries.{GainsEntry}

@@ -1,5 +1,5 @@
 -- How the whole text comes about at the end.
-use Rattle.std.proofs.Common.{◌≡◌, ℕ, ◌+◌, ◌<◌, ◌≤◌, List, [], ◌∷◌, ◌++◌, Option, None, Some, length, refl, sym, ap, ap₂, ◌∙◌, subst, arith, append_assoc, Result, Ok, Err, OnOk}
+use Rattle.std.proofs.Common.{◌≡◌, ℕ, List, [], ◌++◌, Option, length, refl, sym, ap, ap₂, ◌∙◌, subst, append_assoc, Result, Ok, Err, OnOk}
 use Rattle.std.proofs.lemmas.List.{append-nil}
 use Rattle.std.specs.Io.KnownBytes.{Appends, Keeps}
 use Rattle.std.specs.Int.{to_le_bytes, w32, w64}

@@ -1,5 +1,5 @@
 -- How what a writer keeps follows what it is told.
-use Rattle.std.proofs.Common.{◌≡◌, ℕ, ◌+◌, ◌-◌, ◌*◌, ◌^◌, ◌<◌, ◌≤◌, List, [], ◌∷◌, ◌++◌, Option, None, Some, length, map, sum_by, refl, sym, ap, ap₂, ◌∙◌, subst, arith, append_assoc, MatchOption, IfSome}
+use Rattle.std.proofs.Common.{◌≡◌, ℕ, ◌+◌, ◌-◌, ◌*◌, ◌^◌, ◌<◌, ◌≤◌, List, [], ◌∷◌, ◌++◌, Option, Some, length, sum_by, sym, ap, ap₂, ◌∙◌, subst, arith, append_assoc, MatchOption}
 use Rattle.std.specs.Option.{option_map, option_to_list}
 use Rattle.std.proofs.lemmas.List.{append-nil, length-append, map-append}
 use Rattle.std.proofs.lemmas.List.Sums.{sum_by-append}
@@ -7,8 +7,8 @@ use Rattle.std.proofs.lemmas.List.Concat.{flat_map-append}
 use Rattle.ix_vbyte.specs.Gaps.{Ascends, next_after}
 use Rattle.ix_vbyte.specs.Postings.{documents_of, posting_bytes, list_bytes}
 use Rattle.ix_vbyte.proofs.Postings.{list_bytes_from-push}
-use Rattle.ix_vbyte.proofs.Gaps.{next_after-push}
-use Rattle.ix_vbyte.proofs.PostingLengths.{length-posting_bytes}
+use Rattle.ix_vbyte.proofs.Gaps.{length-Ascends, next_after-push}
+use Rattle.ix_vbyte.proofs.Sizes.{posting_short}
 use Rattle.ix_text.specs.Parts.{DictionaryEntry, DocumentRow, terms_of}
 use Rattle.ix_text.specs.Sinks.{AppendsFront}
 use Rattle.ix_file.specs.IndexText.{magic}
@@ -26,6 +26,12 @@ use Rattle.ix_file.proofs.DictionaryLemmas.{dictionary_closed, entries_closed}
 abbrev pub entry_of : List ℕ → DictionaryEntry
 entry_of term = record { term = term; postings = [] }
 
+-- a posting has at most fifteen bytes a position
+pub length-posting_bytes : (gap document : ℕ) (positions : List ℕ) → gap < 2 ^ 32 → 0 < length positions → Ascends 0 (2 ^ 32 - 1) positions → length (posting_bytes gap (document, positions)) ≤ 15 * length positions
+length-posting_bytes gap document positions fits some ascending =
+    posting_short gap (2 ^ 32 - 1) (document, positions) (omega arith) (omega (arith, length-Ascends 0 (2 ^ 32 - 1) positions (omega arith) ascending))
+    (record { some = some; positions = ascending }) (omega arith)
+
 -- ---- sections and counts of entries one after another
 postings_section-append : (one other : List DictionaryEntry) → postings_section (one ++ other) ≡ postings_section one ++ postings_section other
 unfolding postings_section
@@ -35,7 +41,7 @@ postings_section-one : (entry : DictionaryEntry) → postings_section (entry ∷
 unfolding postings_section
 postings_section-one entry = append-nil (list_bytes entry.postings)
 
-postings_section-push : (done : List DictionaryEntry) (entry : DictionaryEntry) → postings_section (done ++ entry ∷ []) ≡ postings_section done ++ list_bytes entry.postings
+pub postings_section-push : (done : List DictionaryEntry) (entry : DictionaryEntry) → postings_section (done ++ entry ∷ []) ≡ postings_section done ++ list_bytes entry.postings
 postings_section-push done entry = postings_section-append done (entry ∷ []) ∙ ap (λ bytes. postings_section done ++ bytes) (postings_section-one entry)
 
 -- a term without postings adds nothing
@@ -52,19 +58,19 @@ postings_section-posted done entry document positions =
     ∙ ap (λ bytes. bytes ++ added) (sym (postings_section-push done entry))
 
 -- ---- positions
-position_count-push : (done : List DictionaryEntry) (entry : DictionaryEntry) → position_count (done ++ entry ∷ []) ≡ position_count done + position_count (entry ∷ [])
+pub position_count-push : (done : List DictionaryEntry) (entry : DictionaryEntry) → position_count (done ++ entry ∷ []) ≡ position_count done + position_count (entry ∷ [])
 position_count-push done entry = sum_by-append (λ e. sum_by (λ posting. length posting.1) e.postings) done (entry ∷ [])
 
-position_count-posted : (done : List DictionaryEntry) (entry : DictionaryEntry) (document : ℕ) (positions : List ℕ) → position_count (done ++ posted document positions entry ∷ []) ≡ position_count (done ++ entry ∷ []) + length positions
+pub position_count-posted : (done : List DictionaryEntry) (entry : DictionaryEntry) (document : ℕ) (positions : List ℕ) → position_count (done ++ posted document positions entry ∷ []) ≡ position_count (done ++ entry ∷ []) + length positions
 position_count-posted done entry document positions =
     let more : sum_by (λ posting. length posting.1) (entry.postings ++ (document, positions) ∷ []) ≡ sum_by (λ posting. length posting.1) entry.postings + (0 + length positions) = sum_by-append (λ posting. length posting.1) entry.postings ((document, positions) ∷ []) in
     omega (arith, position_count-push done entry, position_count-push done (posted document positions entry), more)
 
-position_count-term : (done : List DictionaryEntry) (term : List ℕ) → position_count (done ++ entry_of term ∷ []) ≡ position_count done
+pub position_count-term : (done : List DictionaryEntry) (term : List ℕ) → position_count (done ++ entry_of term ∷ []) ≡ position_count done
 position_count-term done term = omega (arith, position_count-push done (entry_of term))
 
 -- ---- terms
-terms_of-push : (done : List DictionaryEntry) (entry : DictionaryEntry) → terms_of (done ++ entry ∷ []) ≡ terms_of done ++ entry.term ∷ []
+pub terms_of-push : (done : List DictionaryEntry) (entry : DictionaryEntry) → terms_of (done ++ entry ∷ []) ≡ terms_of done ++ entry.term ∷ []
 terms_of-push done entry = map-append (λ e. e.term) done (entry ∷ [])
 
 terms_of-posted : (done : List DictionaryEntry) (entry : DictionaryEntry) (document : ℕ) (positions : List ℕ) → terms_of (done ++ entry ∷ []) ≡ terms_of (done ++ posted document positions entry ∷ [])

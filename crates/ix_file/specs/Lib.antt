@@ -11,4 +11,5 @@ pub mod Rows
 pub mod SectionSteps
 pub mod Sections
 pub mod Telling
+pub mod TellingLaws
 pub mod Told

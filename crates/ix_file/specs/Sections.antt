@@ -1,5 +1,5 @@
 -- The sections of an index text: variable byte codes of gaps (IIR 5.3.1), and the dictionary plain or front coded (IIR 5.2.2).
-use Rattle.std.specs.Prelude.{ℕ, ◌+◌, ◌-◌, ◌%◌, ◌==◌, List, [], ◌∷◌, ◌++◌, length, drop, flat_map, nat_eq, if◌then◌else◌}
+use Rattle.std.specs.Prelude.{ℕ, ◌+◌, ◌%◌, ◌==◌, List, [], ◌∷◌, ◌++◌, length, drop, flat_map, nat_eq, if◌then◌else◌}
 use Rattle.std.specs.List.{common_prefix_len}
 use Rattle.ix_vbyte.specs.Code.{code_of}
 use Rattle.ix_vbyte.specs.Gaps.{gaps_of}

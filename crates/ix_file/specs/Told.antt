@@ -1,7 +1,7 @@
 -- What the calls of a writer told: the parts of an index, the entry at hand apart from the finished ones.
-use Rattle.std.specs.Prelude.{◌≡◌, ℕ, ◌+◌, List, [], ◌∷◌, ◌++◌, Option, None, Some, length, sum_by}
+use Rattle.std.specs.Prelude.{ℕ, List, [], ◌∷◌, ◌++◌, Option, None, Some, length, sum_by}
 use Rattle.std.specs.Option.{option_map, option_to_list}
-use Rattle.ix_text.specs.Parts.{Parts, Posting, DictionaryEntry, DocumentRow}
+use Rattle.ix_text.specs.Parts.{Parts, DictionaryEntry, DocumentRow}
 use Rattle.ix_file.specs.IndexText.{magic}
 use Rattle.ix_file.specs.Sections.{FrontCoded, postings_section}
 

@@ -1,6 +1,7 @@
 //! Laws of the index text. The functions do nothing: what they ensure is a fact about the definitions.
 ghost use Rattle.ix_file.specs.GramLaws.{GramsOfVocabularyAreOfCollection, TermsHaveOneGramList};
 ghost use Rattle.ix_file.specs.Laws.{HasOneVersion, HasSixtyFourBytes, IndexTextTellsCollection, IndexTextTellsVersionAndCollection};
+ghost use Rattle.ix_file.specs.TellingLaws.{SettledFrontBeginsIndexText};
 
 /// An index text has at least 64 bytes.
 pub fn index_text_has_sixty_four_bytes()
@@ -30,4 +31,10 @@ pub fn grams_of_the_vocabulary()
 /// A list of terms has one list of grams.
 pub fn terms_have_one_gram_list()
     ensures { TermsHaveOneGramList }
+{}
+
+/// Where what a writer was told so far is all of a lawful collection, the front of the text that is settled by it
+/// begins an index text of that collection.
+pub fn settled_front_begins_index_text()
+    ensures { SettledFrontBeginsIndexText }
 {}

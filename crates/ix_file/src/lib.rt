@@ -1,5 +1,5 @@
 //! The index text: a collection as postings lists, names, a dictionary and grams, in a plain and in a front-coded version.
-//! Today this is its definition and what holds of it; its writer and its exact reader are to come.
+//! Here are its definition, what holds of it, and its writer; its exact reader is to come.
 #![tactic(auto)]
 
 mod dictionary;
@@ -17,7 +17,8 @@ mod writer;
 
 pub use laws::{
     grams_of_the_vocabulary, index_text_has_one_version, index_text_has_sixty_four_bytes,
-    index_text_tells_collection, index_text_tells_version_and_collection, terms_have_one_gram_list,
+    index_text_tells_collection, index_text_tells_version_and_collection,
+    settled_front_begins_index_text, terms_have_one_gram_list,
 };
 pub use put_error::PutError;
 pub use row::DocRow;

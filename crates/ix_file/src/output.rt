@@ -1,5 +1,5 @@
 //! What goes out to the sink, and when.
-ghost use Rattle.std.specs.Prelude.{◌≡◌, ◌++◌, ℕ, List, [], Option, None, Some, OnOk, OnErr, IfErr};
+ghost use Rattle.std.specs.Prelude.{◌≡◌, ◌++◌, ◌⊎◌, ℕ, List, [], Option, None, Some, OnOk, OnErr, IfErr};
 ghost use Rattle.std.specs.Io.KnownBytes.{Appends, Keeps};
 ghost use Rattle.ix_text.specs.Parts.{GramEntry, terms_of};
 ghost use Rattle.ix_text.specs.Sinks.{AppendsFront};
@@ -51,6 +51,7 @@ pub(crate) fn complete<W: Write>(out: &mut W, sections: &mut Sections) -> Result
     requires may { sections.old.refusal ≡ None → CanClose sections.old }
     ensures told { (before : Option (List ℕ)) (told : Told) → IsTold before (W.contents out.old) sections.old told → IsClosable told → OnOk result (IsFinished before (W.contents out.new) told) }
     ensures front { (before : Option (List ℕ)) (told : Told) → IsTold before (W.contents out.old) sections.old told → IsClosable told → (grams : List GramEntry) → AreGramsOfTerms (terms_of (entries_of told)) grams → OnErr result (AppendsFront before (W.contents out.new) (layout FrontCoded (parts_of told) grams)) }
+    ensures error { sections.old.refusal ≡ None → IfErr result (λ error. (error ≡ PutError.Write) ⊎ (error ≡ PutError.Memory)) }
     ensures failed { (error : PutError) → sections.old.refusal ≡ Some error → (result ≡ Err error) × Keeps (W.contents out.old) (W.contents out.new) }
 {
     sections.take_up()?;

@@ -1,5 +1,5 @@
 //! A writer of the index text that is told its parts in order.
-ghost use Rattle.std.specs.Prelude.{◌≡◌, ◌≤◌, ◌<◌, ◌-◌, ◌^◌, ℕ, List, [], ◌∷◌, ◌++◌, Option, None, Some, length, OnOk, OnErr, IfErr, All, map};
+ghost use Rattle.std.specs.Prelude.{◌≡◌, ◌≤◌, ◌<◌, ◌-◌, ◌^◌, ℕ, List, [], ◌∷◌, ◌++◌, ◌⊎◌, Option, None, Some, length, OnOk, OnErr, IfErr, All, map};
 ghost use Rattle.std.specs.Io.KnownBytes.{Appends, Keeps};
 ghost use Rattle.ix_vbyte.specs.Gaps.{Ascends};
 ghost use Rattle.ix_text.specs.Collections.{Collection, IsLawful};
@@ -41,7 +41,8 @@ impl<'a, W, S: Drop> Drop for IndexWriter<'a, W, S> {
 
 impl<'a, W: Write> IndexWriter<'a, W> {
     /// Begins the text of a collection with this stop set and, in the order of their numbers, these documents.
-    /// Writes nothing yet. Where memory is refused, the writer's next call answers `Memory`.
+    /// Names have less than 2^32 bytes, and documents are fewer than that. Writes nothing yet. Where memory is
+    /// refused, the writer's next call answers `Memory`.
     pub fn begin(
         alloc: Global,
         out: &'a mut W,
@@ -62,13 +63,17 @@ impl<'a, W: Write> IndexWriter<'a, W> {
         IndexWriter { out, sections }
     }
 
-    /// Begins the entry of a term, of at most 255 bytes.
+    /// Begins the entry of a term, of at most 255 bytes. Writes nothing. The entry before, if there is one, must
+    /// have a posting.
+    ///
+    /// `Memory` where memory is refused. After any refusal the calls that follow answer `Failed`.
     pub fn term(&mut self, term: &str) -> Result<(), PutError>
         requires short { length term.now ≤ 255 }
         requires may { self.old.sections.refusal ≡ None → CanClose self.old.sections }
         ensures same_writer { self.new.out.ghost_name ≡ self.old.out.ghost_name }
         ensures nothing_written { self.new.out.now ≡ self.old.out.now }
         ensures told { (before : Option (List ℕ)) (told : Told) → IsTold before (W.contents self.old.out.now) self.old.sections told → IsClosable told → OnOk result (IsTold before (W.contents self.new.out.now) self.new.sections (with_term told term.now)) }
+        ensures ready { OnOk result (self.old.sections.refusal ≡ None) }
         ensures refused { OnErr result (self.new.sections.refusal ≡ Some PutError.Failed) }
         ensures failed { (error : PutError) → self.old.sections.refusal ≡ Some error → result ≡ Err error }
         ensures error { self.old.sections.refusal ≡ None → IfErr result (λ error. error ≡ PutError.Memory) }
@@ -80,7 +85,11 @@ impl<'a, W: Write> IndexWriter<'a, W> {
         Ok(())
     }
 
-    /// Adds a posting to the entry at hand.
+    /// Adds a posting to the entry at hand: a document above those of the entry's postings so far, and one or more
+    /// ascending positions. All postings together may have 2^28 positions.
+    ///
+    /// `Memory` where memory is refused, and then nothing was written; `Write` where a write is refused, and then a
+    /// front of what was told went out. After any refusal the calls that follow answer `Failed`.
     #[inline]
     pub fn posting(&mut self, document: u32, positions: &[u32]) -> Result<(), PutError>
         requires document { document < 2 ^ 32 - 1 }
@@ -90,8 +99,10 @@ impl<'a, W: Write> IndexWriter<'a, W> {
         ensures same_writer { self.new.out.ghost_name ≡ self.old.out.ghost_name }
         ensures told { (before : Option (List ℕ)) (told : Told) → IsTold before (W.contents self.old.out.now) self.old.sections told → MayPost told document (length positions.now) → OnOk result (IsTold before (W.contents self.new.out.now) self.new.sections (with_posting told document positions.now)) }
         ensures front { (before : Option (List ℕ)) (told : Told) → IsTold before (W.contents self.old.out.now) self.old.sections told → MayPost told document (length positions.now) → OnErr result (AppendsFront before (W.contents self.new.out.now) (text_of (with_posting told document positions.now))) }
+        ensures ready { OnOk result (self.old.sections.refusal ≡ None) }
         ensures refused { OnErr result (self.new.sections.refusal ≡ Some PutError.Failed) }
         ensures failed { (error : PutError) → self.old.sections.refusal ≡ Some error → (result ≡ Err error) × Keeps (W.contents self.old.out.now) (W.contents self.new.out.now) }
+        ensures error { self.old.sections.refusal ≡ None → IfErr result (λ error. (error ≡ PutError.Write) ⊎ (error ≡ PutError.Memory)) }
         ensures memory { IfErr result (λ error. error ≡ PutError.Memory → Keeps (W.contents self.old.out.now) (W.contents self.new.out.now)) }
     {
         self.sections.take_up()?;
@@ -101,12 +112,17 @@ impl<'a, W: Write> IndexWriter<'a, W> {
         Ok(())
     }
 
-    /// Finishes the text: its last entry, what is not written yet, and everything behind POSTINGS; and flushes.
+    /// Finishes the text: its last entry, what is not written yet, and everything behind POSTINGS; and flushes. The
+    /// last entry, if there is one, must have a posting.
+    ///
+    /// `Memory` where memory is refused and `Write` where a write or the flush is: a front of the text went out.
+    /// `Failed` after an earlier refusal.
     pub fn finish(self) -> Result<(), PutError>
         requires may { self.sections.refusal ≡ None → CanClose self.sections }
         ensures told { (before : Option (List ℕ)) (told : Told) → IsTold before (W.contents self.entry.out.now) self.entry.sections told → IsClosable told → OnOk result (IsFinished before (W.contents self.exit.0.now) told) }
         ensures front { (before : Option (List ℕ)) (told : Told) → IsTold before (W.contents self.entry.out.now) self.entry.sections told → IsClosable told → (grams : List GramEntry) → AreGramsOfTerms (terms_of (entries_of told)) grams → OnErr result (AppendsFront before (W.contents self.exit.0.now) (layout FrontCoded (parts_of told) grams)) }
         ensures index_text { (before : Option (List ℕ)) (told : Told) (collection : Collection) → IsTold before (W.contents self.entry.out.now) self.entry.sections told → IsClosable told → IsLawful collection → ArePartsOf collection (parts_of told) → OnOk result (WritesIndexText before (W.contents self.exit.0.now) collection) }
+        ensures error { self.entry.sections.refusal ≡ None → IfErr result (λ error. (error ≡ PutError.Write) ⊎ (error ≡ PutError.Memory)) }
         ensures failed { (error : PutError) → self.entry.sections.refusal ≡ Some error → (result ≡ Err error) × Keeps (W.contents self.entry.out.now) (W.contents self.exit.0.now) }
     {
         let IndexWriter { out, mut sections } = self;

@@ -2,7 +2,6 @@ pub mod Fronts
 pub mod GapCodes
 pub mod Gaps
 pub mod Pieces
-pub mod PostingLengths
 pub mod Postings
 pub mod Sizes
 pub mod Texts

@@ -1,4 +1,4 @@
-use Rattle.std.proofs.Common.{◌≡◌, ◌+◌, ◌≤◌, nat_eq, arith, length, drop, length-drop}
+use Rattle.std.proofs.Common.{◌≤◌, nat_eq, arith, length, drop, length-drop}
 use Rattle.std.specs.List.{common_prefix_len}
 use Rattle.std.proofs.lemmas.List.Sums.{common_prefix_len-le}
 use Rattle.ix_file.proofs.dictionary.shared_front.Goals as goal

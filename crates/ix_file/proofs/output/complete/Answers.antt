@@ -1,12 +1,7 @@
-use Rattle.std.proofs.Common.{subst, ◌++◌}
 use Rattle.ix_text.proofs.SinkLemmas.{on_err_always}
 use Rattle.ix_text.specs.Parts.{terms_of}
-use Rattle.ix_text.specs.Sinks.{AppendsFront}
-use Rattle.std.specs.Io.KnownBytes.{Appends}
-use Rattle.ix_file.specs.Endings.{IsEnding, IsFinished}
-use Rattle.ix_file.specs.Telling.{IsTold, IsClosable, Spells}
-use Rattle.ix_file.specs.Told.{Told, entries_of, text_of}
-use Rattle.ix_file.proofs.EndingLemmas.{IsClosed, closed, front_of_spelled, front_of_layout, front_of_tail, front_of_finished, finished, finished_keeps, spells_on, spells_ending, ending_kept}
+use Rattle.ix_file.specs.Told.{entries_of, text_of}
+use Rattle.ix_file.proofs.EndingLemmas.{closed, front_of_spelled, front_of_layout, front_of_tail, front_of_finished, finished, finished_keeps, spells_on, spells_ending, ending_kept}
 use Rattle.ix_file.proofs.output.complete.Goals as goal
 
 pub ending-requires : goal.ending-requires

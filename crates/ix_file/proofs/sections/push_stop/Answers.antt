@@ -1,4 +1,4 @@
-use Rattle.std.proofs.Common.{◌++◌, ◌≤◌, ◌≡◌, length, map, take, sym, ap, ◌∙◌, arith, append-nil, append_assoc, string_bytes}
+use Rattle.std.proofs.Common.{◌++◌, length, map, take, sym, ap, ◌∙◌, arith, append-nil, append_assoc, string_bytes}
 use Rattle.ix_vbyte.specs.Texts.{counted}
 use Rattle.ix_file.specs.Sections.{stop_section}
 use Rattle.ix_file.proofs.Beginnings.{stop_section-none, stop_section-more, short_term}

@@ -1,6 +1,6 @@
-use Rattle.std.proofs.Common.{◌≡◌, ◌+◌, ◌-◌, ◌*◌, ◌≤◌, arith, ap, length, length-append, ◌++◌, ◌∙◌, sym}
+use Rattle.std.proofs.Common.{◌≡◌, ◌+◌, ◌-◌, ◌*◌, ◌≤◌, arith, ap, length, length-append, ◌++◌}
 use Rattle.ix_vbyte.specs.Postings.{posting_bytes}
-use Rattle.ix_vbyte.proofs.PostingLengths.{length-posting_bytes}
+use Rattle.ix_file.proofs.TellingLemmas.{length-posting_bytes}
 use Rattle.ix_file.proofs.sections.Sections.stage.Goals as goal
 
 pub overflow_cast-self : goal.overflow_cast-self
