@@ -12,6 +12,8 @@ mod output;
 mod put_error;
 mod row;
 mod sections;
+#[cfg(test)]
+mod tests;
 mod trailer;
 mod writer;
 

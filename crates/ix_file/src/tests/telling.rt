@@ -1,0 +1,58 @@
+//! Telling a collection to a writer.
+ghost use Rattle.std.specs.Prelude.{◌-◌, ◌^◌, IsTrue};
+ghost use Rattle.ix_vbyte.specs.Gaps.{Ascends};
+
+use super::sample::Entry;
+use crate::{DocRow, IndexWriter, PutError};
+use ix_text::StopList;
+use std::alloc::Global;
+use std::io::Write;
+use std::process::Abort;
+
+/// Tells a small collection to a writer of version 2 over the sink.
+pub(crate) fn tell<W: Write>(
+    rt: &impl Abort,
+    alloc: Global,
+    out: &mut W,
+    stop: &StopList,
+    rows: &[DocRow<'_>],
+    entries: &[Entry],
+) -> Result<(), PutError> {
+    assert!(rt; rows.len() < 1000);
+    assert!(rt; rows.iter().all(|row| row.name.len() < 256));
+    let mut writer = IndexWriter::begin(alloc, out, stop, rows);
+    let mut count = 0;
+    for entry in entries {
+        assert!(rt; entry.term.len() < 256);
+        writer.term(&entry.term)?;
+        let mut next = 0;
+        for (document, positions) in &entry.postings {
+            let positions = positions.as_slice();
+            assert!(rt; next <= *document);
+            assert!(rt; *document < 1000);
+            assert!(rt; is_ascending(positions));
+            assert!(rt; !positions.is_empty());
+            assert!(rt; count < 1000);
+            assert!(rt; positions.len() < 1000);
+            writer.posting(*document, positions)?;
+            next = document + 1;
+            count += positions.len();
+        }
+        assert!(rt; next > 0);
+    }
+    writer.finish()
+}
+
+/// Whether the numbers ascend and are small.
+fn is_ascending(numbers: &[u32]) -> bool
+    ensures { IsTrue result → Ascends 0 (2 ^ 32 - 1) numbers.now }
+{
+    let mut next = 0;
+    for number in numbers {
+        if *number < next || *number >= 1000 {
+            return false;
+        }
+        next = number + 1;
+    }
+    true
+}
