@@ -16,10 +16,10 @@ pub ascending_front : (xs ys : List (List ℕ)) → IsAscending (xs ++ ys) → I
 ascending_front xs ys a =
     sorted_from_all_adjacent nat_list_cmp_total xs []
     (λ k up.
-        let below = get_or_append_left xs ys [] k (omega arith) in
-        let above = get_or_append_left xs ys [] (k + 1) up in
-        let less = Less-from_sorted (slice_cmp nat_cmp) (xs ++ ys) k (k + 1) [] a (omega arith) (omega (arith, length-append xs ys)) in
-        cc (below, above, less))
+    let below = get_or_append_left xs ys [] k (omega arith) in
+    let above = get_or_append_left xs ys [] (k + 1) up in
+    let less = Less-from_sorted (slice_cmp nat_cmp) (xs ++ ys) k (k + 1) [] a (omega arith) (omega (arith, length-append xs ys)) in
+    cc (below, above, less))
 
 -- the last text
 abbrev pub last_of : List (List ℕ) → List ℕ
@@ -37,6 +37,7 @@ ascending_push xs y a above =
         let high = get_or_append_left xs (y ∷ []) [] (k + 1) h in
         let less = Less-from_sorted (slice_cmp nat_cmp) xs k (k + 1) [] a (omega arith) h in
         cc (low, high, less)
+
     at_end : (k : ℕ) → k < length xs → length xs ≤ k + 1 → slice_cmp nat_cmp (get_or (xs ++ y ∷ []) k []) (get_or (xs ++ y ∷ []) (k + 1) []) ≡ Less
     at_end k h end =
         let low = get_or_append_left xs (y ∷ []) [] k h in

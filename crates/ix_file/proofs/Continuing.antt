@@ -39,6 +39,7 @@ has_next {X} piece apart some done xs left e some_left = next_of (goes_on piece 
     at : (more : List X) → xs ≡ done ++ more → left ≡ flat_map piece more → HasNext piece done xs left
     at [] whole rest = absurd (omega (arith, some_left, ap length rest))
     at (x ∷ more) whole rest = record { next = x; more = more; whole = whole ∙ sym (append_assoc done (x ∷ []) more); stands = rest }
+
     next_of : GoesOn piece done xs left → HasNext piece done xs left
     next_of g = at g.more g.whole g.rest
 

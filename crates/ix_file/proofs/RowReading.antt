@@ -76,6 +76,7 @@ these_rows section done left e none rows same = at (goes_on row_bytes rows_apart
     at_end : (more : List DocumentRow) → rows ≡ done ++ more → left ≡ flat_map row_bytes more → rows ≡ done
     at_end [] whole rest = whole ∙ append-nil done
     at_end (row ∷ more) whole rest = absurd (omega (arith, none, ap length rest, some_row_byte row, length-append (row_bytes row) (flat_map row_bytes more)))
+
     at : GoesOn row_bytes done rows left → rows ≡ done
     at g = at_end g.more g.whole g.rest
 

@@ -31,11 +31,7 @@ pub(crate) fn number(section: Section, bytes: &[u8]) -> Result<(u32, &[u8]), Ope
 ///
 /// `Number` of `Cut`, with this section, where there are fewer.
 #[inline]
-pub(crate) fn taken(
-    section: Section,
-    count: u32,
-    bytes: &[u8],
-) -> Result<(&[u8], &[u8]), OpenError>
+pub(crate) fn taken(section: Section, count: u32, bytes: &[u8]) -> Result<(&[u8], &[u8]), OpenError>
     ensures found { IfOk result (λ read. (length read.0.now ≡ count) × (bytes.now ≡ read.0.now ++ read.1.now)) }
     ensures fault { IfErr result (λ error. (error ≡ OpenError.Number section VbError.Cut) × (length bytes.now < count)) }
 {

@@ -16,8 +16,8 @@ returns-in_err-row-clause-refused c =
     rw p.1
     (inr
     (λ rows are count same.
-        none_next c.args.section.now (rows_in c.args.section.now c.loop-left.rows.items) c.loop-left.left.now c.loop-left.invariant.read some
-        (λ row rest may e. c.in_err-row.ensures.refused row rest may.name (omega (arith, may.few)) e) rows are same))
+    none_next c.args.section.now (rows_in c.args.section.now c.loop-left.rows.items) c.loop-left.left.now c.loop-left.invariant.read some
+    (λ row rest may e. c.in_err-row.ensures.refused row rest may.name (omega (arith, may.few)) e) rows are same))
 
 pub returns-then-row-tokens-clause-refused : goal.returns-then-row-tokens-clause-refused
 returns-then-row-tokens-clause-refused c =
@@ -27,11 +27,11 @@ returns-then-row-tokens-clause-refused c =
     let small = c.loop-left.invariant.small in
     inr
     (λ rows are count same.
-        none_next section (rows_in section c.loop-left.rows.items) c.loop-left.left.now c.loop-left.invariant.read some
-        (λ row rest may e.
-            let one = (rows_apart (row_in section c.in_ok-row.row) row c.in_ok-row.rest.now rest (sym c.in_ok-row.ensures.found ∙ e)).0 in
-            omega (arith, many, small, c.loop-left.invariant.sum, may.few, ap (λ r. r.tokens) one))
-        rows are same)
+    none_next section (rows_in section c.loop-left.rows.items) c.loop-left.left.now c.loop-left.invariant.read some
+    (λ row rest may e.
+    let one = (rows_apart (row_in section c.in_ok-row.row) row c.in_ok-row.rest.now rest (sym c.in_ok-row.ensures.found ∙ e)).0 in
+    omega (arith, many, small, c.loop-left.invariant.sum, may.few, ap (λ r. r.tokens) one))
+    rows are same)
 
 pub loop-left-preserved : goal.loop-left-preserved
 loop-left-preserved c =
@@ -58,6 +58,6 @@ returns-then-len-count-clause-refused c =
     let nothing : length c.loop-left.left.now ≡ 0 = grind (arith, nat_tests, c.is_empty.ensures, c.loop-left-test.false) in
     inr
     (λ rows are count same.
-        let whole = these_rows section done c.loop-left.left.now c.loop-left.invariant.read nothing rows same in
-        let other = c.if-len-count.true in
-        omega (arith, other, count, ap length whole, c.len.ensures, length-map c.loop-left.rows.items (row_in section)))
+    let whole = these_rows section done c.loop-left.left.now c.loop-left.invariant.read nothing rows same in
+    let other = c.if-len-count.true in
+    omega (arith, other, count, ap length whole, c.len.ensures, length-map c.loop-left.rows.items (row_in section)))

@@ -11,8 +11,8 @@ returns-in_err-tokens-clause-refused c =
     let p = err_from_is_err_and c.from_residual-in_err-tokens.result c.from_residual-in_err-tokens.ensures.1 in
     rw p.1
     (λ row rest is small e.
-        c.in_err-tokens.ensures.refused row.tokens rest small
-        (tokens_behind c.args.left.now c.in_ok-name.name.now c.in_ok-name.behind.now row rest c.in_ok-name.ensures.found.1 e))
+    c.in_err-tokens.ensures.refused row.tokens rest small
+    (tokens_behind c.args.left.now c.in_ok-name.name.now c.in_ok-name.behind.now row rest c.in_ok-name.ensures.found.1 e))
 
 pub returns-clause-name : goal.returns-clause-name
 returns-clause-name c =

@@ -26,8 +26,8 @@ returns-in_err-sections-clause-refused c =
     let p = err_from_is_err_and c.from_residual.result c.from_residual.ensures.1 in
     rw p.1
     (λ version texts documents terms few small e.
-        let is = frame_of _ _ _ _ _ _ c.split_frame-parts.ensures version texts documents terms e in
-        c.in_err-sections.ensures.refused texts is.body_is is.sizes_are)
+    let is = frame_of _ _ _ _ _ _ c.split_frame-parts.ensures version texts documents terms e in
+    c.in_err-sections.ensures.refused texts is.body_is is.sizes_are)
 
 pub returns-then-documents-gt-MAX_DOCUMENTS-clause-refused : goal.returns-then-documents-gt-MAX_DOCUMENTS-clause-refused
 returns-then-documents-gt-MAX_DOCUMENTS-clause-refused c version texts documents terms few small e =

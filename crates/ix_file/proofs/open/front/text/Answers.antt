@@ -16,7 +16,7 @@ returns-in_err-text-clause-refused c =
     let p = err_from_is_err_and c.from_residual-in_err-text.result c.from_residual-in_err-text.ensures.1 in
     rw p.1
     (λ text rest is e.
-        too_few c.args.bytes.now c.in_ok-count.count c.in_ok-count.rest.now text rest c.in_ok-count.ensures.found.1 c.in_err-text.ensures.fault.1 e)
+    too_few c.args.bytes.now c.in_ok-count.count c.in_ok-count.rest.now text rest c.in_ok-count.ensures.found.1 c.in_err-text.ensures.fault.1 e)
 
 pub returns-in_default-clause-refused : goal.returns-in_default-clause-refused
 returns-in_default-clause-refused c text rest is e =

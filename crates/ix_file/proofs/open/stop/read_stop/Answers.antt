@@ -15,8 +15,8 @@ returns-in_err-left-clause-refused c =
     let some : 0 < length c.loop-left.left.now = grind (arith, nat_tests, c.is_empty.ensures, c.loop-left-test.true) in
     rw (p.1, p.2)
     (⊎_elim inl
-        (λ refused. inr (no_stop c.args.section.now (map string_bytes c.loop-left.terms.items) c.loop-left.left.now c.loop-left.invariant.read some refused))
-        c.in_err-left.ensures.refused)
+    (λ refused. inr (no_stop c.args.section.now (map string_bytes c.loop-left.terms.items) c.loop-left.left.now c.loop-left.invariant.read some refused))
+    c.in_err-left.ensures.refused)
 
 pub loop-left-preserved : goal.loop-left-preserved
 loop-left-preserved c =
