@@ -5,7 +5,7 @@ use super::vectors::{RED, coded_text};
 use crate::PutError;
 use ix_text::StopList;
 use std::alloc::Global;
-use std::io::{ErrorKind, Result, Write};
+use std::io::{self, ErrorKind, Write};
 use std::process::Abort;
 use std::test::Fail;
 
@@ -30,7 +30,7 @@ impl Sink {
 }
 
 impl Write for Sink {
-    fn write(&mut self, bytes: &[u8]) -> Result<usize> {
+    fn write(&mut self, bytes: &[u8]) -> io::Result<usize> {
         let count = bytes.len().min(self.room);
         if count < 1 && !bytes.is_empty() {
             return Err(ErrorKind::BrokenPipe.into());
@@ -40,7 +40,7 @@ impl Write for Sink {
         Ok(count)
     }
 
-    fn flush(&mut self) -> Result<()> {
+    fn flush(&mut self) -> io::Result<()> {
         self.was_flushed = true;
         if self.flushes {
             Ok(())
@@ -56,7 +56,7 @@ fn answer(
     alloc: Global,
     sink: &mut Sink,
     sample: &Sample,
-) -> std::result::Result<std::result::Result<(), PutError>, Fail> {
+) -> Result<Result<(), PutError>, Fail> {
     let stop = StopList::read(alloc, sample.stop)?;
     let rows = rows(alloc, sample)?;
     let entries = entries(alloc, sample)?;
@@ -64,7 +64,7 @@ fn answer(
 }
 
 #[test]
-fn writes_refused_at_each_byte_leave_a_front(rt: HostRuntime) -> std::result::Result<(), Fail> {
+fn writes_refused_at_each_byte_leave_a_front(rt: HostRuntime) -> Result<(), Fail> {
     let alloc = rt.alloc();
     let text = coded_text(&rt, alloc, &RED)?;
     for room in 0..text.len() {
@@ -78,7 +78,7 @@ fn writes_refused_at_each_byte_leave_a_front(rt: HostRuntime) -> std::result::Re
 }
 
 #[test]
-fn flush_refused_leaves_the_whole_text(rt: HostRuntime) -> std::result::Result<(), Fail> {
+fn flush_refused_leaves_the_whole_text(rt: HostRuntime) -> Result<(), Fail> {
     let alloc = rt.alloc();
     let text = coded_text(&rt, alloc, &RED)?;
     for (flushes, want) in [(true, Ok(())), (false, Err(PutError::Write))] {
