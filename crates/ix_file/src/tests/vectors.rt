@@ -34,7 +34,7 @@ const STOP_WORD: Sample = Sample {
     documents: &[("d", "flights - london")],
 };
 
-const RED: Sample = Sample {
+pub(crate) const RED: Sample = Sample {
     stop: "",
     documents: &[("d", "red redo retired")],
 };
@@ -57,7 +57,7 @@ const NINE_TERMS: Sample = Sample {
 };
 
 /// The text of version 2 that the writer writes.
-fn coded_text(rt: &impl Abort, alloc: Global, sample: &Sample) -> Result<Vec<u8>, Fail> {
+pub(crate) fn coded_text(rt: &impl Abort, alloc: Global, sample: &Sample) -> Result<Vec<u8>, Fail> {
     let stop = StopList::read(alloc, sample.stop)?;
     let rows = rows(alloc, sample)?;
     let entries = entries(alloc, sample)?;

@@ -1,6 +1,5 @@
-use Rattle.std.proofs.Common.{◌≡◌, ℕ, ◌+◌, ◌<◌, ◌≤◌, ◌^◌, List, [], ◌∷◌, ◌++◌, length, sum_by, Option, None, Some, Result, Ok, Err, map, refl, sym, ap, subst, ◌∙◌, arith}
+use Rattle.std.proofs.Common.{◌≡◌, ℕ, ◌+◌, ◌<◌, ◌≤◌, ◌^◌, List, [], ◌∷◌, ◌++◌, length, Option, Some, refl, sym, ap, ◌∙◌, arith}
 use Rattle.std.proofs.lemmas.List.{map-append}
-use Rattle.std.proofs.lemmas.List.Sums.{sum_by-append}
 use Rattle.std.specs.Option.{option_map, option_to_list}
 use Rattle.ix_vbyte.specs.Gaps.{next_after}
 use Rattle.ix_vbyte.specs.Postings.{documents_of}
@@ -8,34 +7,16 @@ use Rattle.ix_vbyte.proofs.Gaps.{next_after-push}
 use Rattle.ix_text.specs.Parts.{DictionaryEntry, Posting}
 use Rattle.ix_file.specs.Telling.{IsTold, MayPost}
 use Rattle.ix_file.specs.Told.{Told, entries_of, with_term, with_posting, posted, position_count}
-use Rattle.ix_file.specs.declared.put_error.PutError.{PutError}
 use Rattle.ix_file.specs.declared.sections.Sections.{Sections}
+use Rattle.ix_file.proofs.TellingLemmas.{position_count-posted, position_count-term}
 use Rattle.ix_file.proofs.tests.telling.tell.Invariants.{IsBetween, IsWithin}
 use Rattle.ix_file.proofs.tests.telling.tell.Goals as goal
-
--- a call that answers Ok finds no refusal
-ready_from_ok : {T : Type 0} (refusal : Option PutError) (result : Result T PutError) (value : T) → ((error : PutError) → refusal ≡ Some error → result ≡ Err error) → result ≡ Ok value → refusal ≡ None
-ready_from_ok None result value failed ok = refl
-ready_from_ok (Some error) result value failed ok = let refused = failed error refl in absurd cc
-
-entry-count : (entry : DictionaryEntry) → position_count (entry ∷ []) ≡ sum_by (λ (posting : Posting). length posting.1) entry.postings
-entry-count entry = omega arith
-
-count-more : (done : List DictionaryEntry) (entry : DictionaryEntry) → position_count (done ++ entry ∷ []) ≡ position_count done + sum_by (λ (posting : Posting). length posting.1) entry.postings
-count-more done entry =
-    let both = sum_by-append (λ (e : DictionaryEntry). sum_by (λ (posting : Posting). length posting.1) e.postings) done (entry ∷ []) in omega (arith, both, entry-count entry)
-
-count-posted : (done : List DictionaryEntry) (entry : DictionaryEntry) (document : ℕ) (positions : List ℕ)
-    → position_count (done ++ posted document positions entry ∷ []) ≡ position_count (done ++ entry ∷ []) + length positions
-count-posted done entry document positions =
-    let more = sum_by-append (λ (posting : Posting). length posting.1) entry.postings ((document, positions) ∷ []) in
-    omega (arith, more, count-more done entry, count-more done (posted document positions entry))
 
 within_term : (now : Option (List ℕ)) (sections : Sections) (count : ℕ) (before : Option (List ℕ)) (told : Told) (term : List ℕ)
     → position_count (entries_of told) ≡ count → IsTold before now sections (with_term told term) → IsWithin now sections count 0
 within_term now sections count before told term counted is =
     let entry : DictionaryEntry = record { term = term; postings = [] } in
-    record { before = before; told = with_term told term; entry = entry; is = is; at_hand = refl; after = refl; counted = omega (arith, count-more (entries_of told) entry, counted) }
+    record { before = before; told = with_term told term; entry = entry; is = is; at_hand = refl; after = refl; counted = position_count-term (entries_of told) term ∙ counted }
 
 within_posting : (now : Option (List ℕ)) (sections : Sections) (count : ℕ) (before : Option (List ℕ)) (told : Told) (entry : DictionaryEntry) (document : ℕ) (positions : List ℕ)
     → told.at_hand ≡ Some entry → position_count (entries_of told) ≡ count → IsTold before now sections (with_posting told document positions)
@@ -52,13 +33,12 @@ within_posting now sections count before told entry document positions at_hand c
       is = is;
       at_hand = hand;
       after = ap (next_after 0) documents ∙ next_after-push 0 (documents_of entry.postings) document;
-      counted = omega (arith, new, old, count-posted told.done entry document positions);
+      counted = omega (arith, new, old, position_count-posted told.done entry document positions);
     }
 
 pub loop-document-init : goal.loop-document-init
 loop-document-init g c =
-    let ready = ready_from_ok c.loop-entry.writer.sections.refusal c.term.result _ c.term.ensures.failed c.in_ok-term.was in
-    let between = c.loop-entry.invariant ready in
+    let between = c.loop-entry.invariant c.in_ok-term.ensures.ready in
     within_term _ _ _ between.before between.told _ between.counted (c.in_ok-term.ensures.told between.before between.told between.is between.closable)
 
 pub loop-document-preserved : goal.loop-document-preserved

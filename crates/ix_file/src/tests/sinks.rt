@@ -1,0 +1,92 @@
+//! Sinks that refuse.
+use super::sample::{Sample, entries, rows};
+use super::telling::tell;
+use super::vectors::{RED, coded_text};
+use crate::PutError;
+use ix_text::StopList;
+use std::alloc::Global;
+use std::io::{self, ErrorKind, Write};
+use std::process::Abort;
+use std::test::Fail;
+
+/// A sink in memory that takes so many bytes and refuses what is beyond them, and may refuse to flush.
+#[derive(Drop)]
+struct Sink {
+    bytes: Vec<u8>,
+    room: usize,
+    flushes: bool,
+    was_flushed: bool,
+}
+
+impl Sink {
+    fn new(alloc: Global, room: usize, flushes: bool) -> Sink {
+        Sink {
+            bytes: Vec::new(alloc),
+            room,
+            flushes,
+            was_flushed: false,
+        }
+    }
+}
+
+impl Write for Sink {
+    fn write(&mut self, bytes: &[u8]) -> io::Result<usize> {
+        let count = bytes.len().min(self.room);
+        if count < 1 && !bytes.is_empty() {
+            return Err(ErrorKind::BrokenPipe.into());
+        }
+        self.bytes.extend_from_slice(&bytes[..count])?;
+        self.room -= count;
+        Ok(count)
+    }
+
+    fn flush(&mut self) -> io::Result<()> {
+        self.was_flushed = true;
+        if self.flushes {
+            Ok(())
+        } else {
+            Err(ErrorKind::BrokenPipe.into())
+        }
+    }
+}
+
+/// Writes the collection to the sink, and gives the writer's answer.
+fn answer(
+    rt: &impl Abort,
+    alloc: Global,
+    sink: &mut Sink,
+    sample: &Sample,
+) -> Result<Result<(), PutError>, Fail> {
+    let stop = StopList::read(alloc, sample.stop)?;
+    let rows = rows(alloc, sample)?;
+    let entries = entries(alloc, sample)?;
+    Ok(tell(rt, alloc, sink, &stop, &rows, &entries))
+}
+
+#[test]
+fn writes_refused_at_each_byte_leave_a_front(rt: HostRuntime) -> Result<(), Fail> {
+    let alloc = rt.alloc();
+    let text = coded_text(&rt, alloc, &RED)?;
+    for room in 0..text.len() {
+        let mut sink = Sink::new(alloc, room, true);
+        let answer = answer(&rt, alloc, &mut sink, &RED)?;
+        assert_eq!(rt; answer, Err(PutError::Write), "after {room} bytes");
+        assert_eq!(rt; sink.bytes.as_slice(), &text[..room]);
+        assert!(rt; !sink.was_flushed);
+    }
+    Ok(())
+}
+
+#[test]
+fn flush_refused_leaves_the_whole_text(rt: HostRuntime) -> Result<(), Fail> {
+    let alloc = rt.alloc();
+    let text = coded_text(&rt, alloc, &RED)?;
+    for (flushes, want) in [(true, Ok(())), (false, Err(PutError::Write))] {
+        let mut sink = Sink::new(alloc, text.len(), flushes);
+        let answer = answer(&rt, alloc, &mut sink, &RED)?;
+        assert_eq!(rt; answer, want);
+        assert_eq!(rt; sink.bytes.as_slice(), text.as_slice());
+        assert!(rt; sink.was_flushed);
+    }
+    Ok(())
+}
