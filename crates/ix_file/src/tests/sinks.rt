@@ -51,10 +51,10 @@ impl Write for Sink {
 }
 
 /// Writes the collection to the sink, and gives the writer's answer.
-fn answer(
+fn answer<W: Write>(
     rt: &impl Abort,
     alloc: Global,
-    sink: &mut Sink,
+    sink: &mut W,
     sample: &Sample,
 ) -> Result<Result<(), PutError>, Fail> {
     let stop = StopList::read(alloc, sample.stop)?;
@@ -88,5 +88,42 @@ fn flush_refused_leaves_the_whole_text(rt: HostRuntime) -> Result<(), Fail> {
         assert_eq!(rt; sink.bytes.as_slice(), text.as_slice());
         assert!(rt; sink.was_flushed);
     }
+    Ok(())
+}
+
+/// A sink that takes one byte of each second write, and interrupts the others.
+#[derive(Drop)]
+struct Slow {
+    bytes: Vec<u8>,
+    interrupts: bool,
+}
+
+impl Write for Slow {
+    fn write(&mut self, bytes: &[u8]) -> io::Result<usize> {
+        self.interrupts = !self.interrupts;
+        if self.interrupts {
+            return Err(ErrorKind::Interrupted.into());
+        }
+        let count = bytes.len().min(1);
+        self.bytes.extend_from_slice(&bytes[..count])?;
+        Ok(count)
+    }
+
+    fn flush(&mut self) -> io::Result<()> {
+        Ok(())
+    }
+}
+
+#[test]
+fn short_and_interrupted_writes_are_made_again(rt: HostRuntime) -> Result<(), Fail> {
+    let alloc = rt.alloc();
+    let text = coded_text(&rt, alloc, &RED)?;
+    let mut sink = Slow {
+        bytes: Vec::new(alloc),
+        interrupts: false,
+    };
+    let answer = answer(&rt, alloc, &mut sink, &RED)?;
+    assert_eq!(rt; answer, Ok(()));
+    assert_eq!(rt; sink.bytes.as_slice(), text.as_slice());
     Ok(())
 }

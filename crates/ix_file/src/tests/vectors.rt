@@ -56,6 +56,15 @@ const NINE_TERMS: Sample = Sample {
     documents: &[("d", "a b c d e f g h i")],
 };
 
+/// A name of 255 bytes.
+const LONG_NAME: &str =
+    "nnnnnnnnnnnnnnnnnnnnnnnnnnnnnnnnnnnnnnnnnnnnnnnnnnnnnnnnnnnnnnnnnnnnnnnnnnnnnnnnnnnnnnnnnnnnnnnnnnnnnnnnnnnnnnnnnnnnnnnnnnnnnnnnnnnnnnnnnnnnnnnnnnnnnnnnnnnnnnnnnnnnnnnnnnnnnnnnnnnnnnnnnnnnnnnnnnnnnnnnnnnnnnnnnnnnnnnnnnnnnnnnnnnnnnnnnnnnnnnnnnnnnnnnnnnnnnn";
+
+const LONG_NAMED: Sample = Sample {
+    stop: "",
+    documents: &[(LONG_NAME, "a")],
+};
+
 /// The text of version 2 that the writer writes.
 pub(crate) fn coded_text(rt: &impl Abort, alloc: Global, sample: &Sample) -> Result<Vec<u8>, Fail> {
     let stop = StopList::read(alloc, sample.stop)?;
@@ -194,6 +203,23 @@ fn texts_of_version_two(rt: HostRuntime) -> Result<(), Fail> {
         let got = digits(alloc, &coded_text(&rt, alloc, &sample)?)?;
         let want = joined(alloc, want)?;
         assert_eq!(rt; got.as_str(), want.as_str());
+    }
+    Ok(())
+}
+
+#[test]
+fn a_name_of_255_bytes(rt: HostRuntime) -> Result<(), Fail> {
+    let alloc = rt.alloc();
+    assert_eq!(rt; LONG_NAME.len(), 255);
+    for text in [
+        plain_text(alloc, &LONG_NAMED)?,
+        coded_text(&rt, alloc, &LONG_NAMED)?,
+    ] {
+        // behind the magic and the list `81 81 81`: the code of 255, the name, and the one token
+        assert_eq!(rt; text.len(), 335);
+        assert_eq!(rt; &text[8..13], [0x81, 0x81, 0x81, 0x01, 0xff].as_slice());
+        assert_eq!(rt; &text[13..268], LONG_NAME.as_bytes());
+        assert_eq!(rt; text[268], 0x81);
     }
     Ok(())
 }
