@@ -2,6 +2,7 @@ pub mod Blocks
 pub mod CodeLemmas
 pub mod CodedLists
 pub mod Dictionaries
+pub mod Fronts
 pub mod HeadLemmas
 pub mod InputLemmas
 pub mod Inverting
@@ -11,6 +12,7 @@ pub mod PieceLemmas
 pub mod Postings
 pub mod RowLemmas
 pub mod RunSizes
+pub mod RunSources
 pub mod RunTold
 pub mod Sorting
 pub mod SpelledLemmas

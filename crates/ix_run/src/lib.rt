@@ -12,6 +12,7 @@ mod laws;
 mod rows;
 mod run;
 mod run_reader;
+mod run_source;
 mod run_text;
 mod run_text_error;
 mod source;
@@ -28,5 +29,6 @@ pub use laws::{
 };
 pub use run::Run;
 pub use run_reader::RunReader;
+pub use run_source::RunSource;
 pub use run_text_error::RunTextError;
 pub use source::Source;

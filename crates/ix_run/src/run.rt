@@ -3,6 +3,7 @@
 use crate::coded_term::CodedTerm;
 use crate::errors::WriteError;
 use crate::head::RunHead;
+use crate::run_source::RunSource;
 use crate::run_text::put_run;
 use std::io::Write;
 use std::marker::Model;
@@ -25,11 +26,15 @@ impl Model for Run {
 }
 
 impl Run {
-    ghost use Rattle.std.specs.Prelude.{◌≡◌, ℕ, OnOk, OnErr};
+    ghost use Rattle.std.specs.Prelude.{◌≡◌, ℕ, [], List, OnOk, OnErr};
     ghost use Rattle.std.specs.Io.KnownBytes.{Appends};
     ghost use Rattle.ix_text.specs.Collections.{Collection};
     ghost use Rattle.ix_text.specs.Sinks.{AppendsFront};
+    ghost use Rattle.ix_text.specs.Parts.{ArePartsOf, DictionaryEntry};
+    ghost use Rattle.ix_run.specs.Heads.{heading_of, parts_with};
+    ghost use Rattle.ix_run.specs.RunSources.{HasGiven, HasLeft, heading_shown, unread};
     ghost use Rattle.ix_run.specs.RunText.{IsRunText};
+    ghost use Rattle.ix_run.specs.Sources.{IsUnread};
     ghost use Rattle.ix_run.specs.Runs.{IsRun, IsRunOf, head_value, run_bytes};
 
     /// The run of these parts.
@@ -52,5 +57,22 @@ impl Run {
             Ok(()) => Ok(()),
             Err(_) => Err(WriteError::Write),
         }
+    }
+
+    /// The run as a source of which nothing was asked yet. Takes no memory.
+    pub fn source(&self) -> RunSource<'_>
+        ensures value { result ≡ unread self.now }
+        ensures unread { IsUnread HasGiven result }
+        ensures yields { (first : ℕ) (collection : Collection) → IsRunOf self.now first collection
+            → (entries : List DictionaryEntry) → HasLeft result [] entries → ArePartsOf collection (parts_with result.heading entries) }
+    {
+        RunSource::new(&self.head, self.terms.as_slice())
+    }
+
+    /// The head that the run's source has. Takes no memory.
+    pub fn into_head(self) -> RunHead
+        ensures { heading_of result ≡ heading_shown self }
+    {
+        self.head
     }
 }

@@ -92,6 +92,18 @@ impl<'a> Postings<'a> {
         }
     }
 
+    /// The same postings once more.
+    #[inline]
+    pub fn again(&self) -> Postings<'a>
+        ensures { result ≡ self.now }
+    {
+        Postings {
+            bytes: self.bytes,
+            next: self.next,
+            count: self.count,
+        }
+    }
+
     /// How many postings are left.
     #[inline]
     pub fn len(&self) -> usize

@@ -1,0 +1,300 @@
+-- A run in memory as a source, step by step.
+use Rattle.std.proofs.Common.{◌≡◌, ◌≢◌, ℕ, ◌+◌, ◌-◌, ◌^◌, ◌<◌, ◌≤◌, List, [], ◌∷◌, ◌++◌, length, map, get_or, All, Option, Some, None, IsSome, IfSome, option_map, refl, sym, ap, ap₂, subst, ◌∙◌, arith, length-append}
+use Rattle.std.proofs.lemmas.List.{append_assoc, append-nil, length-map}
+use Rattle.std.proofs.lemmas.List.Elements.{All-contains, All-cons, All-head, All-tail, All-weaker, Contains-append_left, Contains-push}
+use Rattle.ix_text.specs.Collections.{Collection, IsLawful}
+use Rattle.ix_text.specs.Parts.{DictionaryEntry, Parts, Posting, ArePartsOf, row_of}
+use Rattle.ix_text.specs.PartsLaws.{AreLawful, IsLawfulTerm, LiesBelow}
+use Rattle.ix_text.proofs.PartsLawful.{lawful_parts, postings_below}
+use Rattle.ix_text.proofs.PartsLemmas.{same_entry_fields}
+use Rattle.ix_vbyte.specs.Postings.{ArePostings, list_bytes}
+use Rattle.ix_vbyte.specs.Walking.{IsCodedList}
+use Rattle.ix_vbyte.proofs.Sizes.{postings_from}
+use Rattle.ix_run.specs.Heads.{Heading, parts_with}
+use Rattle.ix_run.specs.Runs.{IsRun, IsRunOf, RunValue, TermValue, coded, run_value}
+use Rattle.ix_run.specs.RunSources.{AreCoded, HasGiven, HasLeft, IsAtEndOfTerm, IsAtPlace, SourceValue, heading_shown, unread}
+use Rattle.ix_run.specs.Sources.{AreWhole, BeginsTerm, EndsPostings, EndsTerms, GivesPosting, IsLawfulFront, closed, entry_with, extended}
+use Rattle.ix_run.proofs.Fronts.{front_lawful}
+
+-- the lists of a lawful dictionary can be coded
+pub codable : (heading : Heading) (entries : List DictionaryEntry) → AreWhole heading entries → All (λ entry. ArePostings 0 (2 ^ 32 - 1) entry.postings) entries
+codable heading entries whole k d within =
+    let entry = get_or entries k d in
+    let is : IsLawfulTerm (parts_with heading entries) entry = whole.lawful.terms k d within in
+    let below = postings_below (parts_with heading entries) whole.lawful k d within in
+    postings_from (2 ^ 32 - 1) entry.postings is.ordered.ascending is.ordered.each
+    (All-weaker (LiesBelow (2 ^ 28)) (LiesBelow (2 ^ 32 - 1))
+        (λ posting low. (let d = low.0 in omega arith, All-weaker (λ p. p < 2 ^ 28) (λ p. p < 2 ^ 32 - 1) (λ p l. omega arith) posting.1 low.1)) entry.postings below)
+
+-- what is none is nothing
+some_none : {A : Type 0} {P : Type 0} (o : Option A) (x : A) → o ≡ Some x → o ≡ None → P
+some_none o x some none = cc
+
+none_is_some : {A : Type 0} (o : Option A) → o ≡ None → IsSome o → ⊥
+none_is_some o none some = cc
+
+pub nothing_left : {A B : Type 0} (f : A → B) (xs : List A) → length xs ≡ 0 → map f xs ≡ []
+nothing_left f [] none = refl
+nothing_left f (x ∷ xs) none = absurd (omega arith)
+
+-- finished entries and one at hand, of a lawful dictionary
+has_given : (source : SourceValue) (finished : List DictionaryEntry) (at_hand : Option DictionaryEntry) (rest : List DictionaryEntry) → AreWhole source.heading (closed finished at_hand source.postings ++ rest)
+    → AreCoded source.terms rest → option_map (λ entry. entry.term) at_hand ≡ source.term → HasGiven source finished at_hand
+has_given source finished at_hand rest whole left of_term = record {
+  rest = rest;
+  whole = whole;
+  left = left;
+  of_term = of_term;
+  lawful = front_lawful source.heading finished at_hand source.postings rest whole;
+  completed = λ postings entries has. subst (AreWhole source.heading) (ap₂ (λ ps es. closed finished at_hand ps ++ es) (sym has.of_term) (sym (has.behind rest left))) whole;
+}
+
+-- the postings are those that a term's value tells
+abbrev pub ToldBy : TermValue → List Posting → Type 0
+ToldBy value postings = (told : List Posting) → ArePostings 0 (2 ^ 32 - 1) told → length told ≡ value.documents → value.list ≡ list_bytes told → postings ≡ told
+
+-- the entry of the first term that is left
+record FirstEntry (value : TermValue) (values : List TermValue) (rest : List DictionaryEntry) : Type 0 where
+  entry : DictionaryEntry
+  entries : List DictionaryEntry
+  parts : rest ≡ entry ∷ entries
+  is : value ≡ coded entry
+  left : AreCoded values entries
+  are : ArePostings 0 (2 ^ 32 - 1) entry.postings
+
+first_entry : (value : TermValue) (values : List TermValue) (rest : List DictionaryEntry) → AreCoded (value ∷ values) rest → FirstEntry value values rest
+first_entry value values [] left = absurd (let e = ap length left.told in omega (arith, e))
+first_entry value values (entry ∷ entries) left =
+    let told = left.told in
+    record {
+      entry = entry;
+      entries = entries;
+      parts = refl;
+      is = cc;
+      left = record { told = cc; each = All-tail (λ e. ArePostings 0 (2 ^ 32 - 1) e.postings) entry entries left.each };
+      are = All-head (λ e. ArePostings 0 (2 ^ 32 - 1) e.postings) entry entries left.each;
+    }
+
+told_postings : (value : TermValue) (postings : List Posting) (entry : DictionaryEntry) → ToldBy value postings → value ≡ coded entry → ArePostings 0 (2 ^ 32 - 1) entry.postings → postings ≡ entry.postings
+told_postings value postings entry told is are = told entry.postings are (sym (ap (λ v. v.documents) is)) (ap (λ v. v.list) is)
+
+no_entry : (rest : List DictionaryEntry) → AreCoded [] rest → [] ≡ rest
+no_entry [] left = refl
+no_entry (entry ∷ entries) left = absurd (let e = ap length left.told in omega (arith, e))
+
+module _ (heading : Heading) (value : TermValue) (values : List TermValue) (term : Option (List ℕ)) (left postings : List Posting) (told : ToldBy value postings) where
+  abbrev before : SourceValue
+  before = record { heading = heading; terms = value ∷ values; term = term; postings = left }
+
+  abbrev behind : SourceValue
+  behind = record { heading = heading; terms = values; term = Some value.term; postings = postings }
+
+  given_begun : (finished : List DictionaryEntry) (at_hand : Option DictionaryEntry) → HasGiven before finished at_hand → HasGiven behind (closed finished at_hand left) (Some (entry_with value.term []))
+  given_begun finished at_hand given =
+      let first = first_entry value values given.rest given.left in
+      let same : extended (entry_with value.term []) postings ≡ first.entry =
+          same_entry_fields (extended (entry_with value.term []) postings) first.entry (ap (λ v. v.term) first.is) (told_postings value postings first.entry told first.is first.are) in
+      has_given behind (closed finished at_hand left) (Some (entry_with value.term [])) first.entries
+      (subst (AreWhole heading)
+          (ap (λ rest. closed finished at_hand left ++ rest) first.parts
+          ∙ sym (append_assoc (closed finished at_hand left) (first.entry ∷ []) first.entries)
+          ∙ ap (λ e. (closed finished at_hand left ++ e ∷ []) ++ first.entries) (sym same))
+          given.whole)
+      first.left refl
+
+  left_begun : (ps : List Posting) (entries : List DictionaryEntry) → HasLeft behind ps entries → HasLeft before left (entry_with value.term ps ∷ entries)
+  left_begun ps entries has = record {
+    of_term = refl;
+    behind = λ rest is.
+        let first = first_entry value values rest is in
+        let same : entry_with value.term ps ≡ first.entry =
+            same_entry_fields (entry_with value.term ps) first.entry (ap (λ v. v.term) first.is) (has.of_term ∙ told_postings value postings first.entry told first.is first.are) in
+        ap₂ (λ (e : DictionaryEntry) (es : List DictionaryEntry). e ∷ es) same (has.behind first.entries first.left) ∙ sym first.parts;
+  }
+
+  -- the next term is begun
+  pub begins : (term ≡ None → left ≡ []) → BeginsTerm HasLeft HasGiven IsAtEndOfTerm before behind value.term
+  begins none = record {
+    skipped = left;
+    yielded = left_begun;
+    given = given_begun;
+    none = λ end. drained term none end;
+  }
+    where
+      drained : (t : Option (List ℕ)) → (t ≡ None → left ≡ []) → (t ≢ None → left ≡ []) → left ≡ []
+      drained None none end = none refl
+      drained (Some text) none end = end (λ e. cc)
+
+  pub placed_begun : IsAtPlace before → IsAtPlace behind
+  placed_begun at = record { finished = closed at.finished at.at_hand left; at_hand = Some (entry_with value.term []); given = given_begun at.finished at.at_hand at.given; none = some_none (Some value.term) value.term refl }
+
+module _ (heading : Heading) (term : Option (List ℕ)) (left : List Posting) where
+  abbrev last : SourceValue
+  last = record { heading = heading; terms = []; term = term; postings = left }
+
+  abbrev ended : SourceValue
+  ended = record { heading = heading; terms = []; term = None; postings = [] }
+
+  given_ended : (finished : List DictionaryEntry) (at_hand : Option DictionaryEntry) → HasGiven last finished at_hand → HasGiven ended (closed finished at_hand left) None
+  given_ended finished at_hand given = has_given ended (closed finished at_hand left) None given.rest given.whole given.left refl
+
+  -- no term is left
+  pub ends : (term ≡ None → left ≡ []) → EndsTerms HasLeft HasGiven IsAtEndOfTerm last ended
+  ends none = record {
+    skipped = left;
+    yielded = record { of_term = refl; behind = no_entry };
+    given = given_ended;
+    none = λ end. drained term none end;
+  }
+    where
+      drained : (t : Option (List ℕ)) → (t ≡ None → left ≡ []) → (t ≢ None → left ≡ []) → left ≡ []
+      drained None none end = none refl
+      drained (Some text) none end = end (λ e. cc)
+
+  pub placed_ended : IsAtPlace last → IsAtPlace ended
+  placed_ended at = record { finished = closed at.finished at.at_hand left; at_hand = None; given = given_ended at.finished at.at_hand at.given; none = λ e. refl }
+
+module _ (heading : Heading) (terms : List TermValue) (term : Option (List ℕ)) (posting : Posting) (left : List Posting) where
+  abbrev here : SourceValue
+  here = record { heading = heading; terms = terms; term = term; postings = posting ∷ left }
+
+  abbrev next : SourceValue
+  next = record { heading = heading; terms = terms; term = term; postings = left }
+
+  given_posting : (finished : List DictionaryEntry) (entry : DictionaryEntry) → HasGiven here finished (Some entry) → HasGiven next finished (Some (extended entry (posting ∷ [])))
+  given_posting finished entry given =
+      has_given next finished (Some (extended entry (posting ∷ []))) given.rest
+      (subst (AreWhole heading) (ap (λ ps. (finished ++ entry_with entry.term ps ∷ []) ++ given.rest) (sym (append_assoc entry.postings (posting ∷ []) left))) given.whole)
+      given.left given.of_term
+
+  -- one posting is given
+  pub gives_posting : GivesPosting HasLeft HasGiven here next posting
+  gives_posting = record {
+    yielded = λ ps entries has. record { of_term = ap (λ qs. posting ∷ qs) has.of_term; behind = has.behind };
+    given = given_posting;
+  }
+
+  pub placed_next : (text : List ℕ) → term ≡ Some text → IsAtPlace here → IsAtPlace next
+  placed_next text at_term at = by at.at_hand at.given
+    where
+      by : (at_hand : Option DictionaryEntry) → HasGiven here at.finished at_hand → IsAtPlace next
+      by None given = some_none term text at_term (sym given.of_term)
+      by (Some entry) given = record { finished = at.finished; at_hand = Some (extended entry (posting ∷ [])); given = given_posting at.finished entry given; none = some_none term text at_term }
+
+module _ (heading : Heading) (terms : List TermValue) (term : Option (List ℕ)) where
+  abbrev drained : SourceValue
+  drained = record { heading = heading; terms = terms; term = term; postings = [] }
+
+  some_given : (finished : List DictionaryEntry) (entry : DictionaryEntry) → HasGiven drained finished (Some entry) → 0 < length entry.postings
+  some_given finished entry given =
+      let all : List DictionaryEntry = (finished ++ extended entry [] ∷ []) ++ given.rest in
+      let is : IsLawfulTerm (parts_with heading all) (extended entry []) =
+          All-contains (IsLawfulTerm (parts_with heading all)) all (extended entry []) given.whole.lawful.terms
+          (Contains-append_left (finished ++ extended entry [] ∷ []) given.rest (extended entry []) (Contains-push finished (extended entry []))) in
+      let some = is.ordered.some in omega (arith, some, length-append entry.postings [])
+
+  -- no posting of the term is left
+  pub ends_postings : EndsPostings HasLeft HasGiven drained drained
+  ends_postings = record {
+    yielded = λ ps entries has. (has.of_term, record { of_term = refl; behind = has.behind });
+    given = λ finished entry given. (given, some_given finished entry given);
+  }
+
+-- ---- a run as a source of which nothing was asked
+
+run_whole : (run : RunValue) (first : ℕ) (collection : Collection) (is : IsRunOf run first collection) → AreWhole (heading_shown run) is.parts.entries
+run_whole run first collection is =
+    let lawful = lawful_parts collection is.parts is.lawful is.of_collection in
+    let same : heading_shown (run_value first is.parts) ≡ heading_shown run = ap heading_shown (sym is.held) in
+    let size : length is.parts.rows ≡ length collection.documents = ap length is.of_collection.rows ∙ length-map collection.documents row_of in
+    let P : Heading → Type 0 = λ h. AreWhole h is.parts.entries in
+    subst P same (record { lawful = lawful; within = let within = is.within in omega (arith, size, within) })
+
+run_coded : (run : RunValue) (first : ℕ) (collection : Collection) (is : IsRunOf run first collection) → AreCoded run.terms is.parts.entries
+run_coded run first collection is = record { told = ap (λ r. r.terms) is.held; each = codable (heading_shown run) is.parts.entries (run_whole run first collection is) }
+
+pub run_unread : (run : RunValue) (first : ℕ) (collection : Collection) → IsRunOf run first collection → HasGiven (unread run) [] None
+run_unread run first collection is = has_given (unread run) [] None is.parts.entries (run_whole run first collection is) (run_coded run first collection is) refl
+
+-- what a run yields from its start is its collection's dictionary
+pub run_yields : (run : RunValue) (first : ℕ) (collection : Collection) → IsRunOf run first collection → (entries : List DictionaryEntry) → HasLeft (unread run) [] entries → ArePartsOf collection (parts_with (heading_shown run) entries)
+run_yields run first collection is entries left =
+    let same : parts_with (heading_shown run) entries ≡ is.parts =
+        ap₂ (λ (h : Heading) (es : List DictionaryEntry). parts_with h es) (ap heading_shown is.held) (left.behind is.parts.entries (run_coded run first collection is)) in
+    subst (ArePartsOf collection) (sym same) is.of_collection
+
+-- ---- the steps, as the code makes them
+
+-- the list of the first term that is left is a coded one
+pub first_list : (all : List TermValue) (value : TermValue) (values : List TermValue) (rest : List DictionaryEntry) (list : List ℕ) → all ≡ value ∷ values → list ≡ value.list → AreCoded all rest → IsCodedList value.documents list
+first_list all value values rest list is same left =
+    let P : List TermValue → Type 0 = λ values. AreCoded values rest in
+    let first = first_entry value values rest (subst P is left) in
+    record {
+      postings = first.entry.postings;
+      are = first.are;
+      counted = sym (ap (λ v. v.documents) first.is);
+      coded = same ∙ ap (λ v. v.list) first.is;
+    }
+
+module _ (heading : Heading) (all : List TermValue) (term : Option (List ℕ)) (left postings : List Posting) where
+  abbrev from_here : SourceValue
+  from_here = record { heading = heading; terms = all; term = term; postings = left }
+
+  -- to the end
+  pub step_ended : all ≡ [] → postings ≡ [] → (term ≡ None → left ≡ []) → EndsTerms HasLeft HasGiven IsAtEndOfTerm from_here (record { heading = heading; terms = all; term = None; postings = postings })
+  step_ended none empty drained =
+      let P : List TermValue → Type 0 = λ ts. EndsTerms HasLeft HasGiven IsAtEndOfTerm (record { heading = heading; terms = ts; term = term; postings = left }) (record { heading = heading; terms = ts; term = None; postings = postings }) in
+      let Q : List Posting → Type 0 = λ ps. EndsTerms HasLeft HasGiven IsAtEndOfTerm (record { heading = heading; terms = []; term = term; postings = left }) (record { heading = heading; terms = []; term = None; postings = ps }) in
+      subst P (sym none) (subst Q (sym empty) (ends heading term left drained))
+
+  pub place_ended : all ≡ [] → postings ≡ [] → IsAtPlace from_here → IsAtPlace (record { heading = heading; terms = all; term = None; postings = postings })
+  place_ended none empty at =
+      let P : List TermValue → Type 0 = λ ts. IsAtPlace (record { heading = heading; terms = ts; term = term; postings = left }) in
+      let Q : List TermValue → Type 0 = λ ts. IsAtPlace (record { heading = heading; terms = ts; term = None; postings = postings }) in
+      let R : List Posting → Type 0 = λ ps. IsAtPlace (record { heading = heading; terms = []; term = None; postings = ps }) in
+      subst Q (sym none) (subst R (sym empty) (placed_ended heading term left (subst P none at)))
+
+  module _ (value : TermValue) (values : List TermValue) (text : List ℕ) (is : all ≡ value ∷ values) (same : text ≡ value.term) (told : ToldBy value postings) where
+    abbrev to_there : SourceValue
+    to_there = record { heading = heading; terms = values; term = Some text; postings = postings }
+
+    -- to the next term
+    pub step_begun : (term ≡ None → left ≡ []) → BeginsTerm HasLeft HasGiven IsAtEndOfTerm from_here to_there text
+    step_begun drained =
+        let P : List TermValue → Type 0 = λ ts. BeginsTerm HasLeft HasGiven IsAtEndOfTerm (record { heading = heading; terms = ts; term = term; postings = left }) to_there text in
+        let Q : List ℕ → Type 0 = λ t. BeginsTerm HasLeft HasGiven IsAtEndOfTerm (record { heading = heading; terms = value ∷ values; term = term; postings = left }) (record { heading = heading; terms = values; term = Some t; postings = postings }) t in
+        subst P (sym is) (subst Q (sym same) (begins heading value values term left postings told drained))
+
+    pub place_begun : IsAtPlace from_here → IsAtPlace to_there
+    place_begun at =
+        let P : List TermValue → Type 0 = λ ts. IsAtPlace (record { heading = heading; terms = ts; term = term; postings = left }) in
+        let Q : List ℕ → Type 0 = λ t. IsAtPlace (record { heading = heading; terms = values; term = Some t; postings = postings }) in
+        subst Q (sym same) (placed_begun heading value values term left postings told (subst P is at))
+
+-- the coded list of no posting tells none
+pub no_postings : (postings : List Posting) → ToldBy (record { term = []; documents = 0; list = [] }) postings → postings ≡ []
+no_postings postings told = told [] (record { documents = tt; each = λ k d within. absurd (omega arith) }) refl refl
+
+-- of which nothing was asked yet
+pub place_unread : (heading : Heading) (terms : List TermValue) (postings : List Posting) → postings ≡ [] → HasGiven (record { heading = heading; terms = terms; term = None; postings = [] }) [] None
+    → IsAtPlace (record { heading = heading; terms = terms; term = None; postings = postings })
+place_unread heading terms postings none given =
+    let P : List Posting → Type 0 = λ ps. IsAtPlace (record { heading = heading; terms = terms; term = None; postings = ps }) in
+    subst P (sym none) (record { finished = []; at_hand = None; given = given; none = λ e. refl })
+
+module _ (heading : Heading) (terms : List TermValue) (term : Option (List ℕ)) (posting : Posting) (left postings : List Posting) (is : postings ≡ posting ∷ left) where
+  -- to the next posting
+  pub step_given : GivesPosting HasLeft HasGiven (record { heading = heading; terms = terms; term = term; postings = postings }) (record { heading = heading; terms = terms; term = term; postings = left }) posting
+  step_given =
+      let P : List Posting → Type 0 = λ ps. GivesPosting HasLeft HasGiven (record { heading = heading; terms = terms; term = term; postings = ps }) (record { heading = heading; terms = terms; term = term; postings = left }) posting in
+      subst P (sym is) (gives_posting heading terms term posting left)
+
+  pub place_next : IsSome term → IsAtPlace (record { heading = heading; terms = terms; term = term; postings = postings }) → IsAtPlace (record { heading = heading; terms = terms; term = term; postings = left })
+  place_next some at =
+      let P : List Posting → Type 0 = λ ps. IsAtPlace (record { heading = heading; terms = terms; term = term; postings = ps }) in
+      by term refl some (subst P is at)
+    where
+      by : (t : Option (List ℕ)) → term ≡ t → IsSome term → IsAtPlace (record { heading = heading; terms = terms; term = term; postings = posting ∷ left }) → IsAtPlace (record { heading = heading; terms = terms; term = term; postings = left })
+      by None none some at = absurd (none_is_some term none some)
+      by (Some text) same some at = placed_next heading terms term posting left text same at

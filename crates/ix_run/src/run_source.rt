@@ -1,0 +1,113 @@
+//! A run in memory as a source of its postings.
+
+use crate::coded_term::CodedTerm;
+use crate::{RunHead, Source};
+use ix_text::Memory;
+use ix_vbyte::cursor::Postings;
+use std::marker::Model;
+
+/// The terms and the postings of a run in memory, in order; its lists stay where they are.
+///
+/// Its one error is `Memory`, where positions find no room. The source then stands where it stood, and `positions`
+/// holds anything.
+#[derive(Drop)]
+pub struct RunSource<'a> {
+    head: &'a RunHead,
+    // the terms that are left
+    terms: &'a [CodedTerm],
+    // the term at hand
+    term: Option<&'a str>,
+    // the postings of the term at hand that are left
+    postings: Postings<'a>,
+}
+
+impl<'a> Model for RunSource<'a> {
+    ghost use Rattle.std.specs.Prelude.{map};
+    ghost use Rattle.std.specs.Option.{option_copied};
+    ghost use Rattle.ix_run.specs.Heads.{heading_of};
+    ghost use Rattle.ix_run.specs.Runs.{term_shown};
+    ghost use Rattle.ix_run.specs.RunSources.{IsAtPlace, SourceValue};
+
+    ghost Value = { SourceValue };
+
+    ghost view = { λ source. record { heading = heading_of source.head.now; terms = map term_shown source.terms.now; term = option_copied source.term; postings = source.postings } };
+
+    ghost invariant = { λ source. IsAtPlace (record { heading = heading_of source.head.now; terms = map term_shown source.terms.now; term = option_copied source.term; postings = source.postings }) };
+}
+
+impl<'a> RunSource<'a> {
+    ghost use Rattle.std.specs.Prelude.{◌≡◌, [], None, map};
+    ghost use Rattle.ix_run.specs.Heads.{heading_of};
+    ghost use Rattle.ix_run.specs.Runs.{term_shown};
+    ghost use Rattle.ix_run.specs.RunSources.{HasGiven};
+
+    /// The source of a run of which nothing was asked yet.
+    pub(crate) fn new(head: &'a RunHead, terms: &'a [CodedTerm]) -> RunSource<'a>
+        requires { HasGiven (record { heading = heading_of head.now; terms = map term_shown terms.now; term = None; postings = [] }) [] None }
+        ensures { result ≡ record { heading = heading_of head.now; terms = map term_shown terms.now; term = None; postings = [] } }
+    {
+        RunSource {
+            head,
+            terms,
+            term: None,
+            postings: Postings::new(&[], 0),
+        }
+    }
+}
+
+impl<'a> Source for RunSource<'a> {
+    ghost use Rattle.std.specs.Prelude.{◌≡◌, [], None};
+    ghost use Rattle.ix_run.specs.RunSources.{HasGiven, HasLeft, IsAtEndOfTerm};
+
+    type Error = Memory;
+
+    ghost heading = { λ source. source.heading };
+
+    ghost current = { λ source. source.term };
+
+    ghost yields = { HasLeft };
+
+    ghost gives = { HasGiven };
+
+    ghost is_drained = { IsAtEndOfTerm };
+
+    ghost is_ended = { λ source. (source.terms ≡ []) × (source.term ≡ None) };
+
+    fn head(&self) -> &RunHead {
+        self.head
+    }
+
+    fn next_term(&mut self) -> Result<bool, Memory> {
+        let Some((term, terms)) = self.terms.split_first() else {
+            self.term = None;
+            self.postings = Postings::new(&[], 0);
+            return Ok(false);
+        };
+        self.terms = terms;
+        self.term = Some(term.term.as_str());
+        self.postings = Postings::new(&term.list, term.documents);
+        Ok(true)
+    }
+
+    fn term(&self) -> &str {
+        self.term.unwrap()
+    }
+
+    fn next_posting(&mut self, positions: &mut Vec<u32>) -> Result<Option<u32>, Memory> {
+        let mut postings = self.postings.again();
+        let Some(posting) = postings.next() else {
+            return Ok(None);
+        };
+        posting.read_positions(positions)?;
+        self.postings = postings;
+        Ok(Some(posting.document))
+    }
+
+    ghost drained_without_term = { λ source none some. absurd (some none) };
+
+    ghost given_lawfully = { λ source finished at_hand given. given.lawful };
+
+    ghost given_of_term = { λ source finished at_hand given. given.of_term };
+
+    ghost yielded_lawfully = { λ source finished at_hand postings entries given left. given.completed postings entries left };
+}
