@@ -18,10 +18,10 @@ ascending_front : (xs ys : List (List ℕ)) → IsAscending (xs ++ ys) → IsAsc
 ascending_front xs ys a =
     sorted_from_all_adjacent nat_list_cmp_total xs []
     (λ k up.
-        let below = get_or_append_left xs ys [] k (omega arith) in
-        let above = get_or_append_left xs ys [] (k + 1) up in
-        let less = Less-from_sorted (slice_cmp nat_cmp) (xs ++ ys) k (k + 1) [] a (omega arith) (omega (arith, length-append xs ys)) in
-        cc (below, above, less))
+    let below = get_or_append_left xs ys [] k (omega arith) in
+    let above = get_or_append_left xs ys [] (k + 1) up in
+    let less = Less-from_sorted (slice_cmp nat_cmp) (xs ++ ys) k (k + 1) [] a (omega arith) (omega (arith, length-append xs ys)) in
+    cc (below, above, less))
 
 -- a front of rising numbers rises
 rising_front : (xs ys : List ℕ) → IsStrictlyIncreasing (xs ++ ys) → IsStrictlyIncreasing xs
@@ -49,7 +49,7 @@ lawful_front heading xs ys lawful = record {
   ascending = ascending_front (terms_of xs) (terms_of ys) (subst IsAscending (map-append (λ entry. entry.term) xs ys) lawful.ascending);
   terms = all_front (IsLawfulTerm (parts_with heading xs)) xs ys
       (All-weaker (IsLawfulTerm (parts_with heading (xs ++ ys))) (IsLawfulTerm (parts_with heading xs))
-          (λ entry is. record { term = is.term; no_stop = is.no_stop; ordered = is.ordered; in_range = is.in_range }) (xs ++ ys) lawful.terms);
+      (λ entry is. record { term = is.term; no_stop = is.no_stop; ordered = is.ordered; in_range = is.in_range }) (xs ++ ys) lawful.terms);
   apart = λ one other number position a b p q. lawful.apart one other number position (Contains-append_left xs ys one a) (Contains-append_left xs ys other b) p q;
 }
 
@@ -75,11 +75,11 @@ shorter : (finished : List DictionaryEntry) (entry : DictionaryEntry) (left : Li
 shorter finished entry left one has = elim (Contains-push_cases finished entry one has) [
   | inl before ↦ record { whole = one; among = Contains-append_left finished (extended entry left ∷ []) one before; same = refl; more = λ number position p. p }
   | inr same ↦ record {
-      whole = extended entry left;
-      among = Contains-push finished (extended entry left);
-      same = ap (λ e. e.term) same;
-      more = λ number position p. position_front entry.postings left number position (let P : DictionaryEntry → Type 0 = λ e. HasPosition e.postings number position in subst P (sym same) p);
-    }
+    whole = extended entry left;
+    among = Contains-push finished (extended entry left);
+    same = ap (λ e. e.term) same;
+    more = λ number position p. position_front entry.postings left number position (let P : DictionaryEntry → Type 0 = λ e. HasPosition e.postings number position in subst P (sym same) p);
+  }
 ]
 
 -- the last entry with fewer postings, but some
@@ -90,7 +90,7 @@ shorter_whole heading finished entry left some whole =
     let longer : List DictionaryEntry = finished ++ extended entry left ∷ [] in
     let is : IsLawfulTerm (parts_with heading longer) (extended entry left) = All-contains (IsLawfulTerm (parts_with heading longer)) longer (extended entry left) lawful.terms (Contains-push finished (extended entry left)) in
     let same : terms_of longer ≡ terms_of (finished ++ entry ∷ []) =
-        map-append (λ e. e.term) finished (extended entry left ∷ []) ∙ sym (map-append (λ e. e.term) finished (entry ∷ [])) in
+    map-append (λ e. e.term) finished (extended entry left ∷ []) ∙ sym (map-append (λ e. e.term) finished (entry ∷ [])) in
     record {
       lawful = record {
         stop_terms = lawful.stop_terms;
@@ -103,20 +103,20 @@ shorter_whole heading finished entry left some whole =
         terms =
             All-append (IsLawfulTerm (parts_with heading (finished ++ entry ∷ []))) finished (entry ∷ [])
             (All-weaker (IsLawfulTerm (parts_with heading longer)) (IsLawfulTerm (parts_with heading (finished ++ entry ∷ [])))
-                (λ e i. record { term = i.term; no_stop = i.no_stop; ordered = i.ordered; in_range = i.in_range }) finished
-                (all_front (IsLawfulTerm (parts_with heading longer)) finished (extended entry left ∷ []) lawful.terms))
+            (λ e i. record { term = i.term; no_stop = i.no_stop; ordered = i.ordered; in_range = i.in_range }) finished
+            (all_front (IsLawfulTerm (parts_with heading longer)) finished (extended entry left ∷ []) lawful.terms))
             (All-cons (IsLawfulTerm (parts_with heading (finished ++ entry ∷ []))) entry []
-                (record {
-                  term = is.term;
-                  no_stop = is.no_stop;
-                  ordered = record {
-                    some = some;
-                    ascending = rising_front (map (λ p. p.0) entry.postings) (map (λ p. p.0) left) (subst IsStrictlyIncreasing (map-append (λ p. p.0) entry.postings left) is.ordered.ascending);
-                    each = all_front IsPosting entry.postings left is.ordered.each;
-                  };
-                  in_range = λ number position has. is.in_range number position (position_front entry.postings left number position has);
-                })
-                (All-nil (IsLawfulTerm (parts_with heading (finished ++ entry ∷ [])))));
+            (record {
+              term = is.term;
+              no_stop = is.no_stop;
+              ordered = record {
+                some = some;
+                ascending = rising_front (map (λ p. p.0) entry.postings) (map (λ p. p.0) left) (subst IsStrictlyIncreasing (map-append (λ p. p.0) entry.postings left) is.ordered.ascending);
+                each = all_front IsPosting entry.postings left is.ordered.each;
+              };
+              in_range = λ number position has. is.in_range number position (position_front entry.postings left number position has);
+            })
+            (All-nil (IsLawfulTerm (parts_with heading (finished ++ entry ∷ [])))));
         apart = λ one other number position a b p q.
             let one' = shorter finished entry left one a in
             let other' = shorter finished entry left other b in
@@ -134,7 +134,7 @@ front_lawful heading finished (Some entry) postings rest whole =
     let longer : List DictionaryEntry = finished ++ extended entry postings ∷ [] in
     let is : IsLawfulTerm (parts_with heading longer) (extended entry postings) = All-contains (IsLawfulTerm (parts_with heading longer)) longer (extended entry postings) last.lawful.terms (Contains-push finished (extended entry postings)) in
     let same : terms_of longer ≡ terms_of (finished ++ entry ∷ []) =
-        map-append (λ e. e.term) finished (extended entry postings ∷ []) ∙ sym (map-append (λ e. e.term) finished (entry ∷ [])) in
+    map-append (λ e. e.term) finished (extended entry postings ∷ []) ∙ sym (map-append (λ e. e.term) finished (entry ∷ [])) in
     record {
       whole = whole_front heading finished (extended entry postings ∷ []) last;
       begun = record {

@@ -24,7 +24,7 @@ codable heading entries whole k d within =
     let below = postings_below (parts_with heading entries) whole.lawful k d within in
     postings_from (2 ^ 32 - 1) entry.postings is.ordered.ascending is.ordered.each
     (All-weaker (LiesBelow (2 ^ 28)) (LiesBelow (2 ^ 32 - 1))
-        (λ posting low. (let d = low.0 in omega arith, All-weaker (λ p. p < 2 ^ 28) (λ p. p < 2 ^ 32 - 1) (λ p l. omega arith) posting.1 low.1)) entry.postings below)
+    (λ posting low. (let d = low.0 in omega arith, All-weaker (λ p. p < 2 ^ 28) (λ p. p < 2 ^ 32 - 1) (λ p l. omega arith) posting.1 low.1)) entry.postings below)
 
 -- what is none is nothing
 some_none : {A : Type 0} {P : Type 0} (o : Option A) (x : A) → o ≡ Some x → o ≡ None → P
@@ -93,13 +93,13 @@ module _ (heading : Heading) (value : TermValue) (values : List TermValue) (term
   given_begun finished at_hand given =
       let first = first_entry value values given.rest given.left in
       let same : extended (entry_with value.term []) postings ≡ first.entry =
-          same_entry_fields (extended (entry_with value.term []) postings) first.entry (ap (λ v. v.term) first.is) (told_postings value postings first.entry told first.is first.are) in
+      same_entry_fields (extended (entry_with value.term []) postings) first.entry (ap (λ v. v.term) first.is) (told_postings value postings first.entry told first.is first.are) in
       has_given behind (closed finished at_hand left) (Some (entry_with value.term [])) first.entries
       (subst (AreWhole heading)
-          (ap (λ rest. closed finished at_hand left ++ rest) first.parts
-          ∙ sym (append_assoc (closed finished at_hand left) (first.entry ∷ []) first.entries)
-          ∙ ap (λ e. (closed finished at_hand left ++ e ∷ []) ++ first.entries) (sym same))
-          given.whole)
+      (ap (λ rest. closed finished at_hand left ++ rest) first.parts
+      ∙ sym (append_assoc (closed finished at_hand left) (first.entry ∷ []) first.entries)
+      ∙ ap (λ e. (closed finished at_hand left ++ e ∷ []) ++ first.entries) (sym same))
+      given.whole)
       first.left refl
 
   left_begun : (ps : List Posting) (entries : List DictionaryEntry) → HasLeft behind ps entries → HasLeft before left (entry_with value.term ps ∷ entries)
@@ -108,7 +108,7 @@ module _ (heading : Heading) (value : TermValue) (values : List TermValue) (term
     behind = λ rest is.
         let first = first_entry value values rest is in
         let same : entry_with value.term ps ≡ first.entry =
-            same_entry_fields (entry_with value.term ps) first.entry (ap (λ v. v.term) first.is) (has.of_term ∙ told_postings value postings first.entry told first.is first.are) in
+        same_entry_fields (entry_with value.term ps) first.entry (ap (λ v. v.term) first.is) (has.of_term ∙ told_postings value postings first.entry told first.is first.are) in
         ap₂ (λ (e : DictionaryEntry) (es : List DictionaryEntry). e ∷ es) same (has.behind first.entries first.left) ∙ sym first.parts;
   }
 
@@ -189,8 +189,8 @@ module _ (heading : Heading) (terms : List TermValue) (term : Option (List ℕ))
   some_given finished entry given =
       let all : List DictionaryEntry = (finished ++ extended entry [] ∷ []) ++ given.rest in
       let is : IsLawfulTerm (parts_with heading all) (extended entry []) =
-          All-contains (IsLawfulTerm (parts_with heading all)) all (extended entry []) given.whole.lawful.terms
-          (Contains-append_left (finished ++ extended entry [] ∷ []) given.rest (extended entry []) (Contains-push finished (extended entry []))) in
+      All-contains (IsLawfulTerm (parts_with heading all)) all (extended entry []) given.whole.lawful.terms
+      (Contains-append_left (finished ++ extended entry [] ∷ []) given.rest (extended entry []) (Contains-push finished (extended entry []))) in
       let some = is.ordered.some in omega (arith, some, length-append entry.postings [])
 
   -- no posting of the term is left
@@ -210,7 +210,7 @@ run_whole run first collection is =
     let P : Heading → Type 0 = λ h. AreWhole h is.parts.entries in
     subst P same (record { lawful = lawful; within = let within = is.within in omega (arith, size, within) })
 
-run_coded : (run : RunValue) (first : ℕ) (collection : Collection) (is : IsRunOf run first collection) → AreCoded run.terms is.parts.entries
+pub run_coded : (run : RunValue) (first : ℕ) (collection : Collection) (is : IsRunOf run first collection) → AreCoded run.terms is.parts.entries
 run_coded run first collection is = record { told = ap (λ r. r.terms) is.held; each = codable (heading_shown run) is.parts.entries (run_whole run first collection is) }
 
 pub run_unread : (run : RunValue) (first : ℕ) (collection : Collection) → IsRunOf run first collection → HasGiven (unread run) [] None
@@ -220,7 +220,7 @@ run_unread run first collection is = has_given (unread run) [] None is.parts.ent
 pub run_yields : (run : RunValue) (first : ℕ) (collection : Collection) → IsRunOf run first collection → (entries : List DictionaryEntry) → HasLeft (unread run) [] entries → ArePartsOf collection (parts_with (heading_shown run) entries)
 run_yields run first collection is entries left =
     let same : parts_with (heading_shown run) entries ≡ is.parts =
-        ap₂ (λ (h : Heading) (es : List DictionaryEntry). parts_with h es) (ap heading_shown is.held) (left.behind is.parts.entries (run_coded run first collection is)) in
+    ap₂ (λ (h : Heading) (es : List DictionaryEntry). parts_with h es) (ap heading_shown is.held) (left.behind is.parts.entries (run_coded run first collection is)) in
     subst (ArePartsOf collection) (sym same) is.of_collection
 
 -- ---- the steps, as the code makes them

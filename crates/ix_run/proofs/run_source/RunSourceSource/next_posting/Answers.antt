@@ -1,6 +1,5 @@
-use Rattle.std.proofs.Common.{◌≡◌, ◌∷◌, List, ℕ, IsSome, map, sym, ap, subst, ◌∙◌}
+use Rattle.std.proofs.Common.{List, ℕ, IsSome, map, sym, subst, ◌∙◌}
 use Rattle.std.specs.Option.{option_copied}
-use Rattle.ix_text.specs.Parts.{Posting}
 use Rattle.ix_run.specs.Heads.{heading_of}
 use Rattle.ix_run.specs.Runs.{term_shown}
 use Rattle.ix_run.specs.RunSources.{HasGiven, HasLeft, SourceValue}
@@ -21,5 +20,5 @@ returns-clause-given c =
     let Q : List ℕ → Type 0 = λ positions. GivesPosting HasLeft HasGiven (record { heading = heading_of c.self.inside.head.now; terms = map term_shown c.self.inside.terms.now; term = option_copied c.self.inside.term; postings = c.self.inside.postings }) after (c.in-Some.posting.document, positions) in
     subst P c.self.view_is
     (subst Q (sym c.in_ok-read_positions.ensures)
-        (step_given (heading_of c.self.inside.head.now) (map term_shown c.self.inside.terms.now) (option_copied c.self.inside.term) (c.in-Some.posting.document, c.in-Some.posting.positions) c.next.new.self c.self.inside.postings
-            (sym c.again-postings.ensures ∙ c.in-Some.ensures.steps)))
+    (step_given (heading_of c.self.inside.head.now) (map term_shown c.self.inside.terms.now) (option_copied c.self.inside.term) (c.in-Some.posting.document, c.in-Some.posting.positions) c.next.new.self c.self.inside.postings
+    (sym c.again-postings.ensures ∙ c.in-Some.ensures.steps)))

@@ -1,7 +1,7 @@
-use Rattle.std.proofs.Common.{◌≡◌, ◌∷◌, [], List, Option, Some, None, map, refl, sym, ap, subst, ◌∙◌}
+use Rattle.std.proofs.Common.{◌≡◌, [], Some, None, map, refl, ap, subst, ◌∙◌}
 use Rattle.std.specs.Option.{option_copied}
 use Rattle.ix_run.specs.Heads.{heading_of}
-use Rattle.ix_run.specs.Runs.{TermValue, term_shown}
+use Rattle.ix_run.specs.Runs.{term_shown}
 use Rattle.ix_run.specs.RunSources.{HasGiven, HasLeft, IsAtEndOfTerm, SourceValue}
 use Rattle.ix_run.specs.Sources.{BeginsTerm, EndsTerms}
 use Rattle.ix_run.proofs.RunSources.{first_list, no_postings, nothing_left, place_begun, place_ended, step_begun, step_ended}
@@ -15,11 +15,13 @@ invariant_of-self c =
 pub returns-in_default-clause-begun : goal.returns-in_default-clause-begun
 returns-in_default-clause-begun c =
     let none : map term_shown c.self.inside.terms.now ≡ [] = nothing_left term_shown c.self.inside.terms.now c.in_default.ensures.cases in
-    let P : SourceValue → Type 0 = λ old. EndsTerms HasLeft HasGiven IsAtEndOfTerm old (record { heading = heading_of c.self.inside.head.now; terms = map term_shown c.self.inside.terms.now; term = None; postings = c.new-self-inside.result }) in
-    (refl, (none, refl),
-        subst P c.self.view_is
-        (step_ended (heading_of c.self.inside.head.now) (map term_shown c.self.inside.terms.now) (option_copied c.self.inside.term) c.self.inside.postings c.new-self-inside.result none
-            (no_postings c.new-self-inside.result c.new-self-inside.ensures) c.self.invariant.none))
+    let P : SourceValue → Type 0 = λ old. EndsTerms HasLeft HasGiven IsAtEndOfTerm old (record { heading = heading_of c.self.inside.head.now; terms = map term_shown c.self.inside.terms.now; term = None; postings = c.new-self-inside.result }) in (
+      refl,
+      (none, refl),
+      subst P c.self.view_is
+          (step_ended (heading_of c.self.inside.head.now) (map term_shown c.self.inside.terms.now) (option_copied c.self.inside.term) c.self.inside.postings c.new-self-inside.result none
+          (no_postings c.new-self-inside.result c.new-self-inside.ensures) c.self.invariant.none),
+    )
 
 pub new-self-inside-requires-2 : goal.new-self-inside-requires-2
 new-self-inside-requires-2 c =
@@ -34,9 +36,11 @@ invariant_of-self-2 c =
 
 pub returns-clause-begun : goal.returns-clause-begun
 returns-clause-begun c =
-    let P : SourceValue → Type 0 = λ old. BeginsTerm HasLeft HasGiven IsAtEndOfTerm old (record { heading = heading_of c.self.inside.head.now; terms = map term_shown c.in-Some.terms.now; term = Some c.as_str.result.now; postings = c.new-self-inside-2.result }) c.as_str.result.now in
-    (c.as_str.result.now, refl,
-        subst P c.self.view_is
-        (step_begun (heading_of c.self.inside.head.now) (map term_shown c.self.inside.terms.now) (option_copied c.self.inside.term) c.self.inside.postings c.new-self-inside-2.result
-            (term_shown c.in-Some.term.now) (map term_shown c.in-Some.terms.now) c.as_str.result.now (ap (map term_shown) c.in-Some.ensures.cases.0) c.as_str.ensures.value
-            (λ told are counted bytes. c.new-self-inside-2.ensures told are counted (c.deref.ensures.value ∙ bytes)) c.self.invariant.none))
+    let P : SourceValue → Type 0 = λ old. BeginsTerm HasLeft HasGiven IsAtEndOfTerm old (record { heading = heading_of c.self.inside.head.now; terms = map term_shown c.in-Some.terms.now; term = Some c.as_str.result.now; postings = c.new-self-inside-2.result }) c.as_str.result.now in (
+      c.as_str.result.now,
+      refl,
+      subst P c.self.view_is
+          (step_begun (heading_of c.self.inside.head.now) (map term_shown c.self.inside.terms.now) (option_copied c.self.inside.term) c.self.inside.postings c.new-self-inside-2.result
+          (term_shown c.in-Some.term.now) (map term_shown c.in-Some.terms.now) c.as_str.result.now (ap (map term_shown) c.in-Some.ensures.cases.0) c.as_str.ensures.value
+          (λ told are counted bytes. c.new-self-inside-2.ensures told are counted (c.deref.ensures.value ∙ bytes)) c.self.invariant.none),
+    )
