@@ -12,7 +12,8 @@ use Rattle.ix_text.specs.TokenLists.{token_list}
 use Rattle.ix_run.specs.CodedTerms.{AreTermsOf}
 use Rattle.ix_run.specs.Dictionaries.{AreBefore, HoldsOccurrences}
 use Rattle.ix_run.specs.Inverted.{IsLawfulDocument, Occurrence, document_of, documents_of, occurrences_in, occurrences_of, postings_of, tokens_of}
-use Rattle.ix_run.specs.Runs.{IsRunOf, IsTooLarge, RunValue, row_shown, term_shown}
+use Rattle.ix_run.specs.Heads.{row_of_doc}
+use Rattle.ix_run.specs.Runs.{IsRunOf, IsTooLarge, RunValue, term_shown}
 use Rattle.ix_run.specs.TermLists.{HoldsPostings, IsBefore}
 use Rattle.ix_run.specs.declared.coded_term.CodedTerm.{CodedTerm}
 use Rattle.ix_run.specs.declared.head.RunDoc.{RunDoc}
@@ -21,7 +22,7 @@ use Rattle.ix_run.proofs.Inverting.{are_parts, parts_of, terms_shown}
 
 -- the documents are inverted into the dictionary, they have these rows, and so many tokens may follow
 pub record IsInvertedBefore {Y S : Type 0} (stop : List (List ℕ)) (documents : List Document) (number : ℕ) (dictionary : HashMap (String Y) TermList S) (rows : List RunDoc) (left : ℕ) : Type 0 where
-  pub shown : map row_shown rows ≡ map row_of documents
+  pub shown : map row_of_doc rows ≡ map row_of documents
   pub held : HoldsOccurrences dictionary (occurrences_of 0 documents)
   pub before : AreBefore dictionary number 0
   pub lawful : All (IsLawfulDocument stop) documents
@@ -51,7 +52,7 @@ pub nothing_inverted : {Y S : Type 0} (stop : List (List ℕ)) (dictionary : Has
 nothing_inverted {Y} stop dictionary rows empty none =
     let absent : (term : List ℕ) → get_by_text dictionary term ≡ None = λ term. ap (lookup (λ k. bytes_eq term (string_bytes k))) empty in
     record {
-      shown = ap (map row_shown) none;
+      shown = ap (map row_of_doc) none;
       held = record { each = λ term. let P : Option TermList → Type 0 = λ o. MatchOption o (postings_of term [] ≡ []) (λ l. HoldsPostings l (postings_of term [])) in subst P (sym (absent term)) refl };
       before = record { each = λ term. let P : Option TermList → Type 0 = λ o. IfSome o (λ l. IsBefore l 0 0) in subst P (sym (absent term)) tt };
       lawful = All-nil (IsLawfulDocument stop);
@@ -60,7 +61,7 @@ nothing_inverted {Y} stop dictionary rows empty none =
 
 -- one document more
 pub one_more_inverted : {Y S : Type 0} (stop : List (List ℕ)) (documents more : List Document) (number : ℕ) (old new : HashMap (String Y) TermList S) (rows rows' : List RunDoc) (left : ℕ) (document : Document) (row : RunDoc)
-    → more ≡ documents ++ document ∷ [] → rows' ≡ rows ++ row ∷ [] → length documents ≡ number → row_shown row ≡ row_of document → length document.tokens ≤ left
+    → more ≡ documents ++ document ∷ [] → rows' ≡ rows ++ row ∷ [] → length documents ≡ number → row_of_doc row ≡ row_of document → length document.tokens ≤ left
     → ((occurrences : List Occurrence) → HoldsOccurrences old occurrences → HoldsOccurrences new (occurrences ++ occurrences_in number 0 document.tokens))
     → AreBefore new (number + 1) 0 → IsLawfulDocument stop document
     → IsInvertedBefore stop documents number old rows left → IsInvertedBefore stop more (number + 1) new rows' (left - row.tokens)
@@ -68,7 +69,7 @@ one_more_inverted stop documents more number old new rows rows' left document ro
     let count : row.tokens ≡ length document.tokens = ap (λ r. r.tokens) same in
     record {
       shown =
-          ap (map row_shown) rows_are ∙ map-append row_shown rows (row ∷ []) ∙ ap₂ (λ rs r. rs ++ r ∷ []) was.shown same
+          ap (map row_of_doc) rows_are ∙ map-append row_of_doc rows (row ∷ []) ∙ ap₂ (λ rs r. rs ++ r ∷ []) was.shown same
           ∙ sym (map-append row_of documents (document ∷ [])) ∙ ap (map row_of) (sym is);
       held =
           let seen : occurrences_of 0 documents ++ occurrences_in number 0 document.tokens ≡ occurrences_of 0 more =

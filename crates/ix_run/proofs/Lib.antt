@@ -6,7 +6,6 @@ pub mod Fronts
 pub mod HeadLemmas
 pub mod InputLemmas
 pub mod Inverting
-pub mod Lengths
 pub mod OrderLemmas
 pub mod PieceLemmas
 pub mod Postings

@@ -1,12 +1,17 @@
 -- The sizes of what a run holds, and its run text.
-use Rattle.std.proofs.Common.{◌≡◌, ℕ, ◌^◌, ◌<◌, List, [], ◌∷◌, ◌++◌, length, map, All, Some, slice_get, sym, ap, subst, ◌∙◌, arith}
+use Rattle.std.proofs.Common.{◌≡◌, ℕ, ◌-◌, ◌*◌, ◌^◌, ◌<◌, List, [], ◌∷◌, ◌++◌, length, map, get_or, All, Some, slice_get, sym, ap, subst, ◌∙◌, arith}
 use Rattle.std.proofs.lemmas.List.{length-map}
 use Rattle.std.proofs.lemmas.List.Elements.{All-map, All-weaker, All-get_or}
 use Rattle.std.proofs.lemmas.List.Folds.{flat_map-map}
 use Rattle.std.proofs.lemmas.Option.{get_or_from_slice_get, slice_get_within}
 use Rattle.ix_text.specs.Collections.{Collection, Document, HasPosting, IsLawful, IsLawfulEntry, IsName}
 use Rattle.ix_text.specs.Parts.{Parts, DictionaryEntry, DocumentRow, IsEntryOf, row_of}
+use Rattle.ix_text.specs.PartsLaws.{position_count}
 use Rattle.ix_text.specs.Terms.{IsTerm}
+use Rattle.ix_text.proofs.PartsCounted.{positions_counted}
+use Rattle.ix_vbyte.proofs.Sizes.{list_short}
+use Rattle.ix_run.proofs.RunSources.{run_coded}
+use Rattle.std.proofs.lemmas.List.Sums.{get_or-le-sum_by}
 use Rattle.ix_text.proofs.CollectionTold.{some_position}
 use Rattle.ix_run.specs.RunText.{IsRunText, head_bytes, run_layout}
 use Rattle.ix_run.specs.Runs.{IsRun, IsRunOf, IsShort, RunValue, TermValue, coded, run_bytes, run_value, value_bytes}
@@ -48,6 +53,21 @@ module _ (run : RunValue) (is : IsRun run) where
       (All-map (λ (value : TermValue). IsShort value.term) coded is.of_collection.parts.entries
       (All-weaker (IsEntryOf is.collection) (λ e. IsShort e.term)
       (λ e entry. let short = (entry_term is.collection e is.of_collection.lawful entry).short in omega arith) is.of_collection.parts.entries is.of_collection.of_collection.entries))
+
+  -- the lists have no more positions than the collection has tokens
+  pub short_lists : All (λ value. IsShort value.list) run.terms
+  short_lists =
+      let terms : run.terms ≡ map coded is.of_collection.parts.entries = ap (λ (r : RunValue). r.terms) is.of_collection.held in
+      let entries = is.of_collection.parts.entries in
+      let total = positions_counted is.collection is.of_collection.parts is.of_collection.of_collection in
+      let few = is.of_collection.lawful.few_tokens in
+      let are = (run_coded run is.first is.collection is.of_collection).each in
+      subst (All (λ (value : TermValue). IsShort value.list)) (sym terms)
+      (All-map (λ (value : TermValue). IsShort value.list) coded entries
+      (λ k d within.
+      let share = get_or-le-sum_by (λ (entry : DictionaryEntry). position_count entry.postings) entries k d within in
+      let small = list_short 0 (2 ^ 32 - 1) (get_or entries k d).postings (are k d within) (omega arith) in
+      omega (arith, share, total, few, small)))
 
 -- the bytes of a run of a collection are its run text
 pub spelled : (first : ℕ) (parts : Parts) → run_bytes (run_value first parts) ≡ run_layout first parts

@@ -210,7 +210,7 @@ run_whole run first collection is =
     let P : Heading → Type 0 = λ h. AreWhole h is.parts.entries in
     subst P same (record { lawful = lawful; within = let within = is.within in omega (arith, size, within) })
 
-run_coded : (run : RunValue) (first : ℕ) (collection : Collection) (is : IsRunOf run first collection) → AreCoded run.terms is.parts.entries
+pub run_coded : (run : RunValue) (first : ℕ) (collection : Collection) (is : IsRunOf run first collection) → AreCoded run.terms is.parts.entries
 run_coded run first collection is = record { told = ap (λ r. r.terms) is.held; each = codable (heading_shown run) is.parts.entries (run_whole run first collection is) }
 
 pub run_unread : (run : RunValue) (first : ℕ) (collection : Collection) → IsRunOf run first collection → HasGiven (unread run) [] None

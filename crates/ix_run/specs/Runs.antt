@@ -1,11 +1,12 @@
 -- What a run is of a collection: its head, and each term's list coded as the run text has it.
-use Rattle.std.specs.Prelude.{◌≡◌, ℕ, ◌+◌, ◌^◌, ◌≤◌, ◌<◌, ◌⊎◌, List, [], ◌∷◌, ◌++◌, map, length, flat_map, codes, string_bytes, All}
+use Rattle.std.specs.Prelude.{◌≡◌, ℕ, ◌+◌, ◌^◌, ◌≤◌, ◌<◌, ◌⊎◌, List, [], ◌∷◌, ◌++◌, map, length, flat_map, codes, string_bytes}
 use Rattle.std.specs.Int.{to_le_bytes, w32}
 use Rattle.ix_text.specs.Collections.{Collection, IsLawful, token_count}
 use Rattle.ix_text.specs.Parts.{Parts, DictionaryEntry, DocumentRow, ArePartsOf}
 use Rattle.ix_vbyte.specs.Code.{code_of}
 use Rattle.ix_vbyte.specs.Postings.{list_bytes}
 use Rattle.ix_vbyte.specs.Texts.{counted}
+use Rattle.ix_run.specs.Heads.{row_of_doc}
 use Rattle.ix_run.specs.RunText.{row_bytes}
 use Rattle.ix_run.specs.declared.head.RunHead.{RunHead}
 use Rattle.ix_run.specs.declared.head.RunDoc.{RunDoc}
@@ -24,17 +25,13 @@ pub record RunValue : Type 0 where
   pub rows : List DocumentRow
   pub terms : List TermValue
 
--- a document of a head as its row
-abbrev pub row_shown : RunDoc → DocumentRow
-row_shown doc = record { name = string_bytes doc.name; tokens = doc.tokens }
-
 -- a term of a run as its value
 abbrev pub term_shown : CodedTerm → TermValue
 term_shown coded = record { term = string_bytes coded.term; documents = coded.documents; list = coded.list.items }
 
 -- a run of this head and these terms
 abbrev pub head_value : RunHead → List CodedTerm → RunValue
-head_value head terms = record { first = head.first; stop = head.stop; rows = map row_shown head.docs.items; terms = map term_shown terms }
+head_value head terms = record { first = head.first; stop = head.stop; rows = map row_of_doc head.docs.items; terms = map term_shown terms }
 
 -- a dictionary entry with its list coded
 abbrev pub coded : DictionaryEntry → TermValue
@@ -74,9 +71,8 @@ run_bytes run = front_bytes run ++ flat_map value_bytes run.terms ++ 128 ∷ []
 abbrev pub IsShort : List ℕ → Type 0
 IsShort bytes = length bytes < 2 ^ 32
 
--- What a run always is: a run of some lawful collection, whose lists are of a size that the run text can tell.
+-- What a run always is: a run of some lawful collection.
 pub record IsRun (run : RunValue) : Type 0 where
   pub first : ℕ
   pub collection : Collection
   pub of_collection : IsRunOf run first collection
-  pub short : All (λ value. IsShort value.list) run.terms

@@ -9,7 +9,8 @@ ghost use Rattle.ix_text.specs.StopSets.{IsStopSet};
 ghost use Rattle.ix_text.specs.TokenLists.{token_list};
 ghost use Rattle.ix_run.specs.Dictionaries.{AreBefore, HoldsOccurrences};
 ghost use Rattle.ix_run.specs.Inverted.{IsLawfulDocument, Occurrence, documents_of, occurrences_in, occurrences_of, tokens_of};
-ghost use Rattle.ix_run.specs.Runs.{IsRunOf, IsTooLarge, row_shown};
+ghost use Rattle.ix_run.specs.Heads.{row_of_doc};
+ghost use Rattle.ix_run.specs.Runs.{IsRunOf, IsTooLarge};
 
 use crate::dictionary::{coded_terms, post_all};
 use crate::errors::RunError;
@@ -70,7 +71,7 @@ fn add_documents(
 ) -> Result<Vec<RunDoc>, RunError>
     requires few { length docs.now ≤ 2 ^ 28 }
     requires empty { IsEmpty dictionary.old }
-    ensures rows { IfOk result (λ rows. map row_shown rows.items ≡ map row_of (documents_of stop.now (map named_text docs.now))) }
+    ensures rows { IfOk result (λ rows. map row_of_doc rows.items ≡ map row_of (documents_of stop.now (map named_text docs.now))) }
     ensures held { OnOk result (HoldsOccurrences dictionary.new (occurrences_of 0 (documents_of stop.now (map named_text docs.now)))) }
     ensures few { OnOk result (tokens_of (documents_of stop.now (map named_text docs.now)) ≤ 2 ^ 28) }
     ensures lawful { OnOk result (All (IsLawfulDocument stop.now) (documents_of stop.now (map named_text docs.now))) }
@@ -100,7 +101,7 @@ fn add_document(
     requires numbered { number < 2 ^ 28 }
     requires low { left ≤ 2 ^ 28 }
     requires behind { AreBefore dictionary.old number 0 }
-    ensures row { IfOk result (λ row. row_shown row ≡ record { name = name.now; tokens = length (token_list stop.now text.now) }) }
+    ensures row { IfOk result (λ row. row_of_doc row ≡ record { name = name.now; tokens = length (token_list stop.now text.now) }) }
     ensures few { OnOk result (length (token_list stop.now text.now) ≤ left) }
     ensures held { OnOk result ((occurrences : List Occurrence) → HoldsOccurrences dictionary.old occurrences → HoldsOccurrences dictionary.new (occurrences ++ occurrences_in number 0 (token_list stop.now text.now))) }
     ensures before { OnOk result (AreBefore dictionary.new (number + 1) 0) }

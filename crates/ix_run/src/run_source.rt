@@ -56,8 +56,9 @@ impl<'a> RunSource<'a> {
 }
 
 impl<'a> Source for RunSource<'a> {
-    ghost use Rattle.std.specs.Prelude.{◌≡◌, [], None};
+    ghost use Rattle.std.specs.Prelude.{◌≡◌, [], None, IsSome, IfOk, OnOk, OnErr, MatchOption};
     ghost use Rattle.ix_run.specs.RunSources.{HasGiven, HasLeft, IsAtEndOfTerm};
+    ghost use Rattle.ix_run.specs.Sources.{EndsPostings, GivesPosting};
 
     type Error = Memory;
 
@@ -93,7 +94,18 @@ impl<'a> Source for RunSource<'a> {
         self.term.unwrap()
     }
 
-    fn next_posting(&mut self, positions: &mut Vec<u32>) -> Result<Option<u32>, Memory> {
+    fn next_posting(&mut self, positions: &mut Vec<u32>) -> Result<Option<u32>, Memory>
+        requires { IsSome self.old.term }
+        ensures heading { self.new.heading ≡ self.old.heading }
+        ensures current { OnOk result (self.new.term ≡ self.old.term) }
+        ensures given { IfOk result (λ found. MatchOption found
+            (IsAtEndOfTerm self.new × EndsPostings HasLeft HasGiven self.old self.new)
+            (λ document. GivesPosting HasLeft HasGiven self.old self.new (document, positions.new.items))) }
+        ensures drained { IsAtEndOfTerm self.old → IfOk result (λ found. found ≡ None) }
+
+        // What a refusal leaves.
+        ensures kept { OnErr result (self.new ≡ self.old) }
+    {
         let mut postings = self.postings.again();
         let Some(posting) = postings.next() else {
             return Ok(None);

@@ -6,7 +6,8 @@ use Rattle.ix_text.specs.Terms.{IsTerm}
 use Rattle.ix_vbyte.specs.Code.{code_of}
 use Rattle.ix_vbyte.specs.Texts.{counted}
 use Rattle.ix_run.specs.RunText.{row_bytes}
-use Rattle.ix_run.specs.Runs.{IsShort, row_shown}
+use Rattle.ix_run.specs.Heads.{row_of_doc}
+use Rattle.ix_run.specs.Runs.{IsShort}
 use Rattle.ix_text.proofs.SinkLemmas.{appends_then}
 use Rattle.ix_run.proofs.Writing.{All-from_map, front_more, front_then, writes_refused, writes_then}
 use Rattle.ix_run.proofs.run_text.put_head.Goals as goal
@@ -18,32 +19,32 @@ put_texts-requires g c =
 
 pub returns-in_err-put_numbers : goal.returns-in_err-put_numbers
 returns-in_err-put_numbers g c =
-    let numbers = codes "PIIXRUN1" ++ to_le_bytes w32 c.args.head.now.first ++ to_le_bytes w32 (length (map row_shown c.args.head.now.docs.items)) in
+    let numbers = codes "PIIXRUN1" ++ to_le_bytes w32 c.args.head.now.first ++ to_le_bytes w32 (length (map row_of_doc c.args.head.now.docs.items)) in
     let count = code_of (length c.args.head.now.stop) in
     let stop = flat_map counted c.args.head.now.stop in
-    let rows = flat_map row_bytes (map row_shown c.args.head.now.docs.items) in
-    let size : length c.as_slice-docs.result.now ≡ length (map row_shown c.args.head.now.docs.items) = ap length c.as_slice-docs.ensures.value ∙ sym (length-map c.args.head.now.docs.items row_shown) in
+    let rows = flat_map row_bytes (map row_of_doc c.args.head.now.docs.items) in
+    let size : length c.as_slice-docs.result.now ≡ length (map row_of_doc c.args.head.now.docs.items) = ap length c.as_slice-docs.ensures.value ∙ sym (length-map c.args.head.now.docs.items row_of_doc) in
     writes_refused _ _ _ _ c.from_residual.ensures.0
     (front_more _ _ (numbers ++ count ++ stop) rows (front_more _ _ (numbers ++ count) stop (front_more _ _ numbers count (rw size at c.in_err-put_numbers.ensures))))
 
 pub returns-in_err-put_code : goal.returns-in_err-put_code
 returns-in_err-put_code g c =
-    let numbers = codes "PIIXRUN1" ++ to_le_bytes w32 c.args.head.now.first ++ to_le_bytes w32 (length (map row_shown c.args.head.now.docs.items)) in
+    let numbers = codes "PIIXRUN1" ++ to_le_bytes w32 c.args.head.now.first ++ to_le_bytes w32 (length (map row_of_doc c.args.head.now.docs.items)) in
     let count = code_of (length c.args.head.now.stop) in
     let stop = flat_map counted c.args.head.now.stop in
-    let rows = flat_map row_bytes (map row_shown c.args.head.now.docs.items) in
-    let size : length c.as_slice-docs.result.now ≡ length (map row_shown c.args.head.now.docs.items) = ap length c.as_slice-docs.ensures.value ∙ sym (length-map c.args.head.now.docs.items row_shown) in
+    let rows = flat_map row_bytes (map row_of_doc c.args.head.now.docs.items) in
+    let size : length c.as_slice-docs.result.now ≡ length (map row_of_doc c.args.head.now.docs.items) = ap length c.as_slice-docs.ensures.value ∙ sym (length-map c.args.head.now.docs.items row_of_doc) in
     let counts : length c.terms-stop.result.now ≡ length c.args.head.now.stop = sym (length-map c.terms-stop.result.now string_bytes) ∙ ap length c.terms-stop.ensures.value in
     writes_refused _ _ _ _ c.from_residual-in_err-put_code.ensures.0
     (front_more _ _ (numbers ++ count ++ stop) rows (front_more _ _ (numbers ++ count) stop (front_then _ _ _ numbers count (rw size at c.in_ok-put_numbers.ensures) (rw counts at c.in_err-put_code.ensures))))
 
 pub returns-in_err-put_texts : goal.returns-in_err-put_texts
 returns-in_err-put_texts g c =
-    let numbers = codes "PIIXRUN1" ++ to_le_bytes w32 c.args.head.now.first ++ to_le_bytes w32 (length (map row_shown c.args.head.now.docs.items)) in
+    let numbers = codes "PIIXRUN1" ++ to_le_bytes w32 c.args.head.now.first ++ to_le_bytes w32 (length (map row_of_doc c.args.head.now.docs.items)) in
     let count = code_of (length c.args.head.now.stop) in
     let stop = flat_map counted c.args.head.now.stop in
-    let rows = flat_map row_bytes (map row_shown c.args.head.now.docs.items) in
-    let size : length c.as_slice-docs.result.now ≡ length (map row_shown c.args.head.now.docs.items) = ap length c.as_slice-docs.ensures.value ∙ sym (length-map c.args.head.now.docs.items row_shown) in
+    let rows = flat_map row_bytes (map row_of_doc c.args.head.now.docs.items) in
+    let size : length c.as_slice-docs.result.now ≡ length (map row_of_doc c.args.head.now.docs.items) = ap length c.as_slice-docs.ensures.value ∙ sym (length-map c.args.head.now.docs.items row_of_doc) in
     let counts : length c.terms-stop.result.now ≡ length c.args.head.now.stop = sym (length-map c.terms-stop.result.now string_bytes) ∙ ap length c.terms-stop.ensures.value in
     writes_refused _ _ _ _ c.from_residual-in_err-put_texts.ensures.0
     (front_more _ _ (numbers ++ count ++ stop) rows
@@ -51,11 +52,11 @@ returns-in_err-put_texts g c =
 
 pub returns : goal.returns
 returns g c =
-    let numbers = codes "PIIXRUN1" ++ to_le_bytes w32 c.args.head.now.first ++ to_le_bytes w32 (length (map row_shown c.args.head.now.docs.items)) in
+    let numbers = codes "PIIXRUN1" ++ to_le_bytes w32 c.args.head.now.first ++ to_le_bytes w32 (length (map row_of_doc c.args.head.now.docs.items)) in
     let count = code_of (length c.args.head.now.stop) in
     let stop = flat_map counted c.args.head.now.stop in
-    let rows = flat_map row_bytes (map row_shown c.args.head.now.docs.items) in
-    let size : length c.as_slice-docs.result.now ≡ length (map row_shown c.args.head.now.docs.items) = ap length c.as_slice-docs.ensures.value ∙ sym (length-map c.args.head.now.docs.items row_shown) in
+    let rows = flat_map row_bytes (map row_of_doc c.args.head.now.docs.items) in
+    let size : length c.as_slice-docs.result.now ≡ length (map row_of_doc c.args.head.now.docs.items) = ap length c.as_slice-docs.ensures.value ∙ sym (length-map c.args.head.now.docs.items row_of_doc) in
     let counts : length c.terms-stop.result.now ≡ length c.args.head.now.stop = sym (length-map c.terms-stop.result.now string_bytes) ∙ ap length c.terms-stop.ensures.value in
     writes_then c.put_rows.result _ _ _ (numbers ++ count ++ stop) rows
     (appends_then _ _ _ (numbers ++ count) stop (appends_then _ _ _ numbers count (rw size at c.in_ok-put_numbers.ensures) (rw counts at c.in_ok-put_code.ensures)) (rw c.terms-stop.ensures.value at c.in_ok-put_texts.ensures))

@@ -1,6 +1,5 @@
-use Rattle.std.proofs.Common.{◌≡◌, ◌∷◌, List, ℕ, IsSome, map, sym, ap, subst, ◌∙◌}
+use Rattle.std.proofs.Common.{List, ℕ, IsSome, map, sym, subst, ◌∙◌}
 use Rattle.std.specs.Option.{option_copied}
-use Rattle.ix_text.specs.Parts.{Posting}
 use Rattle.ix_run.specs.Heads.{heading_of}
 use Rattle.ix_run.specs.Runs.{term_shown}
 use Rattle.ix_run.specs.RunSources.{HasGiven, HasLeft, SourceValue}

@@ -1,7 +1,7 @@
-use Rattle.std.proofs.Common.{◌≡◌, ◌∷◌, [], List, Option, Some, None, map, refl, sym, ap, subst, ◌∙◌}
+use Rattle.std.proofs.Common.{◌≡◌, [], Some, None, map, refl, ap, subst, ◌∙◌}
 use Rattle.std.specs.Option.{option_copied}
 use Rattle.ix_run.specs.Heads.{heading_of}
-use Rattle.ix_run.specs.Runs.{TermValue, term_shown}
+use Rattle.ix_run.specs.Runs.{term_shown}
 use Rattle.ix_run.specs.RunSources.{HasGiven, HasLeft, IsAtEndOfTerm, SourceValue}
 use Rattle.ix_run.specs.Sources.{BeginsTerm, EndsTerms}
 use Rattle.ix_run.proofs.RunSources.{first_list, no_postings, nothing_left, place_begun, place_ended, step_begun, step_ended}
