@@ -1,7 +1,6 @@
-use crate::{RunError, Source, WriteError, invert, run_text_has_eighteen_bytes};
+use crate::{RunError, WriteError, invert, run_text_has_eighteen_bytes};
 use ix_text::{Collection, Doc, StopList};
 use std::alloc::Global;
-use std::fmt::Debug;
 use std::io::{self, Write};
 use std::test::Fail;
 
@@ -169,58 +168,5 @@ fn errors_have_numbers_and_names(rt: HostRuntime) -> Result<(), Fail> {
         format!(in rt.alloc(); "{}", WriteError::Write)?.as_str(),
         "Write"
     );
-    Ok(())
-}
-
-/// The next term of a source with its documents and positions, or none.
-fn term_line<S: Source>(alloc: Global, source: &mut S) -> Result<Option<String>, Fail>
-where
-    S::Error: Debug + Drop,
-{
-    if !source.next_term()? {
-        return Ok(None);
-    }
-    let mut line = String::from_str(alloc, source.term())?;
-    let mut positions = Vec::new(alloc);
-    for _ in 0..10 {
-        let Some(document) = source.next_posting(&mut positions)? else {
-            break;
-        };
-        write!(line, " {document}:{positions:?}")?;
-    }
-    Ok(Some(line))
-}
-
-#[test]
-fn sources_give_postings_in_order(rt: HostRuntime) -> Result<(), Fail> {
-    let collection = Collection::read(rt.alloc(), SAMPLE.as_bytes())?;
-    let stop = StopList::empty(rt.alloc());
-    let run = invert(rt.alloc(), collection.docs(), &stop, 7)?;
-    let mut source = run.source();
-    assert_eq!(rt; source.head().first, 7);
-    assert_eq!(rt; source.head().docs.len(), 5);
-    let line = term_line(rt.alloc(), &mut source)?.ok_or("x")?;
-    assert_eq!(rt; line.as_str(), "x 0:[0] 3:[1] 4:[0]");
-    let line = term_line(rt.alloc(), &mut source)?.ok_or("y")?;
-    assert_eq!(rt; line.as_str(), "y 0:[1] 1:[0] 3:[0, 2]");
-    assert!(rt; term_line(rt.alloc(), &mut source)?.is_none());
-    assert!(rt; term_line(rt.alloc(), &mut source)?.is_none());
-    let head = run.into_head();
-    assert_eq!(rt; head.first, 7);
-    assert_eq!(rt; head.docs.len(), 5);
-    Ok(())
-}
-
-#[test]
-fn sources_go_over_what_was_not_asked_for(rt: HostRuntime) -> Result<(), Fail> {
-    let collection = Collection::read(rt.alloc(), SAMPLE.as_bytes())?;
-    let stop = StopList::empty(rt.alloc());
-    let run = invert(rt.alloc(), collection.docs(), &stop, 0)?;
-    let mut source = run.source();
-    assert!(rt; source.next_term()?);
-    assert!(rt; source.next_term()?);
-    assert_eq!(rt; source.term(), "y");
-    assert!(rt; !source.next_term()?);
-    assert!(rt; !source.next_term()?);
     Ok(())
 }
