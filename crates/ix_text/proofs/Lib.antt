@@ -2,9 +2,11 @@ pub mod AscendingLists
 pub mod CollectionLaws
 pub mod CollectionLemmas
 pub mod CollectionTold
+pub mod DistinctNumbers
 pub mod FoldLemmas
 pub mod FoldTables
 pub mod LawfulLemmas
+pub mod Marked
 pub mod PartsCounted
 pub mod PartsLawful
 pub mod PartsLemmas
@@ -14,5 +16,7 @@ pub mod StopTextLaws
 pub mod StopTextLemmas
 pub mod TermLemmas
 pub mod TokenLemmas
+pub mod TokenStarts
+pub mod TokensApart
 pub mod TokensTold
 pub mod WindowLemmas

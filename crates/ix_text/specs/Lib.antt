@@ -15,6 +15,10 @@ pub mod StopLaws
 pub mod StopSets
 pub mod StopText
 pub mod Terms
+pub mod TokenLaws
 pub mod TokenLists
+pub mod TokenMarks
+pub mod TokenNumbers
+pub mod TokenTables
 pub mod WindowLaws
 pub mod Windows

@@ -1,0 +1,59 @@
+//! A mark for each token of a collection.
+
+use std::alloc::{AllocError, Global};
+
+/// A mark for each of as many tokens, by their numbers.
+#[derive(Drop)]
+pub struct TokenMarks {
+    // a bit a mark: that of a number is bit `number % 64` of word `number / 64`
+    words: Vec<u64>,
+}
+
+impl TokenMarks {
+    ghost use Rattle.std.specs.Prelude.{◌≡◌, ◌<◌, ◌≤◌, ◌++◌, ◌∷◌, ◌↔◌, ℕ, [], List, IfOk, IsTrue, Contains};
+    ghost use Rattle.ix_text.specs.TokenMarks.{HoldsNumbers, room};
+
+    /// Marks for the numbers below `count`, none of them set. Fails where the growth is refused.
+    pub fn new(alloc: Global, count: u32) -> Result<TokenMarks, AllocError>
+        ensures none { IfOk result (λ marks. HoldsNumbers marks []) }
+        ensures room { IfOk result (λ marks. count ≤ room marks) }
+    {
+        Ok(TokenMarks {
+            words: vec![in alloc; 0; (count as usize).div_ceil(64)]?,
+        })
+    }
+
+    /// Marks the number. Whether it was free, that is, not marked before.
+    #[inline]
+    pub fn mark(&mut self, number: u32) -> bool
+        requires { number < room self.old }
+        ensures room { room self.new ≡ room self.old }
+        ensures free { (numbers : List ℕ) → HoldsNumbers self.old numbers → IsTrue result ↔ ¬ (Contains numbers number) }
+        ensures marked { (numbers : List ℕ) → HoldsNumbers self.old numbers → HoldsNumbers self.new (numbers ++ number ∷ []) }
+    {
+        let word = &mut self.words[number as usize / 64];
+        let bit = 1 << (number % 64);
+        let free = *word & bit == 0;
+        *word |= bit;
+        free
+    }
+}
+
+#[cfg(test)]
+mod tests {
+    use super::*;
+    use std::test::Fail;
+
+    #[test]
+    fn a_number_is_free_once(rt: HostRuntime) -> Result<(), Fail> {
+        let mut marks = TokenMarks::new(rt.alloc(), 130)?;
+        assert!(rt; marks.mark(0));
+        assert!(rt; marks.mark(64));
+        assert!(rt; marks.mark(129));
+        assert!(rt; !marks.mark(0));
+        assert!(rt; !marks.mark(64));
+        assert!(rt; !marks.mark(129));
+        assert!(rt; marks.mark(128));
+        Ok(())
+    }
+}

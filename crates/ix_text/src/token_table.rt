@@ -1,0 +1,73 @@
+//! The tokens of a collection's documents, counted.
+ghost use Rattle.std.specs.List.Sorted.{IsNonDecreasing};
+
+use std::alloc::{AllocError, Global};
+
+/// How many tokens stand before each document of a collection, and how many each has.
+#[derive(Drop)]
+pub struct TokenTable {
+    // the tokens before each document, and then those of all
+    starts: Vec<u32>,
+    ghost rising: { IsNonDecreasing starts.items },
+}
+
+impl TokenTable {
+    ghost use Rattle.std.specs.Prelude.{◌≡◌, ◌≤◌, ◌++◌, ◌∷◌, [], List, length, IfOk, OnOk, OnErr, MatchOption};
+    ghost use Rattle.ix_text.specs.Parts.{DocumentRow};
+    ghost use Rattle.ix_text.specs.TokenTables.{HasRoomFor, HasTokens, IsSpan};
+
+    /// The table of no documents. Fails where the growth is refused.
+    pub fn new(alloc: Global) -> Result<TokenTable, AllocError>
+        ensures { IfOk result (λ table. HasTokens table []) }
+    {
+        Ok(TokenTable {
+            starts: vec![in alloc; 0]?,
+        })
+    }
+
+    /// Adds a document with as many tokens. Fails where the growth is refused, and then nothing has changed.
+    pub fn push(&mut self, tokens: u32) -> Result<(), AllocError>
+        requires { HasRoomFor self.old tokens }
+        ensures ok { (rows : List DocumentRow) (row : DocumentRow) → HasTokens self.old rows → row.tokens ≡ tokens
+            → OnOk result (HasTokens self.new (rows ++ row ∷ [])) }
+        ensures refused { (rows : List DocumentRow) → HasTokens self.old rows → OnErr result (HasTokens self.new rows) }
+    {
+        let before = self.starts[self.starts.len() - 1];
+        self.starts.push(before + tokens)?;
+        Ok(())
+    }
+
+    /// The number of the first token of the document of this number, and how many tokens the document has. None where
+    /// there is no such document.
+    #[inline]
+    pub fn span(&self, document: u32) -> Option<(u32, u32)>
+        ensures { (rows : List DocumentRow) → HasTokens self.now rows
+            → MatchOption result (length rows ≤ document) (IsSpan rows document) }
+    {
+        let place = document as usize;
+        let first = *self.starts.get(place)?;
+        let next = *self.starts.get(place + 1)?;
+        Some((first, next - first))
+    }
+}
+
+#[cfg(test)]
+mod tests {
+    use super::*;
+    use std::test::Fail;
+
+    #[test]
+    fn documents_follow_one_another(rt: HostRuntime) -> Result<(), Fail> {
+        let mut table = TokenTable::new(rt.alloc())?;
+        assert_eq!(rt; table.span(0), None);
+        table.push(3)?;
+        table.push(0)?;
+        table.push(5)?;
+        assert_eq!(rt; table.span(0), Some((0, 3)));
+        assert_eq!(rt; table.span(1), Some((3, 0)));
+        assert_eq!(rt; table.span(2), Some((3, 5)));
+        assert_eq!(rt; table.span(3), None);
+        assert_eq!(rt; table.span(u32::MAX), None);
+        Ok(())
+    }
+}
