@@ -2,8 +2,9 @@ pub mod Ends
 pub mod Fronts
 pub mod GapCodes
 pub mod Gaps
-pub mod Pieces
 pub mod Marks
+pub mod OnePosition
+pub mod Pieces
 pub mod Postings
 pub mod Sizes
 pub mod Texts

@@ -229,11 +229,11 @@ tops_of zero = 0
 tops_of (suc count) = tops_of count * 2 ^ 8 + 128
 
 -- as many bytes of a number, the lowest first
-abbrev bytes_of : ℕ → ℕ → List ℕ
+abbrev pub bytes_of : ℕ → ℕ → List ℕ
 bytes_of zero number = []
 bytes_of (suc count) number = (number % 256) ∷ bytes_of count (number / 256)
 
-top_of_byte : (byte : ℕ) → byte < 256 → bit_and byte 128 ≡ cond (ltb byte 128) 0 128
+pub top_of_byte : (byte : ℕ) → byte < 256 → bit_and byte 128 ≡ cond (ltb byte 128) 0 128
 top_of_byte byte fits =
     and_pow byte 7
     ∙ ⊎_elim
@@ -260,10 +260,14 @@ bytes_from (suc count) i number =
     ap₂ (λ b bs. b ∷ bs) (byte_from i number)
     (bytes_from count (suc i) number ∙ ap (bytes_of count) (ap (λ n. number / n) (pow-suc 256 i) ∙ sym (div-div-eq-div-mul number (256 ^ i) 256)))
 
-pub marks_of_word : (word : List ℕ) (number : ℕ) → length word ≡ 8 → ((i : ℕ) → get_or word i 0 < 256) → number ≡ from_le_bytes w64 word → bit_and number 0x8080_8080_8080_8080 ≡ marks_of 8 128 word
-marks_of_word word number long bytes is =
+-- the bytes of a number read from eight bytes are these
+pub word_bytes : (word : List ℕ) (number : ℕ) → length word ≡ 8 → ((i : ℕ) → get_or word i 0 < 256) → number ≡ from_le_bytes w64 word → bytes_of 8 number ≡ word
+word_bytes word number long bytes is =
     let whole : number / 256 ^ 0 ≡ number = omega arith in
-    masked 8 number ∙ ap (marks_of 8 128) (ap (bytes_of 8) (sym whole) ∙ sym (bytes_from 8 0 number) ∙ le_bytes_8 word number long bytes is)
+    ap (bytes_of 8) (sym whole) ∙ sym (bytes_from 8 0 number) ∙ le_bytes_8 word number long bytes is
+
+pub marks_of_word : (word : List ℕ) (number : ℕ) → length word ≡ 8 → ((i : ℕ) → get_or word i 0 < 256) → number ≡ from_le_bytes w64 word → bit_and number 0x8080_8080_8080_8080 ≡ marks_of 8 128 word
+marks_of_word word number long bytes is = masked 8 number ∙ ap (marks_of 8 128) (word_bytes word number long bytes is)
 
 mask_marks : (bytes : List ℕ) → mask_l (map (λ byte. leb 128 byte) bytes) ≡ marks_of 1 1 bytes
 mask_marks [] = sym (no_marks 1 1)

@@ -115,6 +115,10 @@ first_position next count bytes are some = by_list (positions_told next bytes) r
           some = omega arith;
         }
 
+-- what holds of a number holds of one that is the same
+pub of_number : (P : ℕ → Type 0) (now was : ℕ) → now ≡ was → P was → P now
+of_number P now was same holds = subst P (sym same) holds
+
 -- the number that was read is the gap of the first position
 pub record TakenPosition (next count : ℕ) (bytes : List ℕ) (gap : ℕ) (rest : List ℕ) : Type 0 where
   pub some : (1 ≤ gap) × (1 ≤ count)

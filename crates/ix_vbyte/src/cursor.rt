@@ -1,11 +1,13 @@
 //! Walking a coded list of postings without decoding positions that nobody asks for.
 ghost use Rattle.std.specs.Prelude.{◌≡◌, ◌^◌, ◌-◌, ℕ, List, [], ◌∷◌, length, IfNone, IfSome, OnOk};
 ghost use Rattle.std.specs.Iterator.{YieldsFirstBy, item_count};
+ghost use Rattle.ix_vbyte.specs.OnePosition.{ReadsSingle};
 ghost use Rattle.ix_vbyte.specs.Postings.{ArePostings, list_bytes};
 ghost use Rattle.ix_vbyte.specs.Walking.{IsCodedList, BeginsWithPosting, ReadsPosting, from_document};
 
 use crate::decoding::first_number;
 pub use crate::positions::Positions;
+use crate::singles::{Single, WORD, single_posting};
 use crate::skip_codes;
 use std::alloc::AllocError;
 use std::marker::Model;
@@ -42,6 +44,36 @@ impl<'a> Posting<'a> {
 /// The posting whose bytes stand at the front, and what follows them.
 #[inline]
 fn first_posting(bytes: &[u8], next: u32) -> (Posting<'_>, &[u8])
+    requires { BeginsWithPosting next bytes.now }
+    ensures { ReadsPosting next bytes.now result.0.document result.0.positions result.1.now }
+{
+    if let Some(word) = bytes.first_chunk::<WORD>()
+        && let Some(single) = single_posting(word)
+    {
+        split_single(bytes, next, &single)
+    } else {
+        any_posting(bytes, next)
+    }
+}
+
+/// The same of a posting of one position whose parts were found.
+#[inline(always)]
+fn split_single<'a>(bytes: &'a [u8], next: u32, single: &Single) -> (Posting<'a>, &'a [u8])
+    requires begins { BeginsWithPosting next bytes.now }
+    requires found { ReadsSingle bytes.now single.now.gap single.now.start single.now.end }
+    ensures { ReadsPosting next bytes.now result.0.document result.0.positions result.1.now }
+{
+    let positions = Positions::new(&bytes[single.start..single.end], 1);
+    let posting = Posting {
+        document: next + (single.gap - 1),
+        positions,
+    };
+    (posting, &bytes[single.end..])
+}
+
+/// The same of a posting of any shape.
+#[inline]
+fn any_posting(bytes: &[u8], next: u32) -> (Posting<'_>, &[u8])
     requires { BeginsWithPosting next bytes.now }
     ensures { ReadsPosting next bytes.now result.0.document result.0.positions result.1.now }
 {

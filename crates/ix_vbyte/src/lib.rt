@@ -10,6 +10,7 @@ mod encoding;
 mod errors;
 mod laws;
 mod positions;
+mod singles;
 mod skipping;
 #[cfg(test)]
 mod tests;

@@ -32,7 +32,7 @@ impl<'a> Model for Positions<'a> {
 impl<'a> Positions<'a> {
     /// The positions whose gaps stand in the bytes.
     #[inline]
-    pub(crate) fn new(bytes: &'a [u8], count: u32) -> Positions<'a>
+    pub fn new(bytes: &'a [u8], count: u32) -> Positions<'a>
         requires { ArePositionsFrom 0 count bytes.now }
         ensures { result ≡ positions_told 0 bytes.now }
     {

@@ -1,18 +1,5 @@
-use Rattle.std.proofs.Common.{◌≡◌, ◌≤◌, ◌+◌, ◌-◌, ◌∙◌, arith}
-use Rattle.std.proofs.lemmas.List.{take_rest}
-use Rattle.ix_vbyte.proofs.Walks.{places_next, posting_read}
+use Rattle.ix_vbyte.proofs.OnePosition.{single_in}
 use Rattle.ix_vbyte.proofs.cursor.first_posting.Goals as goal
 
-pub first_number-places-requires : goal.first_number-places-requires
-first_number-places-requires c = places_next c.args.next c.args.bytes.now _ _ c.requires c.first_number-gap.ensures
-
-pub new-positions-requires : goal.new-positions-requires
-new-positions-requires c =
-    (posting_read c.args.next c.args.bytes.now _ _ _ _ _ c.requires.posting c.requires.rest c.first_number-gap.ensures c.first_number-places.ensures c.skip_codes-end.ensures.codes c.requires.may c.requires.coded).positions.are
-
-pub returns : goal.returns
-returns c posting others may coded =
-    let read = posting_read c.args.next c.args.bytes.now _ _ _ _ _ posting others c.first_number-gap.ensures c.first_number-places.ensures c.skip_codes-end.ensures.codes may coded in
-    let above : c.args.next ≤ posting.0 = may.above in
-    let document : c.args.next + (c.first_number-gap.result.0 - 1) ≡ posting.0 = omega (arith, read.gap_is) in
-    (document, c.new-positions.ensures ∙ read.positions.told, take_rest c.first_number-places.result.1.now c.skip_codes-end.result ∙ read.behind)
+pub split_single-requires-clause-found : goal.split_single-requires-clause-found
+split_single-requires-clause-found c = single_in c.args.bytes.now c.in-Some.word.now _ _ _ c.in-Some.ensures.cases.same c.in-Some-single_posting.ensures

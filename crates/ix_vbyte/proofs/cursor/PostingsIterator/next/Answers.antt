@@ -1,5 +1,6 @@
-use Rattle.std.proofs.Common.{length, sym, ap, ◌∙◌, arith}
-use Rattle.ix_vbyte.proofs.Walks.{not_empty, empty, begins_with_posting, taken_posting, no_postings}
+use Rattle.std.proofs.Common.{◌+◌, ◌-◌, length, sym, ap, ◌∙◌, arith}
+use Rattle.ix_vbyte.proofs.Walks.{not_empty, empty, begins_with_posting, taken_posting, no_postings, of_number}
+use Rattle.ix_vbyte.specs.Walking.{ArePostingsFrom}
 use Rattle.ix_vbyte.proofs.cursor.PostingsIterator.next.Goals as goal
 
 pub returns-then-is_empty-clause-steps : goal.returns-then-is_empty-clause-steps
@@ -14,7 +15,9 @@ pub overflow_add-self : goal.overflow_add-self
 overflow_add-self c = record { fits = (taken_posting c.self.inside.next c.self.inside.count c.self.inside.bytes.now _ _ _ c.self.invariant (not_empty _ c.if-is_empty.ensures) c.first_posting-posting.ensures).fits }
 
 pub invariant_of-self : goal.invariant_of-self
-invariant_of-self c = (taken_posting c.self.inside.next c.self.inside.count c.self.inside.bytes.now _ _ _ c.self.invariant (not_empty _ c.if-is_empty.ensures) c.first_posting-posting.ensures).are
+invariant_of-self c =
+    of_number (λ n. ArePostingsFrom (c.first_posting-posting.result.0.document + 1) n c.first_posting-posting.result.1.now) _ (c.self.inside.count - 1) (omega arith)
+    (taken_posting c.self.inside.next c.self.inside.count c.self.inside.bytes.now _ _ _ c.self.invariant (not_empty _ c.if-is_empty.ensures) c.first_posting-posting.ensures).are
 
 pub returns-clause-steps : goal.returns-clause-steps
 returns-clause-steps c = sym c.self.view_is ∙ (taken_posting c.self.inside.next c.self.inside.count c.self.inside.bytes.now _ _ _ c.self.invariant (not_empty _ c.if-is_empty.ensures) c.first_posting-posting.ensures).told

@@ -1,5 +1,6 @@
-use Rattle.std.proofs.Common.{length, sym, ap, ◌∙◌, arith}
-use Rattle.ix_vbyte.proofs.Walks.{not_empty, empty, begins_with_gap, taken_position, no_positions}
+use Rattle.std.proofs.Common.{◌+◌, ◌-◌, length, sym, ap, ◌∙◌, arith}
+use Rattle.ix_vbyte.proofs.Walks.{not_empty, empty, begins_with_gap, taken_position, no_positions, of_number}
+use Rattle.ix_vbyte.specs.Walking.{ArePositionsFrom}
 use Rattle.ix_vbyte.proofs.positions.PositionsIterator.next.Goals as goal
 
 pub returns-then-is_empty-clause-steps : goal.returns-then-is_empty-clause-steps
@@ -24,7 +25,9 @@ overflow_add-self c =
     record { fits = taken.fits }
 
 pub invariant_of-self : goal.invariant_of-self
-invariant_of-self c = (taken_position c.self.inside.next c.self.inside.count c.self.inside.bytes.now _ _ c.self.invariant (not_empty _ c.if-is_empty.ensures) c.first_number-gap.ensures).are
+invariant_of-self c =
+    of_number (λ n. ArePositionsFrom n (c.self.inside.count - 1) c.first_number-gap.result.1.now) _ (c.self.inside.next + (c.first_number-gap.result.0 - 1) + 1) (omega arith)
+    (taken_position c.self.inside.next c.self.inside.count c.self.inside.bytes.now _ _ c.self.invariant (not_empty _ c.if-is_empty.ensures) c.first_number-gap.ensures).are
 
 pub returns-clause-steps : goal.returns-clause-steps
 returns-clause-steps c = sym c.self.view_is ∙ (taken_position c.self.inside.next c.self.inside.count c.self.inside.bytes.now _ _ c.self.invariant (not_empty _ c.if-is_empty.ensures) c.first_number-gap.ensures).told
