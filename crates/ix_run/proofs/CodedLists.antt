@@ -66,14 +66,14 @@ closed old one two now first second third postings holds =
 
 module _ (old new : TermList) where
   -- one more position in the open posting
-  pub added : (position : ℕ) → new.coded ≡ old.coded → new.documents ≡ old.documents → new.document ≡ old.document → new.gap ≡ old.gap → new.positions ≡ old.positions + 1
-      → new.gaps.items ≡ old.gaps.items ++ code_of (position + 1 - old.next_position) → new.next_position ≡ position + 1
+  pub added : (position gap : ℕ) → gap ≡ position + 1 - old.next_position → new.coded ≡ old.coded → new.documents ≡ old.documents → new.document ≡ old.document → new.gap ≡ old.gap → new.positions ≡ old.positions + 1
+      → new.gaps.items ≡ old.gaps.items ++ code_of gap → new.next_position ≡ position + 1
       → (front : List Posting) (positions : List ℕ) → IsOpen old front positions → IsOpen new front (positions ++ position ∷ [])
-  added position coded documents document gap count gaps next front positions was = record {
+  added position step counted coded documents document gap count gaps next front positions was = record {
     coded = ap (λ bytes. bytes.items) coded ∙ was.coded;
     documents = documents ∙ was.documents;
     gap = gap ∙ was.gap ∙ ap (λ n. n + 1 - next_after 0 (documents_of front)) (sym document);
-    gaps = gaps ∙ ap₂ (λ bytes n. bytes ++ code_of (position + 1 - n)) was.gaps was.next ∙ sym (codes_of_gaps-push positions position);
+    gaps = gaps ∙ ap (λ n. old.gaps.items ++ code_of n) counted ∙ ap₂ (λ bytes n. bytes ++ code_of (position + 1 - n)) was.gaps was.next ∙ sym (codes_of_gaps-push positions position);
     count = count ∙ ap (λ n. n + 1) was.count ∙ sym (length_push positions position);
     next = next ∙ sym (next_after-push 0 positions position);
   }

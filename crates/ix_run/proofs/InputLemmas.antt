@@ -49,13 +49,18 @@ pub found_or_ended : (count : ℕ) (buffer : List ℕ) (known : Option (List ℕ
 found_or_ended zero buffer known end = subst IsAtEnd (sym (held-zero buffer known)) (end refl)
 found_or_ended (suc count) buffer known end = grind (arith, nat_tests)
 
--- one byte is taken
-pub byte_taken : (known : Option (List ℕ)) (buffer : List ℕ) (start end byte : ℕ) (before : Option (List ℕ)) → Keeps before (prepend_known (held buffer start end) known)
+first_taken : (known : Option (List ℕ)) (buffer : List ℕ) (start end byte : ℕ) (before : Option (List ℕ)) → Keeps before (prepend_known (held buffer start end) known)
     → start < end → end ≤ length buffer → byte ≡ get_or buffer start byte → Consumes before (prepend_known (held buffer (start + 1) end) known) (byte ∷ [])
-byte_taken known buffer start end byte before kept lt le is =
+first_taken known buffer start end byte before kept lt le is =
     let same : byte ≡ get_or buffer start 0 = get_or_read buffer start byte (omega arith) is 0 in
     let e : held buffer start end ≡ (byte ∷ []) ++ held buffer (start + 1) end = held-byte buffer start end lt le ∙ ap (λ (b : ℕ). b ∷ held buffer (start + 1) end) (sym same) in
     Consumes-trans before (prepend_known (held buffer start end) known) (prepend_known (held buffer (start + 1) end) known) [] (byte ∷ []) (Consumes-from_keeps before (prepend_known (held buffer start end) known) kept) (held-moved known (held buffer start end) (byte ∷ []) (held buffer (start + 1) end) e)
+
+-- one byte is taken
+pub byte_taken : (known : Option (List ℕ)) (buffer : List ℕ) (start next end byte : ℕ) (before : Option (List ℕ)) → Keeps before (prepend_known (held buffer start end) known)
+    → start < end → end ≤ length buffer → byte ≡ get_or buffer start byte → next ≡ start + 1 → Consumes before (prepend_known (held buffer next end) known) (byte ∷ [])
+byte_taken known buffer start next end byte before kept lt le is one =
+    subst (λ (place : ℕ). Consumes before (prepend_known (held buffer place end) known) (byte ∷ [])) (sym one) (first_taken known buffer start end byte before kept lt le is)
 
 -- a front of what is held, as the slice of the buffer that it is
 pub held-range : (buffer : List ℕ) (start end count : ℕ) → start + count ≤ end → end ≤ length buffer

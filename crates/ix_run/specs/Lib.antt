@@ -8,6 +8,11 @@ pub mod Inverted
 pub mod Laws
 pub mod Orders
 pub mod Pieces
+pub mod ReadPostings
+pub mod ReadTables
+pub mod ReadTerms
+pub mod Reading
+pub mod RunFiles
 pub mod RunReaders
 pub mod RunSources
 pub mod RunText

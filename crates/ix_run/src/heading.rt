@@ -17,7 +17,7 @@ use std::alloc::Global;
 use std::io::Read;
 
 /// The most bytes that a term or a name may have.
-const MAX_TEXT_BYTES: u32 = 255;
+pub(crate) const MAX_TEXT_BYTES: u32 = 255;
 
 /// More bytes than any code has.
 pub(crate) const CODE_LIMIT: usize = 8;

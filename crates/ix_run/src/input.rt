@@ -1,5 +1,5 @@
 //! What is left of a reader, buffered.
-ghost use Rattle.std.specs.Prelude.{◌≡◌, ◌<◌, ◌≤◌, ◌++◌, List, ℕ, length, take, vec_len, IfOk, IfErr, IfNone, IfSome, OnOk, MatchBool};
+ghost use Rattle.std.specs.Prelude.{◌≡◌, ◌<◌, ◌≤◌, ◌++◌, ◌+◌, ◌*◌, ◌%◌, List, ℕ, length, take, vec_len, IfOk, IfErr, IfNone, IfSome, OnOk, MatchBool};
 ghost use Rattle.std.specs.Io.{ReadsAtMost};
 ghost use Rattle.std.specs.Io.KnownBytes.{Consumes, IsAtEnd, Keeps};
 ghost use Rattle.std.specs.Option.{option_to_list};
@@ -73,11 +73,85 @@ impl<R: Read> Input<R> {
         Ok(Some(byte))
     }
 
+    /// Takes a code of one byte, where one of a number that is not 0 is buffered, and answers that number. 0: such a
+    /// code does not stand next, or `limit` is 0, and nothing was taken.
+    ///
+    /// Almost all gaps between documents and numbers of positions are such: they are read in the caller, without a call and
+    /// without a `Result`.
+    #[inline(always)]
+    pub(crate) fn short_gap(&mut self, limit: usize) -> u32
+        ensures taken { 0 < result → Consumes (known_left R.remaining self.old) (known_left R.remaining self.new) (code_of result) }
+        ensures size { 0 < result → (length (code_of result) ≡ 1) × (0 < limit) }
+        ensures kept { result ≡ 0 → known_left R.remaining self.new ≡ known_left R.remaining self.old }
+    {
+        let start = self.start;
+        if start < self.end && 0 < limit {
+            let byte = self.buffer[start];
+            if byte > 128 {
+                self.start = start + 1;
+                return u32::from(byte) - 128;
+            }
+        }
+        0
+    }
+
+    /// Takes a code of one byte or two, where one of a number that is not 0 is buffered, and answers that number and
+    /// how many bytes it has. A number of 0: such a code does not stand next, or `limit` is below its bytes, and
+    /// nothing was taken.
+    ///
+    /// Of the gaps between positions as many have one byte as two: so nothing branches on which of them it is.
+    #[inline(always)]
+    pub(crate) fn short_number(&mut self, limit: usize) -> (u32, usize)
+        ensures taken { 0 < result.0 → Consumes (known_left R.remaining self.old) (known_left R.remaining self.new) (code_of result.0) }
+        ensures size { 0 < result.0 → (result.1 ≡ length (code_of result.0)) × (result.1 ≤ limit) }
+        ensures kept { result.0 ≡ 0 → known_left R.remaining self.new ≡ known_left R.remaining self.old }
+    {
+        let start = self.start;
+        if start + 1 < self.end {
+            let first = self.buffer[start];
+            let second = self.buffer[start + 1];
+            let (number, bytes) = short_code(first, second);
+            if first % 128 > 0 && first / 128 + second / 128 > 0 && bytes <= limit {
+                self.start = start + bytes;
+                return (number, bytes);
+            }
+        }
+        (0, 0)
+    }
+
     /// Takes a code of at most `limit` bytes, and answers its number and how many bytes it has.
     ///
     /// `ListLength` where that many bytes do not end it; `Number` where it is faulty, or the input ends inside it.
-    #[inline]
+    ///
+    /// Almost all codes have one or two bytes that are buffered: those are read in the caller, without a call.
+    #[inline(always)]
     pub(crate) fn code(&mut self, limit: usize) -> Result<(u32, usize), RunTextError>
+        ensures taken { IfOk result (λ found. Consumes (known_left R.remaining self.old) (known_left R.remaining self.new) (code_of found.0)) }
+        ensures size { IfOk result (λ found. (found.1 ≡ length (code_of found.0)) × (found.1 ≤ limit)) }
+        ensures fault { IfErr result (λ error. IfSome (known_left R.remaining self.old) (λ bytes. IsCodeFault limit bytes error)) }
+    {
+        let start = self.start;
+        if start < self.end && 0 < limit {
+            let first = self.buffer[start];
+            if first >= 128 {
+                self.start = start + 1;
+                return Ok((u32::from(first % 128), 1));
+            }
+            if first > 0 && start + 1 < self.end && 1 < limit {
+                let second = self.buffer[start + 1];
+                if second >= 128 {
+                    self.start = start + 2;
+                    return Ok((u32::from(first) * 128 + u32::from(second % 128), 2));
+                }
+            }
+        }
+        self.code_by_decode(limit)
+    }
+
+    /// The same of a code of any length. Few codes come here, so it stays a call.
+    #[cold]
+    #[inline(never)]
+    fn code_by_decode(&mut self, limit: usize) -> Result<(u32, usize), RunTextError>
         ensures taken { IfOk result (λ found. Consumes (known_left R.remaining self.old) (known_left R.remaining self.new) (code_of found.0)) }
         ensures size { IfOk result (λ found. (found.1 ≡ length (code_of found.0)) × (found.1 ≤ limit)) }
         ensures fault { IfErr result (λ error. IfSome (known_left R.remaining self.old) (λ bytes. IsCodeFault limit bytes error)) }
@@ -146,6 +220,21 @@ impl<R: Read> Input<R> {
         out.extend_from_slice(&self.buffer[self.start..self.start + count])?;
         self.start += count;
         Ok(())
+    }
+}
+
+/// The number whose code begins so, and how many bytes it has, where that is one byte or two.
+#[inline(always)]
+fn short_code(first: u8, second: u8) -> (u32, usize)
+    ensures one { 128 ≤ first → (result.0 ≡ first % 128) × (result.1 ≡ 1) }
+    ensures two { first < 128 → (result.0 ≡ first * 128 + second % 128) × (result.1 ≡ 2) }
+{
+    let high = u32::from(first % 128);
+    let low = u32::from(second % 128);
+    if first >= 128 {
+        (high, 1)
+    } else {
+        (high * 128 + low, 2)
     }
 }
 

@@ -1,6 +1,6 @@
 //! Inverting a block of documents (IIR 4.3): single-pass in-memory indexing of one block.
 
-ghost use Rattle.std.specs.Prelude.{◌≡◌, ℕ, ◌+◌, ◌^◌, ◌<◌, ◌≤◌, ◌++◌, List, All, map, length, OnOk, IfOk, IfErr, IsErr, Err};
+ghost use Rattle.std.specs.Prelude.{◌≡◌, ℕ, ◌+◌, ◌^◌, ◌<◌, ◌≤◌, ◌++◌, List, All, map, length, option_map, string_bytes, take, vec_len, OnOk, IfOk, IfErr, IsErr, Err};
 ghost use Rattle.indexmap.specs.IndexMap.{IsEmpty};
 ghost use Rattle.ix_text.specs.Collections.{IsLawfulEntry, collection_of};
 ghost use Rattle.ix_text.specs.Docs.{named_text};
@@ -18,7 +18,7 @@ use crate::head::{RunDoc, RunHead};
 use crate::run::Run;
 use crate::term_list::TermList;
 use indexmap::IndexMap;
-use ix_text::{Doc, Memory, StopList, tokens};
+use ix_text::{Doc, Memory, StopList, write_tokens};
 use std::alloc::Global;
 
 /// The most documents and the most tokens that an index may have.
@@ -78,14 +78,30 @@ fn add_documents(
     ensures many { IfErr result (λ error. error ≡ RunError.TooLarge → 2 ^ 28 < tokens_of (documents_of stop.now (map named_text docs.now))) }
 {
     let mut rows = Vec::new(alloc);
+    let mut list = Vec::new(alloc);
     let mut left = MAX_COUNT;
     for (number, doc) in docs.iter().enumerate() {
-        let (name, text) = (doc.name, doc.text);
-        let row = add_document(alloc, dictionary, name, text, stop, number as u32, left)?;
+        let tokens = write_list(alloc, &mut list, doc.text, stop)?;
+        let list = &list[..tokens];
+        let row = add_document(alloc, dictionary, doc.name, list, number as u32, left)?;
         left -= row.tokens as usize;
         rows.push(row)?;
     }
     Ok(rows)
+}
+
+/// Writes the token list of a document over the front of the list, and answers how many entries that are.
+fn write_list(
+    alloc: Global,
+    list: &mut Vec<Option<String>>,
+    text: &str,
+    stop: &StopList,
+) -> Result<usize, Memory>
+    ensures within { IfOk result (λ count. count ≤ vec_len list.new) }
+    ensures front { IfOk result (λ count. map (option_map string_bytes) (take count list.new.items) ≡ token_list stop.now text.now) }
+    ensures lawful { All (IsLawfulEntry stop.now) (token_list stop.now text.now) }
+{
+    write_tokens(alloc, list, text, stop)
 }
 
 /// Inverts one document, whose number is above those before it and whose tokens may be this many.
@@ -93,26 +109,23 @@ fn add_document(
     alloc: Global,
     dictionary: &mut IndexMap<String, TermList>,
     name: &str,
-    text: &str,
-    stop: &StopList,
+    list: &[Option<String>],
     number: u32,
     left: usize,
 ) -> Result<RunDoc, RunError>
     requires numbered { number < 2 ^ 28 }
     requires low { left ≤ 2 ^ 28 }
     requires behind { AreBefore dictionary.old number 0 }
-    ensures row { IfOk result (λ row. row_of_doc row ≡ record { name = name.now; tokens = length (token_list stop.now text.now) }) }
-    ensures few { OnOk result (length (token_list stop.now text.now) ≤ left) }
-    ensures held { OnOk result ((occurrences : List Occurrence) → HoldsOccurrences dictionary.old occurrences → HoldsOccurrences dictionary.new (occurrences ++ occurrences_in number 0 (token_list stop.now text.now))) }
+    ensures row { IfOk result (λ row. row_of_doc row ≡ record { name = name.now; tokens = length list.now }) }
+    ensures few { OnOk result (length list.now ≤ left) }
+    ensures held { OnOk result ((occurrences : List Occurrence) → HoldsOccurrences dictionary.old occurrences → HoldsOccurrences dictionary.new (occurrences ++ occurrences_in number 0 (map (option_map string_bytes) list.now))) }
     ensures before { OnOk result (AreBefore dictionary.new (number + 1) 0) }
-    ensures lawful { OnOk result (All (IsLawfulEntry stop.now) (token_list stop.now text.now)) }
-    ensures many { IfErr result (λ error. error ≡ RunError.TooLarge → left < length (token_list stop.now text.now)) }
+    ensures many { IfErr result (λ error. error ≡ RunError.TooLarge → left < length list.now) }
 {
-    let list = tokens(alloc, text, stop)?;
     if list.len() > left {
         return Err(RunError::TooLarge);
     }
-    post_all(alloc, dictionary, list.as_slice(), number)?;
+    post_all(alloc, dictionary, list, number)?;
     Ok(RunDoc {
         name: String::from_str(alloc, name)?,
         tokens: list.len() as u32,

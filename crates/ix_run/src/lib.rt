@@ -9,17 +9,21 @@ mod heading;
 mod input;
 mod inversion;
 mod laws;
+mod list;
 mod rows;
 mod run;
+mod run_file;
 mod run_reader;
 mod run_source;
 mod run_text;
 mod run_text_error;
 mod source;
 mod stop_terms;
+mod term;
 mod term_list;
 #[cfg(test)]
 mod tests;
+mod token_counts;
 
 pub use errors::{RunError, WriteError};
 pub use head::{RunDoc, RunHead};

@@ -56,7 +56,7 @@ impl<'a> RunSource<'a> {
 }
 
 impl<'a> Source for RunSource<'a> {
-    ghost use Rattle.std.specs.Prelude.{◌≡◌, [], None, IsSome, IfOk, OnOk, OnErr, MatchOption};
+    ghost use Rattle.std.specs.Prelude.{◌≡◌, [], None, Ok, IsSome, IfOk, OnErr, MatchOption};
     ghost use Rattle.ix_run.specs.RunSources.{HasGiven, HasLeft, IsAtEndOfTerm};
     ghost use Rattle.ix_run.specs.Sources.{EndsPostings, GivesPosting};
 
@@ -97,11 +97,11 @@ impl<'a> Source for RunSource<'a> {
     fn next_posting(&mut self, positions: &mut Vec<u32>) -> Result<Option<u32>, Memory>
         requires { IsSome self.old.term }
         ensures heading { self.new.heading ≡ self.old.heading }
-        ensures current { OnOk result (self.new.term ≡ self.old.term) }
+        ensures current { self.new.term ≡ self.old.term }
         ensures given { IfOk result (λ found. MatchOption found
             (IsAtEndOfTerm self.new × EndsPostings HasLeft HasGiven self.old self.new)
             (λ document. GivesPosting HasLeft HasGiven self.old self.new (document, positions.new.items))) }
-        ensures drained { IsAtEndOfTerm self.old → IfOk result (λ found. found ≡ None) }
+        ensures drained { IsAtEndOfTerm self.old → result ≡ Ok None }
 
         // What a refusal leaves.
         ensures kept { OnErr result (self.new ≡ self.old) }

@@ -1,6 +1,6 @@
 //! A run as its consumer meets it: term by term, posting by posting.
 
-ghost use Rattle.std.specs.Prelude.{◌≡◌, ℕ, List, Option, Some, None, IsSome, IfOk, OnOk, MatchBool, MatchOption, option_map, ◌++◌};
+ghost use Rattle.std.specs.Prelude.{◌≡◌, ℕ, List, Option, Some, None, Ok, false, IsSome, IfOk, MatchBool, MatchOption, option_map, ◌++◌};
 ghost use Rattle.ix_text.specs.Parts.{DictionaryEntry, Posting};
 ghost use Rattle.ix_run.specs.Heads.{Heading, heading_of};
 ghost use Rattle.ix_run.specs.Sources.{AreWhole, IsLawfulFront, BeginsTerm, EndsTerms, GivesPosting, EndsPostings, closed};
@@ -47,7 +47,7 @@ pub trait Source {
         ensures begun { IfOk result (λ more. MatchBool more
             ((term : List ℕ) × (current self.new ≡ Some term) × BeginsTerm yields gives is_drained self.old self.new term)
             ((current self.new ≡ None) × is_ended self.new × EndsTerms yields gives is_drained self.old self.new)) }
-        ensures ended { is_ended self.old → IfOk result (λ more. MatchBool more ⊥ (is_ended self.new)) };
+        ensures ended { is_ended self.old → (result ≡ Ok false) × is_ended self.new };
 
     /// The term at hand.
     fn term(&self) -> &str
@@ -55,15 +55,16 @@ pub trait Source {
         ensures { current self.now ≡ Some result.now };
 
     /// The document of the next posting of the term at hand, whose positions are put into `positions` in place of what
-    /// it held. None: there is no further one, now and at each later call for this term.
+    /// it held. None: there is no further one, now and at each later call for this term. A refusal leaves the term at
+    /// hand.
     fn next_posting(&mut self, positions: &mut Vec<u32>) -> Result<Option<u32>, Self::Error>
         requires { IsSome (current self.old) }
         ensures heading { heading self.new ≡ heading self.old }
-        ensures current { OnOk result (current self.new ≡ current self.old) }
+        ensures current { current self.new ≡ current self.old }
         ensures given { IfOk result (λ found. MatchOption found
             (is_drained self.new × EndsPostings yields gives self.old self.new)
             (λ document. GivesPosting yields gives self.old self.new (document, positions.new.items))) }
-        ensures drained { is_drained self.old → IfOk result (λ found. found ≡ None) };
+        ensures drained { is_drained self.old → result ≡ Ok None };
 
     // Where no term is at hand, no posting of one is left.
     ghost drained_without_term: { (source : Self) → current source ≡ None → is_drained source };

@@ -1,3 +1,5 @@
+mod reading;
+
 use crate::{RunError, WriteError, invert, run_text_has_eighteen_bytes};
 use ix_text::{Collection, Doc, StopList};
 use std::alloc::Global;

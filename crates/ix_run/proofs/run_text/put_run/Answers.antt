@@ -1,4 +1,4 @@
-use Rattle.std.proofs.Common.{◌++◌, ◌∷◌, [], flat_map, map}
+use Rattle.std.proofs.Common.{◌++◌, ◌∷◌, [], flat_map, map, rules}
 use Rattle.ix_run.specs.Runs.{front_bytes, head_value, run_bytes, term_shown, value_bytes}
 use Rattle.ix_text.proofs.SinkLemmas.{appends_then}
 use Rattle.ix_run.proofs.Writing.{front_more, front_then, writes_refused, writes_then}
@@ -25,4 +25,4 @@ unfolding run_bytes
 returns g c =
     let front = front_bytes (head_value c.args.head.now []) in
     let terms = flat_map value_bytes (map term_shown c.args.terms.now) in
-    writes_then c.put.result _ _ _ (front ++ terms) (128 ∷ []) (appends_then _ _ _ front terms c.in_ok-put_head.ensures c.in_ok-put_terms.ensures) c.put.ensures
+    writes_then c.put.result _ _ _ (front ++ terms) (128 ∷ []) (appends_then _ _ _ front terms c.in_ok-put_head.ensures c.in_ok-put_terms.ensures) (search rules)

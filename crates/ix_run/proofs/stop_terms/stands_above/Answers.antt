@@ -15,4 +15,4 @@ returns-in-Some c =
     let is : string_bytes last ≡ get_or texts (length texts - 1) [] =
     let at : last ≡ get_or strings (length texts - 1) last = rw len item.1 in
     ap string_bytes at ∙ sym (get_or-map string_bytes strings (length texts - 1) last [] (omega arith)) in
-    above_by texts c.args.text.now (string_bytes last) c.lt.result (omega arith) is (rw (← c.as_str.ensures.value) c.lt.ensures)
+    above_by texts c.args.text.now (string_bytes last) c.lt.result (omega arith) is (cc)

@@ -1,8 +1,8 @@
-use Rattle.std.proofs.Common.{◌≡◌, [], Some, None, map, refl, ap, subst, ◌∙◌}
+use Rattle.std.proofs.Common.{◌≡◌, List, [], Some, None, map, refl, sym, ap, subst, ◌∙◌}
 use Rattle.std.specs.Option.{option_copied}
 use Rattle.ix_run.specs.Heads.{heading_of}
-use Rattle.ix_run.specs.Runs.{term_shown}
-use Rattle.ix_run.specs.RunSources.{HasGiven, HasLeft, IsAtEndOfTerm, SourceValue}
+use Rattle.ix_run.specs.Runs.{TermValue, term_shown}
+use Rattle.ix_run.specs.RunSources.{HasGiven, HasLeft, IsAtEndOfTerm, IsAtPlace, SourceValue}
 use Rattle.ix_run.specs.Sources.{BeginsTerm, EndsTerms}
 use Rattle.ix_run.proofs.RunSources.{first_list, no_postings, nothing_left, place_begun, place_ended, step_begun, step_ended}
 use Rattle.ix_run.proofs.run_source.RunSourceSource.next_term.Goals as goal
@@ -28,11 +28,17 @@ new-self-inside-requires-2 c =
     first_list (map term_shown c.self.inside.terms.now) (term_shown c.in-Some.term.now) (map term_shown c.in-Some.terms.now) c.self.invariant.given.rest c.deref.result.now
     (ap (map term_shown) c.in-Some.ensures.cases.0) c.deref.ensures.value c.self.invariant.given.left
 
+-- what holds of the terms that are to be left holds of those that are
+of_left : (P : List TermValue → Type 0) (now left : List TermValue) → now ≡ left → P left → P now
+of_left P now left same holds = subst P (sym same) holds
+
 pub invariant_of-self-2 : goal.invariant_of-self-2
 invariant_of-self-2 c =
-    place_begun (heading_of c.self.inside.head.now) (map term_shown c.self.inside.terms.now) (option_copied c.self.inside.term) c.self.inside.postings c.new-self-inside-2.result
+    let P : List TermValue → Type 0 = λ terms. IsAtPlace (record { heading = heading_of c.self.inside.head.now; terms = terms; term = Some c.as_str.result.now; postings = c.new-self-inside-2.result }) in
+    of_left P _ (map term_shown c.in-Some.terms.now) (cc)
+    (place_begun (heading_of c.self.inside.head.now) (map term_shown c.self.inside.terms.now) (option_copied c.self.inside.term) c.self.inside.postings c.new-self-inside-2.result
     (term_shown c.in-Some.term.now) (map term_shown c.in-Some.terms.now) c.as_str.result.now (ap (map term_shown) c.in-Some.ensures.cases.0) c.as_str.ensures.value
-    (λ told are counted bytes. c.new-self-inside-2.ensures told are counted (c.deref.ensures.value ∙ bytes)) c.self.invariant
+    (λ told are counted bytes. c.new-self-inside-2.ensures told are counted (c.deref.ensures.value ∙ bytes)) c.self.invariant)
 
 pub returns-clause-begun : goal.returns-clause-begun
 returns-clause-begun c =

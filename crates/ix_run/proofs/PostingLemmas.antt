@@ -1,0 +1,117 @@
+-- A posting that may come next at the front of what is left.
+use Rattle.std.proofs.Common.{◌≡◌, ℕ, ◌+◌, ◌-◌, ◌^◌, ◌<◌, ◌≤◌, List, ◌++◌, Option, Some, length, get_or, sum_by, sym, ap, ◌∙◌, subst, arith, append_assoc}
+use Rattle.std.proofs.lemmas.List.{length-append}
+use Rattle.std.proofs.lemmas.List.Elements.{All-contains, All-from_get_or, Contains-get_or}
+use Rattle.std.proofs.lemmas.List.Sums.{sum_by-take-le}
+use Rattle.std.proofs.lemmas.Option.{slice_get_within}
+use Rattle.ix_text.specs.Parts.{DocumentRow, Posting}
+use Rattle.ix_text.specs.TokenMarks.{HoldsNumbers}
+use Rattle.ix_text.specs.TokenNumbers.{AreDistinct}
+use Rattle.ix_text.specs.TokenTables.{HasTokens, IsSpan}
+use Rattle.ix_text.specs.declared.token_marks.TokenMarks.{TokenMarks}
+use Rattle.ix_text.specs.declared.token_table.TokenTable.{TokenTable}
+use Rattle.ix_text.proofs.TokenStarts.{in_range_from_span, span_from_in_range, tokens_before_next}
+use Rattle.ix_vbyte.specs.Code.{code_of}
+use Rattle.ix_vbyte.specs.Gaps.{Ascends, gaps_of}
+use Rattle.ix_vbyte.specs.Postings.{codes_of, posting_bytes}
+use Rattle.ix_vbyte.proofs.Gaps.{Ascends-from, Ascends-rising, Ascends-within, length-Ascends}
+use Rattle.ix_run.specs.ReadPostings.{HaveRoom, IsFree, PostingFits, StandNext, numbers_at}
+
+-- the tokens of a document are among those of all
+pub span_within : (rows : List DocumentRow) (document : ℕ) (span : ℕ × ℕ) → IsSpan rows document span → span.0 + span.1 ≤ sum_by (λ row. row.tokens) rows
+span_within rows document span is =
+    omega (arith, is.first, is.count, tokens_before_next rows document is.row is.numbered, sum_by-take-le (λ row. row.tokens) rows (document + 1))
+
+-- a table has the rows of as many documents, whichever they are
+same_count : (tokens : TokenTable) (rows others : List DocumentRow) → HasTokens tokens rows → HasTokens tokens others → length rows ≡ length others
+unfolding HasTokens
+same_count tokens rows others has also = omega (arith, has.counted, also.counted)
+
+-- positions that ascend below the number of the document's tokens make a posting that may come next
+pub posting_fits : (rows : List DocumentRow) (next document : ℕ) (positions : List ℕ) (span : ℕ × ℕ) → next ≤ document → IsSpan rows document span → 0 < length positions → Ascends 0 span.1 positions
+    → PostingFits rows next (document, positions)
+posting_fits rows next document positions span above is some up = record {
+  above = above;
+  is = record {
+    is = (some, Ascends-rising 0 span.1 positions up);
+    in_range = λ position has.
+        let within = All-contains (λ x. (0 ≤ x) × (x < span.1)) positions position (Ascends-within 0 span.1 positions up) has in
+        in_range_from_span rows document position span is within.1;
+  };
+}
+
+-- ---- a posting that may come next
+
+module _ (tokens : TokenTable) (marks : TokenMarks) (ready : HaveRoom tokens marks) (rows : List DocumentRow) (has : HasTokens tokens rows) (next : ℕ) (posting : Posting) (fits : PostingFits rows next posting) where
+  few_rows : length rows ≤ 2 ^ 28
+  few_rows = omega (arith, same_count tokens rows ready.rows has ready.has, ready.few_documents)
+
+  -- its document is there
+  pub document_within : posting.0 < length rows
+  document_within =
+      let position = get_or posting.1 0 0 in
+      let range = fits.is.in_range position (Contains-get_or posting.1 0 0 fits.is.is.0) in
+      slice_get_within rows posting.0 range.row range.numbered
+
+  pub gap_some : 0 < posting.0 + 1 - next
+  gap_some = omega (arith, fits.above)
+
+  pub gap_fits : posting.0 + 1 - next < 2 ^ 32
+  gap_fits = omega (arith, document_within, few_rows)
+
+  pub few_documents : length rows < 2 ^ 32
+  few_documents = omega (arith, few_rows)
+
+  -- its positions ascend below the number of the document's tokens
+  pub ascends : (span : ℕ × ℕ) → IsSpan rows posting.0 span → Ascends 0 span.1 posting.1
+  ascends span is =
+      Ascends-from 0 span.1 posting.1 fits.is.is.1
+      (All-from_get_or (λ x. (0 ≤ x) × (x < span.1)) posting.1 0
+      (λ i lt. (omega arith, span_from_in_range rows posting.0 (get_or posting.1 i 0) span is (fits.is.in_range (get_or posting.1 i 0) (Contains-get_or posting.1 i 0 lt)))))
+
+  pub count_fits : (span : ℕ × ℕ) → IsSpan rows posting.0 span → span.0 + span.1 ≤ 2 ^ 28 → length posting.1 < 2 ^ 32
+  count_fits span is few = omega (arith, length-Ascends 0 span.1 posting.1 (omega arith) (ascends span is), few)
+
+-- ---- its bytes
+
+-- what stands behind the document's gap, and behind the number of positions
+abbrev pub behind_gap : Posting → List ℕ → List ℕ
+behind_gap posting rest = code_of (length posting.1) ++ (codes_of (gaps_of posting.1) ++ rest)
+
+abbrev pub behind_count : Posting → List ℕ → List ℕ
+behind_count posting rest = codes_of (gaps_of posting.1) ++ rest
+
+pub posting_parts : (a : Option (List ℕ)) (gap : ℕ) (posting : Posting) (rest : List ℕ) → a ≡ Some (posting_bytes gap posting ++ rest) → a ≡ Some (code_of gap ++ behind_gap posting rest)
+posting_parts a gap posting rest e =
+    e ∙ ap (λ (bytes : List ℕ). Some bytes)
+    (append_assoc (code_of gap ++ code_of (length posting.1)) (codes_of (gaps_of posting.1)) rest
+    ∙ append_assoc (code_of gap) (code_of (length posting.1)) (codes_of (gaps_of posting.1) ++ rest))
+
+length-posting : (gap : ℕ) (posting : Posting) → length (posting_bytes gap posting) ≡ length (code_of gap) + (length (code_of (length posting.1)) + length (codes_of (gaps_of posting.1)))
+length-posting gap posting =
+    omega (arith, length-append (code_of gap ++ code_of (length posting.1)) (codes_of (gaps_of posting.1)), length-append (code_of gap) (code_of (length posting.1)))
+
+module _ (gap limit : ℕ) (posting : Posting) (short : length (posting_bytes gap posting) ≤ limit) where
+  pub gap_short : length (code_of gap) ≤ limit
+  gap_short = omega (arith, length-posting gap posting, short)
+
+  pub count_short : (gap_read bytes : ℕ) → gap_read ≡ gap → bytes ≡ length (code_of gap_read) → length (code_of (length posting.1)) ≤ limit - bytes
+  count_short gap_read bytes same size = omega (arith, length-posting gap posting, short, size, ap (λ (n : ℕ). length (code_of n)) same)
+
+  pub positions_short : (gap_read bytes count_read more : ℕ) → gap_read ≡ gap → bytes ≡ length (code_of gap_read) → count_read ≡ length posting.1 → more ≡ length (code_of count_read)
+      → length (codes_of (gaps_of posting.1)) ≤ limit - (bytes + more)
+  positions_short gap_read bytes count_read more same size same_number size_number =
+      omega (arith, length-posting gap posting, short, size, ap (λ (n : ℕ). length (code_of n)) same, size_number, ap (λ (n : ℕ). length (code_of n)) same_number)
+
+-- its positions stand next
+pub positions_next : (tokens : TokenTable) (marks : TokenMarks) (ready : HaveRoom tokens marks) (rows : List DocumentRow) (has : HasTokens tokens rows) (next : ℕ) (posting : Posting) → PostingFits rows next posting
+    → (span : ℕ × ℕ) → IsSpan rows posting.0 span → (count limit : ℕ) (numbers rest : List ℕ) (known : Option (List ℕ)) → HoldsNumbers marks numbers → IsFree rows numbers posting → count ≡ length posting.1
+    → length (codes_of (gaps_of posting.1)) ≤ limit → known ≡ Some (behind_count posting rest) → StandNext span.0 span.1 count limit marks known numbers posting.1 rest
+positions_next tokens marks ready rows has next posting fits span is count limit numbers rest known held free counted short e = record {
+  held = held;
+  counted = sym counted;
+  ascend = ascends tokens marks ready rows has next posting fits span is;
+  free = subst (λ (first : ℕ). AreDistinct (numbers ++ numbers_at first posting.1)) (sym is.first) free;
+  short = short;
+  spelled = e;
+}

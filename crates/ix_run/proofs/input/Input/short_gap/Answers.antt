@@ -1,0 +1,16 @@
+-- The byte is the code of the number, and stands first.
+use Rattle.std.proofs.Common.{◌-◌, length, ap, arith}
+use Rattle.ix_run.specs.Inputs.{known_left}
+use Rattle.ix_run.proofs.ShortCodes.{code_of-one, code_taken-one}
+use Rattle.ix_run.proofs.input.Input.short_gap.Goals as goal
+
+pub returns-then-byte-gt128-clause-taken : goal.returns-then-byte-gt128-clause-taken
+unfolding known_left
+returns-then-byte-gt128-clause-taken g c some =
+    let input = c.args.self.now in
+    code_taken-one (g.R.Read.remaining input.reader) input.buffer.items input.start input.end c.index-byte.result.now (c.from.result - 128)
+    c.if-start-self.true (omega (arith, input.buffer.ok.0, input.within)) c.index-byte.ensures (omega (arith, c.if-byte-gt128.true)) (omega arith) (omega arith)
+
+pub returns-then-byte-gt128-clause-size : goal.returns-then-byte-gt128-clause-size
+returns-then-byte-gt128-clause-size g c some =
+    (ap length (code_of-one c.index-byte.result.now (c.from.result - 128) (omega (arith, c.if-byte-gt128.true)) (omega arith) (omega arith)), omega arith)

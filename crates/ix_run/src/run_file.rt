@@ -1,0 +1,91 @@
+//! A run text read to its end.
+ghost use Rattle.std.specs.Prelude.{◌≡◌, [], List, IsSome, IfOk, IfErr, map};
+ghost use Rattle.ix_text.specs.Parts.{DictionaryEntry, Posting};
+ghost use Rattle.ix_run.specs.Heads.{heading_of};
+ghost use Rattle.ix_run.specs.Reading.{Faces, HasRead, IsDrained, term_of};
+ghost use Rattle.ix_run.specs.RunFiles.{GivesTerm, HasBegun, ReadsAll};
+ghost use Rattle.ix_run.specs.RunTextErrors.{IsRefusal};
+ghost use Rattle.ix_run.specs.Runs.{term_shown};
+ghost use Rattle.ix_run.specs.Sources.{IsUnread};
+
+use crate::coded_term::CodedTerm;
+use crate::run_reader::RunReader;
+use crate::{Run, RunTextError, Source};
+use ix_vbyte::push_posting;
+use std::alloc::Global;
+use std::io::Read;
+
+impl Run {
+    ghost use Rattle.std.specs.Prelude.{ℕ, Some, MatchResult};
+    ghost use Rattle.ix_text.specs.Collections.{Collection};
+    ghost use Rattle.ix_run.specs.RunText.{IsRunText};
+    ghost use Rattle.ix_run.specs.Runs.{IsRunOf, run_bytes};
+
+    /// Reads a run text to its end and keeps it in memory, its lists coded.
+    ///
+    /// The errors are those of [`RunReader::open`], and of its `next_term` and `next_posting`, in the order of the
+    /// bytes.
+    pub fn read<R: Read + Drop>(alloc: Global, reader: R) -> Result<Run, RunTextError>
+        // The run has the bytes that were read as its run text.
+        ensures exact { (bytes : List ℕ) → R.remaining reader ≡ Some bytes → IfOk result (λ run. run_bytes run ≡ bytes) }
+
+        // Of a run text of a lawful collection it is the run of that collection, unless a read or memory is refused.
+        ensures accepted { (first : ℕ) (collection : Collection) (bytes : List ℕ) → IsRunText first collection bytes → R.remaining reader ≡ Some bytes
+            → MatchResult result (λ run. IsRunOf run first collection) IsRefusal }
+    {
+        let mut reader = RunReader::open(alloc, reader)?;
+        let terms = coded_terms(alloc, &mut reader)?;
+        Ok(Run::new(reader.into_head(), terms))
+    }
+}
+
+/// Takes all terms of a reader that has given nothing.
+fn coded_terms<R: Read + Drop>(
+    alloc: Global,
+    reader: &mut RunReader<R>,
+) -> Result<Vec<CodedTerm>, RunTextError>
+    requires unread { IsUnread HasRead reader.old }
+    requires drained { IsDrained reader.old }
+    ensures heading { heading_of reader.new.head ≡ heading_of reader.old.head }
+    ensures read { IfOk result (λ terms. ReadsAll R.remaining reader.old (map term_shown terms.items)) }
+    ensures refused { (entries : List DictionaryEntry) → Faces R.remaining reader.old [] entries → IfErr result IsRefusal }
+{
+    let mut terms = Vec::new(alloc);
+    let mut positions = Vec::new(alloc);
+    for _ in 0..u64::MAX {
+        if !reader.next_term()? {
+            return Ok(terms);
+        }
+        let term = coded_term(alloc, reader, &mut positions)?;
+        terms.push(term)?;
+    }
+    Err(RunTextError::Memory)
+}
+
+/// Takes the term at hand with all its postings, none of which was given yet. `positions` is where they are read into.
+fn coded_term<R: Read + Drop>(
+    alloc: Global,
+    reader: &mut RunReader<R>,
+    positions: &mut Vec<u32>,
+) -> Result<CodedTerm, RunTextError>
+    requires begun { HasBegun reader.old }
+    requires at_hand { IsSome (term_of reader.old) }
+    ensures heading { heading_of reader.new.head ≡ heading_of reader.old.head }
+    ensures given { IfOk result (λ term. GivesTerm R.remaining reader.old reader.new (term_shown term)) }
+    ensures refused { (postings : List Posting) (entries : List DictionaryEntry) → Faces R.remaining reader.old postings entries → IfErr result IsRefusal }
+{
+    let term = String::from_str(alloc, reader.term())?;
+    let mut documents = 0;
+    let mut next = 0;
+    let mut list = Vec::new(alloc);
+    while let Some(document) = reader.next_posting(positions)? {
+        push_posting(&mut list, next, document, positions)?;
+        next = document + 1;
+        documents += 1;
+    }
+    Ok(CodedTerm {
+        term,
+        documents,
+        list,
+    })
+}
