@@ -11,18 +11,18 @@ use Rattle.ix_file.specs.HeldGrams.{HasPair, gram_of, pairs_of, pairs_of_term}
 
 -- ---- a list with one element more
 
-get-push_before : {A : Type 0} (xs : List A) (x y : A) (k : ℕ) → slice_get xs k ≡ Some y → slice_get (xs ++ x ∷ []) k ≡ Some y
+pub get-push_before : {A : Type 0} (xs : List A) (x y : A) (k : ℕ) → slice_get xs k ≡ Some y → slice_get (xs ++ x ∷ []) k ≡ Some y
 get-push_before [] x y k is = absurd cc
 get-push_before (z ∷ xs) x y zero is = is
 get-push_before (z ∷ xs) x y (suc k) is = get-push_before xs x y k is
 
-get-push_last : {A : Type 0} (xs : List A) (x : A) (k : ℕ) → k ≡ length xs → slice_get (xs ++ x ∷ []) k ≡ Some x
+pub get-push_last : {A : Type 0} (xs : List A) (x : A) (k : ℕ) → k ≡ length xs → slice_get (xs ++ x ∷ []) k ≡ Some x
 get-push_last [] x zero is = refl
 get-push_last [] x (suc k) is = absurd (omega (arith, is))
 get-push_last (z ∷ xs) x zero is = absurd (omega (arith, is))
 get-push_last (z ∷ xs) x (suc k) is = get-push_last xs x k (omega (arith, is))
 
-get-push_cases : {A : Type 0} (xs : List A) (x y : A) (k : ℕ) → slice_get (xs ++ x ∷ []) k ≡ Some y → (slice_get xs k ≡ Some y) ⊎ ((k ≡ length xs) × (x ≡ y))
+pub get-push_cases : {A : Type 0} (xs : List A) (x y : A) (k : ℕ) → slice_get (xs ++ x ∷ []) k ≡ Some y → (slice_get xs k ≡ Some y) ⊎ ((k ≡ length xs) × (x ≡ y))
 get-push_cases [] x y zero is = inr (refl, cc)
 get-push_cases [] x y (suc k) is = absurd cc
 get-push_cases (z ∷ xs) x y zero is = inl is
@@ -37,7 +37,7 @@ unfolding chars
 chars-after_mark [] = refl
 chars-after_mark (b ∷ bytes) = refl
 
-chars-marked : (term : List ℕ) → IsUtf8 term → chars (36 ∷ (term ++ 36 ∷ [])) ≡ 36 ∷ (chars term ++ 36 ∷ [])
+pub chars-marked : (term : List ℕ) → IsUtf8 term → chars (36 ∷ (term ++ 36 ∷ [])) ≡ 36 ∷ (chars term ++ 36 ∷ [])
 chars-marked term text =
     let mark : chars (36 ∷ []) ≡ 36 ∷ [] = chars-after_mark [] ∙ ap (λ (cs : List ℕ). 36 ∷ cs) chars-nil in
     chars-after_mark (term ++ 36 ∷ []) ∙ ap (λ (cs : List ℕ). 36 ∷ cs) (chars-append term (36 ∷ []) text ∙ ap (λ (cs : List ℕ). chars term ++ cs) mark)

@@ -24,12 +24,12 @@ pieces_to_end : {X : Type 0} (piece : X → List ℕ) → AreApart (λ _. Unit {
 pieces_to_end piece apart some xs ys e =
     (pieces_before_end (λ _. Unit {0}) piece (λ bytes. bytes ≡ []) apart (λ x bytes _ none. omega (arith, ap length none, length-append (piece x) bytes, some x)) xs ys [] [] (λ k d h. tt) (λ k d h. tt) refl refl (ap (λ bytes. bytes ++ []) e)).0
 
-stop_told : (one other : List (List ℕ)) → stop_section one ≡ stop_section other → one ≡ other
+pub stop_told : (one other : List (List ℕ)) → stop_section one ≡ stop_section other → one ≡ other
 unfolding stop_section
 stop_told one other e =
     pieces_to_end counted (λ text more xs ys _ _ same. counted-apart text more xs ys same) (λ text. omega (arith, some_code_byte (length text), length-append (code_of (length text)) text)) one other e
 
-rows_told : (one other : List DocumentRow) → documents_section one ≡ documents_section other → one ≡ other
+pub rows_told : (one other : List DocumentRow) → documents_section one ≡ documents_section other → one ≡ other
 unfolding documents_section
 rows_told one other e =
     pieces_to_end (λ (row : DocumentRow). counted row.name ++ code_of row.tokens) row_apart (λ row. omega (arith, some_code_byte row.tokens, length-append (counted row.name) (code_of row.tokens))) one other e

@@ -86,12 +86,12 @@ documents_few (p ∷ ps) are =
     omega (arith, (All-head IsPosting p ps are).0, documents_few ps (All-tail IsPosting p ps are), sum_by-cons (λ (posting : Posting). length posting.1) p ps)
 
 -- what the dictionary says of the term is small
-record IsSmallEntry (entry : DictionaryEntry) : Type 0 where
-  term : length entry.term ≤ 255
-  documents : length entry.postings < 2 ^ 32
-  size : length (list_bytes entry.postings) < 2 ^ 32
+pub record IsSmallEntry (entry : DictionaryEntry) : Type 0 where
+  pub term : length entry.term ≤ 255
+  pub documents : length entry.postings < 2 ^ 32
+  pub size : length (list_bytes entry.postings) < 2 ^ 32
 
-small_entries : (parts : Parts) → AreSmall parts → All IsSmallEntry parts.entries
+pub small_entries : (parts : Parts) → AreSmall parts → All IsSmallEntry parts.entries
 small_entries parts small k d h =
     let entry = get_or parts.entries k d in
     let few = get_or-le-sum_by (λ (e : DictionaryEntry). position_count e.postings) parts.entries k d h in

@@ -22,3 +22,7 @@ rows_in section rows = map (row_in section) rows
 pub record AreRows (rows : List DocumentRow) : Type 0 where
   pub names : All (λ row. IsName row.name) rows
   pub few_tokens : sum_by (λ row. row.tokens) rows ≤ 2 ^ 28
+
+-- the name of the row lies in the section
+abbrev pub IsNameRow : List ℕ → Row → Type 0
+IsNameRow section row = row.start + row.size ≤ length section

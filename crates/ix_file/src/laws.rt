@@ -1,6 +1,7 @@
 //! Laws of the index text. The functions do nothing: what they ensure is a fact about the definitions.
 ghost use Rattle.ix_file.specs.GramLaws.{GramsOfVocabularyAreOfCollection, TermsHaveOneGramList};
 ghost use Rattle.ix_file.specs.Laws.{HasOneVersion, HasSixtyFourBytes, IndexTextTellsCollection, IndexTextTellsVersionAndCollection};
+ghost use Rattle.ix_file.specs.OpenedLaws.{EntriesHavePostings, GramsHaveNumbers, NumbersTellEntries, OthersAreNoGram, OthersHaveNoPosting};
 ghost use Rattle.ix_file.specs.TellingLaws.{SettledFrontBeginsIndexText};
 
 /// An index text has at least 64 bytes.
@@ -37,4 +38,19 @@ pub fn terms_have_one_gram_list()
 /// begins an index text of that collection.
 pub fn settled_front_begins_index_text()
     ensures { SettledFrontBeginsIndexText }
+{}
+
+/// The postings that an opened index has under a term are exactly those of the term in its collection, and a term that
+/// it does not have is in no document. The term and the postings of one number belong together.
+pub fn opened_postings_are_of_the_collection()
+    ensures there { EntriesHavePostings }
+    ensures nowhere { OthersHaveNoPosting }
+    ensures numbered { NumbersTellEntries }
+{}
+
+/// The numbers that an opened index has under a gram are exactly those of the terms that have the gram, and a gram that
+/// it does not have is that of no term.
+pub fn opened_grams_are_of_the_collection()
+    ensures there { GramsHaveNumbers }
+    ensures nowhere { OthersAreNoGram }
 {}

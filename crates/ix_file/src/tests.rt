@@ -1,4 +1,5 @@
 //! The index text, byte for byte.
+mod opening;
 mod plain;
 mod sample;
 mod sinks;

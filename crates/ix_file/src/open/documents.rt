@@ -3,7 +3,7 @@ ghost use Rattle.std.specs.Prelude.{◌≡◌, ◌≢◌, ◌⊎◌, ◌↔◌, 
 ghost use Rattle.ix_vbyte.specs.Texts.{counted};
 ghost use Rattle.ix_text.specs.Collections.{IsName, IsNameByte};
 ghost use Rattle.ix_text.specs.Parts.{DocumentRow};
-ghost use Rattle.ix_file.specs.OpenedRows.{AreRows, row_bytes, row_in, rows_in};
+ghost use Rattle.ix_file.specs.OpenedRows.{AreRows, IsNameRow, row_bytes, row_in, rows_in};
 ghost use Rattle.ix_file.specs.Sections.{documents_section};
 ghost use Rattle.ix_file.specs.declared.open_error.OpenError.TheVariants.{Memory};
 
@@ -35,6 +35,7 @@ pub(crate) fn read_documents(
 ) -> Result<Vec<Row>, OpenError>
     ensures rows { IfOk result (λ rows. AreRows (rows_in section.now rows.items) × (section.now ≡ documents_section (rows_in section.now rows.items))) }
     ensures count { IfOk result (λ rows. length rows.items ≡ count) }
+    ensures placed { IfOk result (λ rows. All (IsNameRow section.now) rows.items) }
     ensures refused { IfErr result (λ error. (error ≡ Memory) ⊎ ((rows : List DocumentRow) → AreRows rows → length rows ≡ count → section.now ≢ documents_section rows)) }
 {
     let mut rows = Vec::new(alloc);
@@ -59,6 +60,7 @@ pub(crate) fn read_documents(
 fn read_row<'a>(section: &[u8], left: &'a [u8]) -> Result<(Row, &'a [u8]), OpenError>
     requires { (before : List ℕ) × (section.now ≡ before ++ left.now) }
     ensures name { IfOk result (λ read. IsName (row_in section.now read.0).name) }
+    ensures placed { IfOk result (λ read. IsNameRow section.now read.0) }
     ensures found { IfOk result (λ read. left.now ≡ row_bytes (row_in section.now read.0) ++ read.1.now) }
     ensures refused { OnErr result ((row : DocumentRow) (rest : List ℕ) → IsName row.name → row.tokens < 2 ^ 32 → left.now ≢ row_bytes row ++ rest) }
 {

@@ -1,30 +1,66 @@
 //! The text of version 1, written plainly from its definition: every section on its own, and then one behind another.
-use super::sample::{Entry, Sample, entries, small, token_count};
+use super::sample::{Entry, Sample, entries, rows, small};
+use crate::DocRow;
 use ix_text::trigrams;
 use ix_vbyte::encode;
 use std::alloc::{AllocError, Global};
 
 /// The index text of version 1 of a collection.
 pub(crate) fn plain_text(alloc: Global, sample: &Sample) -> Result<Vec<u8>, AllocError> {
-    let entries = entries(alloc, sample)?;
-    let sections = [
-        postings_section(alloc, &entries)?,
-        stop_section(alloc, sample)?,
-        documents_section(alloc, sample)?,
-        dictionary_section(alloc, &entries)?,
-        grams_section(alloc, &entries)?,
-    ];
+    let mut stop = Vec::new(alloc);
+    for word in sample.stop.lines() {
+        stop.push(String::from_str(alloc, word)?)?;
+    }
+    plain_text_of(
+        alloc,
+        &stop,
+        &rows(alloc, sample)?,
+        &entries(alloc, sample)?,
+    )
+}
+
+/// The index text of version 1 of these stop terms, rows and entries.
+pub(crate) fn plain_text_of(
+    alloc: Global,
+    stop: &[String],
+    rows: &[DocRow<'_>],
+    entries: &[Entry],
+) -> Result<Vec<u8>, AllocError> {
+    let counts = [small(rows.len()), small(entries.len())];
+    let postings = postings_section(alloc, entries)?;
+    let stop = stop_section(alloc, stop)?;
+    let documents = documents_section(alloc, rows)?;
+    let dictionary = dictionary_section(alloc, entries)?;
+    let grams = grams_section(alloc, entries)?;
+    framed_text(
+        alloc,
+        b'1',
+        [&postings, &stop, &documents, &dictionary, &grams],
+        counts,
+    )
+}
+
+/// The text of a version with these sections, and these numbers of documents and terms.
+pub(crate) fn framed_text(
+    alloc: Global,
+    version: u8,
+    sections: [&[u8]; 5],
+    counts: [u32; 2],
+) -> Result<Vec<u8>, AllocError> {
     let mut text = Vec::new(alloc);
-    text.extend_from_slice(b"PIIX0001")?;
-    for section in &sections {
+    text.extend_from_slice(b"PIIX000")?;
+    text.push(version)?;
+    for section in sections {
         text.extend_from_slice(section)?;
     }
-    for section in &sections {
+    for section in sections {
         text.extend_from_slice(&(section.len() as u64).to_le_bytes())?;
     }
-    text.extend_from_slice(&small(sample.documents.len()).to_le_bytes())?;
-    text.extend_from_slice(&small(entries.len()).to_le_bytes())?;
-    text.extend_from_slice(b"PIIXEND1")?;
+    for count in counts {
+        text.extend_from_slice(&count.to_le_bytes())?;
+    }
+    text.extend_from_slice(b"PIIXEND")?;
+    text.push(version)?;
     Ok(text)
 }
 
@@ -36,19 +72,19 @@ fn postings_section(alloc: Global, entries: &[Entry]) -> Result<Vec<u8>, AllocEr
     Ok(section)
 }
 
-fn stop_section(alloc: Global, sample: &Sample) -> Result<Vec<u8>, AllocError> {
+fn stop_section(alloc: Global, stop: &[String]) -> Result<Vec<u8>, AllocError> {
     let mut section = Vec::new(alloc);
-    for word in sample.stop.lines() {
-        push_text(&mut section, word)?;
+    for term in stop {
+        push_text(&mut section, term)?;
     }
     Ok(section)
 }
 
-fn documents_section(alloc: Global, sample: &Sample) -> Result<Vec<u8>, AllocError> {
+fn documents_section(alloc: Global, rows: &[DocRow<'_>]) -> Result<Vec<u8>, AllocError> {
     let mut section = Vec::new(alloc);
-    for (name, tokens) in sample.documents {
-        push_text(&mut section, name)?;
-        push_number(&mut section, token_count(tokens))?;
+    for row in rows {
+        push_text(&mut section, row.name)?;
+        push_number(&mut section, row.tokens)?;
     }
     Ok(section)
 }

@@ -7,17 +7,17 @@ use std::alloc::Global;
 use std::process::Abort;
 use std::test::Fail;
 
-const EMPTY: Sample = Sample {
+pub(crate) const EMPTY: Sample = Sample {
     stop: "",
     documents: &[],
 };
 
-const ONE_DOCUMENT: Sample = Sample {
+pub(crate) const ONE_DOCUMENT: Sample = Sample {
     stop: "",
     documents: &[("d", "a a")],
 };
 
-const FIVE_DOCUMENTS: Sample = Sample {
+pub(crate) const FIVE_DOCUMENTS: Sample = Sample {
     stop: "",
     documents: &[
         ("a", "x y"),
@@ -29,7 +29,7 @@ const FIVE_DOCUMENTS: Sample = Sample {
 };
 
 /// `flights to london` under the stop word `to`.
-const STOP_WORD: Sample = Sample {
+pub(crate) const STOP_WORD: Sample = Sample {
     stop: "to",
     documents: &[("d", "flights - london")],
 };
@@ -39,19 +39,19 @@ pub(crate) const RED: Sample = Sample {
     documents: &[("d", "red redo retired")],
 };
 
-const FRONTS: Sample = Sample {
+pub(crate) const FRONTS: Sample = Sample {
     stop: "",
     documents: &[("d", "a ab abc abcd abcde")],
 };
 
 /// Two terms that share the first byte of a character.
-const ACCENTS: Sample = Sample {
+pub(crate) const ACCENTS: Sample = Sample {
     stop: "",
     documents: &[("d", "è é")],
 };
 
 /// Three groups, the last of one term.
-const NINE_TERMS: Sample = Sample {
+pub(crate) const NINE_TERMS: Sample = Sample {
     stop: "",
     documents: &[("d", "a b c d e f g h i")],
 };
@@ -60,7 +60,7 @@ const NINE_TERMS: Sample = Sample {
 const LONG_NAME: &str =
     "nnnnnnnnnnnnnnnnnnnnnnnnnnnnnnnnnnnnnnnnnnnnnnnnnnnnnnnnnnnnnnnnnnnnnnnnnnnnnnnnnnnnnnnnnnnnnnnnnnnnnnnnnnnnnnnnnnnnnnnnnnnnnnnnnnnnnnnnnnnnnnnnnnnnnnnnnnnnnnnnnnnnnnnnnnnnnnnnnnnnnnnnnnnnnnnnnnnnnnnnnnnnnnnnnnnnnnnnnnnnnnnnnnnnnnnnnnnnnnnnnnnnnnnnnnnnnnn";
 
-const LONG_NAMED: Sample = Sample {
+pub(crate) const LONG_NAMED: Sample = Sample {
     stop: "",
     documents: &[(LONG_NAME, "a")],
 };
@@ -140,66 +140,69 @@ fn plain_lengths_of_version_one(rt: HostRuntime) -> Result<(), Fail> {
     Ok(())
 }
 
-#[test]
-fn texts_of_version_two(rt: HostRuntime) -> Result<(), Fail> {
-    let alloc = rt.alloc();
-    for (sample, want) in [
-        (
-            EMPTY,
-            "5049495830303032 \
+/// Collections, and their texts of version 2 as digits in base 16.
+const VERSION_TWO: [(Sample, &str); 8] = [
+    (
+        EMPTY,
+        "5049495830303032 \
              0000000000000000 0000000000000000 0000000000000000 0000000000000000 0000000000000000 \
              00000000 00000000 50494958454e4432",
-        ),
-        (
-            ONE_DOCUMENT,
-            "5049495830303032 81828181 816482 81618184 \
+    ),
+    (
+        ONE_DOCUMENT,
+        "5049495830303032 81828181 816482 81618184 \
              832461248181 \
              0400000000000000 0000000000000000 0300000000000000 0400000000000000 0600000000000000 \
              01000000 01000000 50494958454e4432",
-        ),
-        (
-            FIVE_DOCUMENTS,
-            "5049495830303032 81818183818281818181818281818182828182 816182816281816380816483816581 81788389808179838a \
+    ),
+    (
+        FIVE_DOCUMENTS,
+        "5049495830303032 81818183818281818181818281818182828182 816182816281816380816483816581 81788389808179838a \
              832478248181832479248182 \
              1300000000000000 0000000000000000 0f00000000000000 0900000000000000 0c00000000000000 \
              05000000 02000000 50494958454e4432",
-        ),
-        (
-            STOP_WORD,
-            "5049495830303032 818181818183 82746f 816483 87666c6967687473818380866c6f6e646f6e8183 \
+    ),
+    (
+        STOP_WORD,
+        "5049495830303032 818181818183 82746f 816483 87666c6967687473818380866c6f6e646f6e8183 \
              8324666c818183246c6f818283646f6e818283666c698181836768748181836874738181836967688181836c69678181836c6f6e8182836e646f8182836f6e248182836f6e648182837473248181 \
              0600000000000000 0300000000000000 0300000000000000 1400000000000000 4e00000000000000 \
              01000000 02000000 50494958454e4432",
-        ),
-        (
-            RED,
-            "5049495830303032 818181818182818183 816483 83726564818383816f8183828574697265648183 \
+    ),
+    (
+        RED,
+        "5049495830303032 818181818182818183 816483 83726564818383816f8183828574697265648183 \
              832472658381818183646f248182836564248281828365646f81828365746981838369726581838372656483818181837265748183837469728183 \
              0900000000000000 0000000000000000 0300000000000000 1400000000000000 3b00000000000000 \
              01000000 03000000 50494958454e4432",
-        ),
-        (
-            FRONTS,
-            "5049495830303032 818181818182818183818184818185 816485 816181838181628183828163818383816481838561626364658183 \
+    ),
+    (
+        FRONTS,
+        "5049495830303032 818181818182818183818184818185 816485 816181838181628183828163818383816481838561626364658183 \
              832461248181832461628482818181836162248182836162638383818183626324818383626364828481836364248184836364658185836465248185 \
              0f00000000000000 0000000000000000 0300000000000000 1b00000000000000 3c00000000000000 \
              01000000 05000000 50494958454e4432",
-        ),
-        (
-            ACCENTS,
-            "5049495830303032 818181818182 816482 82c3a881838181a98183 \
+    ),
+    (
+        ACCENTS,
+        "5049495830303032 818181818182 816482 82c3a881838181a98183 \
              8424c3a82481818424c3a9248182 \
              0600000000000000 0000000000000000 0300000000000000 0a00000000000000 0e00000000000000 \
              01000000 02000000 50494958454e4432",
-        ),
-        (
-            NINE_TERMS,
-            "5049495830303032 818181818182818183818184818185818186818187818188818189 816489 816181838081628183808163818380816481838165818380816681838081678183808168818381698183 \
+    ),
+    (
+        NINE_TERMS,
+        "5049495830303032 818181818182818183818184818185818186818187818188818189 816489 816181838081628183808163818380816481838165818380816681838081678183808168818381698183 \
              832461248181832462248182832463248183832464248184832465248185832466248186832467248187832468248188832469248189 \
              1b00000000000000 0000000000000000 0300000000000000 2a00000000000000 3600000000000000 \
              01000000 09000000 50494958454e4432",
-        ),
-    ] {
+    ),
+];
+
+#[test]
+fn texts_of_version_two(rt: HostRuntime) -> Result<(), Fail> {
+    let alloc = rt.alloc();
+    for (sample, want) in VERSION_TWO {
         let got = digits(alloc, &coded_text(&rt, alloc, &sample)?)?;
         let want = joined(alloc, want)?;
         assert_eq!(rt; got.as_str(), want.as_str());

@@ -1,13 +1,14 @@
-use Rattle.std.proofs.Common.{◌≡◌, ◌<◌, ◌+◌, ◌∷◌, [], ◌++◌, length, map, inl, inr, refl, sym, ap, ◌∙◌, arith}
+use Rattle.std.proofs.Common.{All, ◌≡◌, ◌<◌, ◌+◌, ◌∷◌, [], ◌++◌, length, map, inl, inr, refl, sym, ap, ◌∙◌, arith}
 use Rattle.std.proofs.lemmas.Bool.Decides.{nat_tests}
 use Rattle.std.proofs.lemmas.List.{map-append, length-map}
+use Rattle.std.proofs.lemmas.List.Elements.{All-nil, All-push}
 use Rattle.std.proofs.lemmas.Result.{err_from_is_err_and}
-use Rattle.ix_file.specs.OpenedRows.{row_in, rows_in}
+use Rattle.ix_file.specs.OpenedRows.{IsNameRow, row_in, rows_in}
 use Rattle.ix_file.proofs.RowReading.{no_rows, rows_of_none, rows_more, rows_push, tokens_of, tokens_push, none_next, these_rows, rows_apart}
 use Rattle.ix_file.proofs.open.documents.read_documents.Goals as goal
 
 pub loop-left-init : goal.loop-left-init
-loop-left-init c = rw c.new-rows.ensures.items (record { lawful = no_rows; sum = refl; small = omega arith; read = rows_of_none c.args.section.now })
+loop-left-init c = rw c.new-rows.ensures.items (record { lawful = no_rows; sum = refl; placed = All-nil (IsNameRow c.args.section.now); small = omega arith; read = rows_of_none c.args.section.now })
 
 pub returns-in_err-row-clause-refused : goal.returns-in_err-row-clause-refused
 returns-in_err-row-clause-refused c =
@@ -43,8 +44,10 @@ loop-left-preserved c =
     let sum : c.loop-left.tokens ≡ tokens_of old = c.loop-left.invariant.sum in
     let few = c.if-row-tokens.false in
     let small = c.loop-left.invariant.small in
+    let placed : All (IsNameRow section) c.push.new.self.items = rw c.in_ok-push.ensures.items (All-push (IsNameRow section) c.loop-left.rows.items c.in_ok-row.row c.loop-left.invariant.placed c.in_ok-row.ensures.placed) in
     rw pushed
     (record {
+      placed = placed;
       lawful = rows_push old row c.loop-left.invariant.lawful c.in_ok-row.ensures.name (omega arith);
       sum = omega (arith, tokens_push old row);
       small = omega arith;

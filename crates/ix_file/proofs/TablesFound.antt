@@ -1,0 +1,141 @@
+-- What was read of the sections, one by one, is what an index holds: tables that tell lawful parts, which spell the sections.
+use Rattle.std.proofs.Common.{◌≡◌, ℕ, ◌+◌, ◌^◌, ◌<◌, ◌≤◌, List, [], ◌∷◌, map, length, get_or, All, Contains, refl, sym, ap, ◌∙◌, subst, arith}
+use Rattle.std.proofs.lemmas.List.{get_or-map, length-map}
+use Rattle.std.proofs.lemmas.List.Elements.{All-contains, All-map}
+use Rattle.ix_text.specs.ByteOrder.{IsAscending}
+use Rattle.ix_text.specs.Parts.{DictionaryEntry, DocumentRow, Posting}
+use Rattle.ix_text.specs.PartsLaws.{AreLawful, IsLawfulTerm}
+use Rattle.ix_text.specs.StopSets.{IsStopSet}
+use Rattle.ix_text.specs.Terms.{IsTerm}
+use Rattle.ix_text.specs.TokenLaws.{AreInOrder, IsPostingIn}
+use Rattle.ix_text.proofs.TokensApart.{lawful_if_distinct}
+use Rattle.ix_file.specs.Frames.{SectionTexts}
+use Rattle.ix_file.specs.Grams.{AreGramsOfTerms}
+use Rattle.ix_file.specs.Listings.{AreLaidOut, AreListings, Listing, listing_in, listing_of, listings_in, listings_section, sizes_sum}
+use Rattle.ix_file.specs.OpenedGrams.{IsGramRow, grams_in}
+use Rattle.ix_file.specs.OpenedRows.{AreRows, IsNameRow, row_in, rows_in}
+use Rattle.ix_file.specs.ReadLists.{AreListsIn}
+use Rattle.ix_file.specs.Sections.{Version, documents_section, grams_section, stop_section}
+use Rattle.ix_file.specs.Spelled.{AreSectionsOf}
+use Rattle.ix_file.specs.Tables.{AreTablesOf, entries_in, entry_in, parts_in, term_in}
+use Rattle.ix_file.specs.declared.open.dictionary.TermRow.{TermRow}
+use Rattle.ix_file.specs.declared.tables.Tables.{Tables}
+use Rattle.ix_file.proofs.ListingsTold.{dictionary_listings}
+use Rattle.ix_file.proofs.ListsFound.{AreFew, IsListed, each_listed, entries_distinct, entries_listed, laid_out, lie_within, list_row, lists_are, lists_whole, postings_joined}
+use Rattle.ix_file.proofs.OpenedLemmas.{terms_in}
+
+-- what the readings of the sections answered
+pub record AreRead (version : Version) (texts : SectionTexts) (tables : Tables) (document_count term_count : ℕ) : Type 0 where
+  pub stop_set : IsStopSet tables.stop
+  pub stop : texts.stop ≡ stop_section tables.stop
+  pub rows : AreRows (rows_in texts.documents tables.rows.items)
+  pub documents : texts.documents ≡ documents_section (rows_in texts.documents tables.rows.items)
+  pub rows_counted : length tables.rows.items ≡ document_count
+  pub few_documents : document_count ≤ 2 ^ 28
+  pub names : All (IsNameRow texts.documents) tables.rows.items
+  pub listings : AreListings tables.stop (listings_in tables.terms.items)
+  pub dictionary : texts.dictionary ≡ listings_section version (listings_in tables.terms.items)
+  pub terms_counted : length tables.terms.items ≡ term_count
+  pub sizes : sizes_sum (listings_in tables.terms.items) ≡ length texts.postings
+  pub laid_out : AreLaidOut tables.terms.items
+  pub lists : List (List Posting)
+  pub listed : AreListsIn (rows_in texts.documents tables.rows.items) texts.postings tables.terms.items lists
+  pub of_terms : AreGramsOfTerms (map term_in tables.terms.items) (grams_in texts.grams tables.grams.items)
+  pub grams : texts.grams ≡ grams_section (grams_in texts.grams tables.grams.items)
+  pub gaps : All (IsGramRow texts.grams) tables.grams.items
+
+pub listed_terms : (rows : List TermRow) → map (λ listing. listing.term) (listings_in rows) ≡ map term_in rows
+listed_terms [] = refl
+listed_terms (row ∷ rows) = ap (λ terms. term_in row ∷ terms) (listed_terms rows)
+
+module _ (version : Version) (texts : SectionTexts) (tables : Tables) (document_count term_count : ℕ) (read : AreRead version texts tables document_count term_count) where
+  abbrev rows : List DocumentRow
+  rows = rows_in texts.documents tables.rows.items
+
+  abbrev entries : List DictionaryEntry
+  entries = entries_in texts.postings tables.terms.items
+
+  few : AreFew rows
+  few = record { documents = omega (arith, read.rows_counted, read.few_documents, length-map tables.rows.items (row_in texts.documents)); tokens = read.rows.few_tokens }
+
+  within : All (λ row. row.start + row.size ≤ length texts.postings) tables.terms.items
+  within = lie_within texts.postings 0 tables.terms.items (laid_out tables.terms.items read.laid_out) (omega (arith, read.sizes))
+
+  each : All (IsListed rows texts.postings) tables.terms.items
+  each = each_listed rows texts.postings tables.terms.items read.lists few read.listed.each
+
+  listings : map listing_of entries ≡ listings_in tables.terms.items
+  listings = entries_listed rows texts.postings tables.terms.items each within
+
+  lawful_term : (row : TermRow) → IsListed rows texts.postings row → IsTerm (term_in row) → (Contains tables.stop (term_in row) → ⊥) → IsLawfulTerm (parts_in texts tables) (entry_in texts.postings row)
+  lawful_term row listed term no_stop = record {
+    term = term;
+    no_stop = no_stop;
+    ordered = listed.are;
+    in_range = λ number position has.
+        (All-contains (IsPostingIn rows) (entry_in texts.postings row).postings (number, has.positions) listed.each has.among).in_range position has.positioned;
+  }
+
+  lawful_terms : All (IsLawfulTerm (parts_in texts tables)) entries
+  lawful_terms =
+      All-map (IsLawfulTerm (parts_in texts tables)) (entry_in texts.postings) tables.terms.items
+      (λ k d below.
+      let row = get_or tables.terms.items k d in
+      let listed = listing_at k d below in
+      lawful_term row (each k d below) (listed.0) (listed.1))
+    where
+      listing_at : (k : ℕ) (d : TermRow) → k < length tables.terms.items → IsTerm (term_in (get_or tables.terms.items k d)) × (Contains tables.stop (term_in (get_or tables.terms.items k d)) → ⊥)
+      listing_at k d below =
+          let same = get_or-map listing_in tables.terms.items k d (listing_in d) below in
+          let inside : k < length (listings_in tables.terms.items) = omega (arith, below, length-map tables.terms.items listing_in) in (
+            subst (λ (listing : Listing). IsTerm listing.term) same (read.listings.terms k (listing_in d) inside),
+            subst (λ (listing : Listing). Contains tables.stop listing.term → ⊥) same (read.listings.unstopped k (listing_in d) inside),
+          )
+
+  in_order : AreInOrder (parts_in texts tables)
+  in_order = record {
+    stop_terms = read.stop_set.terms;
+    stop_ascending = read.stop_set.ascending;
+    few_stop_terms = read.stop_set.few;
+    names = read.rows.names;
+    few_documents = few.documents;
+    few_tokens = few.tokens;
+    ascending = subst IsAscending (listed_terms tables.terms.items ∙ sym (terms_in texts.postings tables.terms.items)) read.listings.ascending;
+    terms = lawful_terms;
+  }
+
+  lawful : AreLawful (parts_in texts tables)
+  lawful =
+      lawful_if_distinct (parts_in texts tables) in_order
+      (entries_distinct rows entries read.lists (lists_are rows texts.postings tables.terms.items read.lists few read.listed.each) read.listed.distinct)
+
+  pub tables_found : AreTablesOf texts tables
+  tables_found = record {
+    lawful = lawful;
+    grams = subst (λ (terms : List (List ℕ)). AreGramsOfTerms terms (grams_in texts.grams tables.grams.items)) (sym (terms_in texts.postings tables.terms.items)) read.of_terms;
+    names = read.names;
+    lists = λ k d below. list_row rows texts.postings (get_or tables.terms.items k d) few (each k d below) (within k d below);
+    gaps = read.gaps;
+  }
+
+  same_texts : (postings stop documents dictionary grams : List ℕ) → texts.postings ≡ postings → texts.stop ≡ stop → texts.documents ≡ documents → texts.dictionary ≡ dictionary → texts.grams ≡ grams → texts ≡ record { postings = postings; stop = stop; documents = documents; dictionary = dictionary; grams = grams }
+  same_texts postings stop documents dictionary grams a b c d e =
+      let with_a : List ℕ → SectionTexts = λ x. record { postings = x; stop = texts.stop; documents = texts.documents; dictionary = texts.dictionary; grams = texts.grams } in
+      let with_b : List ℕ → SectionTexts = λ x. record { postings = postings; stop = x; documents = texts.documents; dictionary = texts.dictionary; grams = texts.grams } in
+      let with_c : List ℕ → SectionTexts = λ x. record { postings = postings; stop = stop; documents = x; dictionary = texts.dictionary; grams = texts.grams } in
+      let with_d : List ℕ → SectionTexts = λ x. record { postings = postings; stop = stop; documents = documents; dictionary = x; grams = texts.grams } in
+      let with_e : List ℕ → SectionTexts = λ x. record { postings = postings; stop = stop; documents = documents; dictionary = dictionary; grams = x } in
+      ap with_a a ∙ ap with_b b ∙ ap with_c c ∙ ap with_d d ∙ ap with_e e
+
+  pub sections_found : AreSectionsOf version (parts_in texts tables) (grams_in texts.grams tables.grams.items) texts document_count term_count
+  sections_found = record {
+    spelled =
+        same_texts _ _ _ _ _
+        (sym (lists_whole texts.postings tables.terms.items read.laid_out read.sizes) ∙ postings_joined rows texts.postings tables.terms.items each)
+        read.stop
+        read.documents
+        (read.dictionary ∙ ap (listings_section version) (sym listings) ∙ sym (dictionary_listings version entries))
+        read.grams;
+    document_count = sym read.rows_counted ∙ sym (length-map tables.rows.items (row_in texts.documents));
+    term_count = sym read.terms_counted ∙ sym (length-map tables.terms.items (entry_in texts.postings));
+  }

@@ -1,0 +1,16 @@
+use Rattle.std.proofs.Common.{◌≡◌, ◌++◌, length, min}
+use Rattle.ix_file.specs.Frames.{version_in}
+use Rattle.ix_file.specs.Listings.{AreListings, listings_in, listings_section, sizes_sum}
+use Rattle.ix_file.proofs.ListingReading.{LieFrom, most}
+use Rattle.ix_file.proofs.open.dictionary.read_dictionary.Given as goal
+
+abbrev pub invariant-loop-left : goal.invariant-loop-left
+invariant-loop-left l = record {
+  lawful : AreListings l.stop (listings_in l.rows.items);
+  read : l.section ≡ listings_section (version_in l.version) (listings_in l.rows.items) ++ l.left;
+  end : l.start ≡ min (sizes_sum (listings_in l.rows.items)) most;
+  lie : LieFrom 0 l.rows.items;
+}
+
+abbrev pub decreases-loop-left : goal.decreases-loop-left
+decreases-loop-left l = length l.left

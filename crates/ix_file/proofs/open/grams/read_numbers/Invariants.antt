@@ -1,0 +1,7 @@
+use Rattle.ix_file.specs.HeldGrams.{gram_of}
+use Rattle.ix_file.specs.OpenedGrams.{terms_in}
+use Rattle.ix_file.proofs.GramNumbers.{NumbersRead}
+use Rattle.ix_file.proofs.open.grams.read_numbers.Given as goal
+
+abbrev pub invariant-loop : goal.invariant-loop
+invariant-loop l = NumbersRead (terms_in l.terms) (gram_of l.pair) l.fn.left l.counter l.next l.rest

@@ -1,0 +1,55 @@
+-- The grams of an opened index, where they stand in GRAMS.
+use Rattle.std.specs.Prelude.{◌≡◌, ◌≢◌, ℕ, ◌+◌, ◌<◌, ◌≤◌, List, ◌++◌, map, length, slice_range, slice_get, string_bytes, Some, Option, IfSome, IfNone, All}
+use Rattle.ix_text.specs.Parts.{GramEntry}
+use Rattle.ix_vbyte.specs.Code.{code_of}
+use Rattle.ix_vbyte.specs.Gaps.{Ascends, gaps_of}
+use Rattle.ix_vbyte.specs.Postings.{codes_of}
+use Rattle.ix_vbyte.specs.Texts.{counted}
+use Rattle.ix_vbyte.specs.Walking.{ArePositionsFrom, positions_told}
+use Rattle.ix_file.specs.Grams.{IsGramOfTerm}
+use Rattle.ix_file.specs.declared.open.dictionary.TermRow.{TermRow}
+use Rattle.ix_file.specs.declared.open.grams.GramRow.{GramRow}
+
+-- the terms of a table
+abbrev pub terms_in : List TermRow → List (List ℕ)
+terms_in rows = map (λ row. string_bytes row.term) rows
+
+-- the entry that a row of the table stands for, in this section
+abbrev pub gram_in : List ℕ → GramRow → GramEntry
+gram_in section row = record {
+  gram = slice_range section row.start (row.start + row.size);
+  numbers = positions_told 0 (slice_range section row.numbers (row.numbers + row.numbers_size));
+}
+
+-- the entries of a table
+abbrev pub grams_in : List ℕ → List GramRow → List GramEntry
+grams_in section rows = map (gram_in section) rows
+
+-- the row lies in the section, and where it says there stand the gaps of as many numbers as it says
+pub record IsGramRow (section : List ℕ) (row : GramRow) : Type 0 where
+  pub gram : row.start + row.size ≤ length section
+  pub numbers : row.numbers + row.numbers_size ≤ length section
+  pub coded : ArePositionsFrom 0 row.count (slice_range section row.numbers (row.numbers + row.numbers_size))
+
+-- the place found is that of an entry with the gram, and where none is found there is no such entry
+pub record FindsGram (grams : List GramEntry) (gram : List ℕ) (found : Option ℕ) : Type 0 where
+  pub there : IfSome found (λ place. (entry : GramEntry) × (slice_get grams place ≡ Some entry) × (entry.gram ≡ gram))
+  pub nowhere : IfNone found (All (λ entry. entry.gram ≢ gram) grams)
+
+-- the gaps of numbers, one behind another
+abbrev pub gap_codes : List ℕ → List ℕ
+gap_codes numbers = codes_of (gaps_of numbers)
+
+-- what GRAMS has of a gram
+abbrev pub gram_bytes : GramEntry → List ℕ
+gram_bytes entry = counted entry.gram ++ code_of (length entry.numbers) ++ gap_codes entry.numbers
+
+-- ascending numbers of terms, each of which has the gram
+pub record AreNumbersOf (terms : List (List ℕ)) (gram : List ℕ) (numbers : List ℕ) : Type 0 where
+  pub ascend : Ascends 0 (length terms) numbers
+  pub right : All (IsGramOfTerm terms gram) numbers
+
+-- a gram with some of the terms that have it
+pub record IsRightEntry (terms : List (List ℕ)) (entry : GramEntry) : Type 0 where
+  pub some : 0 < length entry.numbers
+  pub numbers : AreNumbersOf terms entry.gram entry.numbers

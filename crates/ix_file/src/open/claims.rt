@@ -1,0 +1,80 @@
+//! The tokens that the lists of an index text claim, each by its number in the whole collection.
+ghost use Rattle.std.specs.Prelude.{◌≡◌, ℕ, ◌<◌, ◌∷◌, [], ◌↔◌, List, IfOk, OnOk, IsTrue};
+ghost use Rattle.std.specs.List.Sorted.{IsStrictlyIncreasing};
+ghost use Rattle.ix_text.specs.TokenNumbers.{AreDistinct};
+ghost use Rattle.ix_file.specs.Claimed.{HasClaimed, HasRoom, HaveClaimed};
+
+use ix_text::TokenMarks;
+use std::alloc::{AllocError, Global};
+
+/// How many marks take a byte.
+const MARKS_A_BYTE: u32 = 8;
+
+/// The tokens that were claimed so far.
+#[derive(Drop)]
+pub(crate) enum Claims {
+    /// A mark for each, and whether a token that had one was claimed again.
+    Marked(TokenMarks, bool),
+    /// Their numbers, in the order of the claims.
+    Listed(Vec<u32>),
+}
+
+impl Claims {
+    /// No claims, with room for the tokens of a collection: marks where they take no more bytes than the file has,
+    /// and else a list, so that a file that tells of many tokens and has few takes no more memory than its own size.
+    pub(crate) fn new(alloc: Global, tokens: u32, file_bytes: usize) -> Result<Claims, AllocError>
+        ensures none { IfOk result (λ claims. HasClaimed claims []) }
+        ensures room { IfOk result (λ claims. HasRoom claims tokens) }
+    {
+        if (tokens / MARKS_A_BYTE) as usize <= file_bytes {
+            let marks = TokenMarks::new(alloc, tokens)?;
+            Ok(Claims::Marked(marks, false))
+        } else {
+            Ok(Claims::Listed(Vec::new(alloc)))
+        }
+    }
+
+    /// Claims the token of this number.
+    #[inline]
+    pub(crate) fn claim(&mut self, number: u32) -> Result<(), AllocError>
+        requires { (top : ℕ) × HasRoom self.old top × (number < top) }
+        ensures claimed { OnOk result (HaveClaimed self.old self.new (number ∷ [])) }
+        ensures room { (top : ℕ) → HasRoom self.old top → HasRoom self.new top }
+    {
+        match self {
+            Claims::Marked(marks, doubled) => {
+                *doubled |= !marks.mark(number);
+                Ok(())
+            }
+            Claims::Listed(numbers) => {
+                numbers.push(number)?;
+                Ok(())
+            }
+        }
+    }
+
+    /// Whether a token was claimed more than once.
+    pub(crate) fn are_doubled(self) -> bool
+        ensures { (numbers : List ℕ) → HasClaimed self numbers → IsTrue result ↔ ¬ (AreDistinct numbers) }
+    {
+        match self {
+            Claims::Marked(_, doubled) => doubled,
+            Claims::Listed(mut numbers) => {
+                numbers.sort_unstable();
+                !are_rising(&numbers)
+            }
+        }
+    }
+}
+
+/// Whether each number is below the next.
+fn are_rising(numbers: &[u32]) -> bool
+    ensures { IsTrue result ↔ IsStrictlyIncreasing numbers.now }
+{
+    for place in 1..numbers.len() {
+        if numbers[place] <= numbers[place - 1] {
+            return false;
+        }
+    }
+    true
+}

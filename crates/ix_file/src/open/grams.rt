@@ -1,0 +1,272 @@
+//! The grams of an index text. They are those of the terms where each that is listed is right, and where there are as
+//! many as the terms have: so nothing is put in order again.
+ghost use Rattle.std.specs.Prelude.{◌≡◌, ◌≢◌, ◌⊎◌, ◌↔◌, ℕ, ◌+◌, ◌-◌, ◌^◌, ◌<◌, ◌≤◌, ◌++◌, ◌∷◌, [], List, map, length, All, IsTrue, IfOk, IfErr, OnErr, MatchOption, ⊤};
+ghost use Rattle.ix_text.specs.ByteOrder.{IsAscending};
+ghost use Rattle.ix_text.specs.Parts.{GramEntry};
+ghost use Rattle.ix_file.specs.Grams.{AreGramsOfTerms, IsGramOfTerm};
+ghost use Rattle.ix_file.specs.HeldGrams.{gram_of};
+ghost use Rattle.ix_file.specs.OpenedGrams.{AreNumbersOf, FindsGram, IsGramRow, IsRightEntry, gap_codes, gram_in, grams_in, terms_in};
+ghost use Rattle.ix_file.specs.OpenedGrams as opened;
+ghost use Rattle.ix_file.specs.Sections.{grams_section};
+ghost use Rattle.ix_file.specs.declared.open_error.OpenError.TheVariants.{Memory};
+
+use crate::grams::GramPair;
+use crate::open::dictionary::TermRow;
+use crate::open::front::{number, text};
+use crate::open::pairs::{check_total, has_gram, pair_of};
+use crate::{OpenError, Section};
+use std::alloc::Global;
+use std::cmp::Ordering;
+
+/// A gram: where it stands in GRAMS and how many bytes it has, how many terms have it, and where in GRAMS the gaps
+/// of their numbers stand and how many bytes these take.
+#[derive(Clone, Copy, Debug, PartialEq, Eq)]
+pub(crate) struct GramRow {
+    pub(crate) start: usize,
+    pub(crate) size: u8,
+    pub(crate) count: u32,
+    pub(crate) numbers: usize,
+    pub(crate) numbers_size: usize,
+}
+
+/// Reads GRAMS, which lists each gram of these terms with the numbers of the terms that have it.
+///
+/// `Grams` where the section is any other, or `Memory`.
+pub(crate) fn read_grams(
+    alloc: Global,
+    section: &[u8],
+    terms: &[TermRow],
+) -> Result<Vec<GramRow>, OpenError>
+    requires { length terms.now < 2 ^ 32 }
+    ensures grams { IfOk result (λ rows. AreGramsOfTerms (terms_in terms.now) (grams_in section.now rows.items) × (section.now ≡ grams_section (grams_in section.now rows.items))) }
+    ensures rows { IfOk result (λ rows. All (IsGramRow section.now) rows.items) }
+    ensures refused { IfErr result (λ error. (error ≡ Memory) ⊎ ((grams : List GramEntry) → AreGramsOfTerms (terms_in terms.now) grams → section.now ≢ grams_section grams)) }
+{
+    let mut rows: Vec<GramRow> = Vec::new(alloc);
+    let mut total = 0;
+    let mut left = section;
+    while !left.is_empty() {
+        let (row, rest) = read_gram(section, left, terms)?;
+        if !is_above(section, row, rows.last()) {
+            return Err(OpenError::Grams);
+        }
+        total += row.count as usize;
+        rows.push(row)?;
+        left = rest;
+    }
+    check_total(alloc, terms, total)?;
+    Ok(rows)
+}
+
+/// The row of the gram that what is left of GRAMS begins with, and what follows it.
+///
+/// `Grams` where no gram stands there with numbers of terms that have it.
+fn read_gram<'a>(
+    section: &[u8],
+    left: &'a [u8],
+    terms: &[TermRow],
+) -> Result<(GramRow, &'a [u8]), OpenError>
+    requires few { length terms.now < 2 ^ 32 }
+    requires within { (before : List ℕ) × (section.now ≡ before ++ left.now) }
+    ensures entry { IfOk result (λ read. IsRightEntry (terms_in terms.now) (gram_in section.now read.0)) }
+    ensures row { IfOk result (λ read. IsGramRow section.now read.0) }
+    ensures found { IfOk result (λ read. left.now ≡ opened.gram_bytes (gram_in section.now read.0) ++ read.1.now) }
+    ensures size { IfOk result (λ read. read.0.count + length read.1.now ≤ length left.now) }
+    ensures refused { IfErr result (λ error. (entry : GramEntry) (rest : List ℕ) → IsRightEntry (terms_in terms.now) entry → left.now ≢ opened.gram_bytes entry ++ rest) }
+{
+    let Ok((gram, behind)) = text(Section::Grams, OpenError::Grams, left) else {
+        return Err(OpenError::Grams);
+    };
+    let Some(pair) = pair_of(gram) else {
+        return Err(OpenError::Grams);
+    };
+    let Ok((count, gaps)) = number(Section::Grams, behind) else {
+        return Err(OpenError::Grams);
+    };
+    if count == 0 {
+        return Err(OpenError::Grams);
+    }
+    let rest = read_numbers(gaps, count, pair, terms)?;
+    let row = GramRow {
+        start: section.len() - behind.len() - gram.len(),
+        size: gram.len() as u8,
+        count,
+        numbers: section.len() - gaps.len(),
+        numbers_size: gaps.len() - rest.len(),
+    };
+    Ok((row, rest))
+}
+
+/// What follows the gaps of so many numbers of terms that have the gram of the pair.
+///
+/// `Grams` where no such gaps stand there.
+fn read_numbers<'a>(
+    left: &'a [u8],
+    count: u32,
+    pair: GramPair,
+    terms: &[TermRow],
+) -> Result<&'a [u8], OpenError>
+    requires { length terms.now < 2 ^ 32 }
+    ensures found { IfOk result (λ rest. (numbers : List ℕ) × AreNumbersOf (terms_in terms.now) (gram_of pair) numbers × (length numbers ≡ count) × (left.now ≡ gap_codes numbers ++ rest.now)) }
+    ensures refused { OnErr result ((numbers rest : List ℕ) → AreNumbersOf (terms_in terms.now) (gram_of pair) numbers → length numbers ≡ count → left.now ≢ gap_codes numbers ++ rest) }
+{
+    let mut rest = left;
+    let mut next = 0;
+    for _ in 0..count {
+        let Ok((gap, behind)) = number(Section::Grams, rest) else {
+            return Err(OpenError::Grams);
+        };
+        if !is_next(next, gap, pair, terms) {
+            return Err(OpenError::Grams);
+        }
+        next += gap;
+        rest = behind;
+    }
+    Ok(rest)
+}
+
+/// Whether the number that has this gap, where `next` is one above the number before, is that of a term that has the
+/// gram of the pair.
+#[inline]
+fn is_next(next: u32, gap: u32, pair: GramPair, terms: &[TermRow]) -> bool
+    requires { (next ≤ length terms.now) × (length terms.now < 2 ^ 32) }
+    ensures { IsTrue result ↔ ((0 < gap) × (next + gap ≤ length (terms_in terms.now)) × IsGramOfTerm (terms_in terms.now) (gram_of pair) (next + gap - 1)) }
+{
+    if gap == 0 {
+        return false;
+    }
+    let number = next as usize + (gap - 1) as usize;
+    if number >= terms.len() {
+        return false;
+    }
+    has_gram(terms[number].term.as_str(), pair)
+}
+
+/// Whether the gram of a row stands above that of the row before it, if there is one.
+fn is_above(section: &[u8], row: GramRow, before: Option<&GramRow>) -> bool
+    requires row { IsGramRow section.now row }
+    requires before { MatchOption before ⊤ (λ b. IsGramRow section.now b.now) }
+    ensures { IsTrue result ↔ MatchOption before.entry ⊤ (λ b. IsAscending ((gram_in section.now b.now).gram ∷ (gram_in section.now row).gram ∷ [])) }
+{
+    match before {
+        None => true,
+        Some(before) => gram_bytes(section, *before)
+            .cmp(gram_bytes(section, row))
+            .is_lt(),
+    }
+}
+
+/// The place of the row of a gram, or none where no row is of it.
+pub(crate) fn find_gram(section: &[u8], rows: &[GramRow], gram: &str) -> Option<usize>
+    requires rows { All (IsGramRow section.now) rows.now }
+    requires ascending { IsAscending (map (λ entry. entry.gram) (grams_in section.now rows.now)) }
+    ensures { FindsGram (grams_in section.now rows.now) gram.now result }
+{
+    let wanted = gram.as_bytes();
+    let mut low = 0;
+    let mut high = rows.len();
+    while low < high {
+        let middle = low + (high - low) / 2;
+        match gram_bytes(section, rows[middle]).cmp(wanted) {
+            Ordering::Less => low = middle + 1,
+            Ordering::Equal => return Some(middle),
+            Ordering::Greater => high = middle,
+        }
+    }
+    None
+}
+
+/// The bytes of the gram of a row.
+fn gram_bytes(section: &[u8], row: GramRow) -> &[u8]
+    requires { IsGramRow section.now row }
+    ensures { result.now ≡ (gram_in section.now row).gram }
+{
+    &section[row.start..row.start + usize::from(row.size)]
+}
+
+#[cfg(test)]
+mod tests {
+    use super::{find_gram, read_grams};
+    use crate::OpenError;
+    use crate::open::dictionary::TermRow;
+    use std::alloc::{AllocError, Global};
+    use std::process::Abort;
+    use std::test::Fail;
+
+    /// `$x$` of the first term, `$y$` of the second.
+    const TWO: [u8; 12] = [
+        0x83, b'$', b'x', b'$', 0x81, 0x81, 0x83, b'$', b'y', b'$', 0x81, 0x82,
+    ];
+
+    /// `$aa`, `aa$` and `aaa`, which stands twice in the term.
+    const REPEATED: [u8; 18] = [
+        0x83, b'$', b'a', b'a', 0x81, 0x81, 0x83, b'a', b'a', b'$', 0x81, 0x81, 0x83, b'a', b'a',
+        b'a', 0x81, 0x81,
+    ];
+
+    /// Rows of terms without postings.
+    fn rows(alloc: Global, terms: &[&str]) -> Result<Vec<TermRow>, AllocError> {
+        let mut rows = Vec::new(alloc);
+        for term in terms {
+            rows.push(TermRow {
+                term: String::from_str(alloc, term)?,
+                documents: 1,
+                start: 0,
+                size: 0,
+            })?;
+        }
+        Ok(rows)
+    }
+
+    /// Whether the section is refused as no grams of the terms.
+    fn is_refused(
+        rt: &impl Abort,
+        alloc: Global,
+        section: &[u8],
+        terms: &[TermRow],
+    ) -> Result<bool, OpenError> {
+        assert!(rt; terms.len() < 1000);
+        match read_grams(alloc, section, terms) {
+            Ok(_) => Ok(false),
+            Err(OpenError::Grams) => Ok(true),
+            Err(error) => Err(error),
+        }
+    }
+
+    #[test]
+    fn grams_are_read_and_found(rt: HostRuntime) -> Result<(), Fail> {
+        let alloc = rt.alloc();
+        let terms = rows(alloc, &["x", "y"])?;
+        assert!(rt; terms.len() < 1000);
+        let grams = read_grams(alloc, &TWO, &terms)?;
+        assert_eq!(rt; grams.len(), 2);
+        assert_eq!(rt; find_gram(&TWO, &grams, "$x$"), Some(0));
+        assert_eq!(rt; find_gram(&TWO, &grams, "$y$"), Some(1));
+        assert_eq!(rt; find_gram(&TWO, &grams, "$a$"), None);
+        assert_eq!(rt; find_gram(&TWO, &grams, "$z$"), None);
+        let repeated = rows(alloc, &["aaaa"])?;
+        assert!(rt; !is_refused(&rt, alloc, &REPEATED, &repeated)?);
+        let none = rows(alloc, &[])?;
+        assert!(rt; !is_refused(&rt, alloc, &[], &none)?);
+        Ok(())
+    }
+
+    #[test]
+    fn any_other_section_is_refused(rt: HostRuntime) -> Result<(), Fail> {
+        let alloc = rt.alloc();
+        let terms = rows(alloc, &["x", "y"])?;
+        for len in 0..TWO.len() {
+            assert!(rt; is_refused(&rt, alloc, &TWO[..len], &terms)?);
+        }
+        for index in 0..TWO.len() {
+            let mut bytes = TWO;
+            bytes[index] ^= 1;
+            assert!(rt; is_refused(&rt, alloc, &bytes, &terms)?);
+        }
+        let mut longer = Vec::new(alloc);
+        longer.extend_from_slice(&TWO)?;
+        longer.extend_from_slice(&TWO[6..])?;
+        assert!(rt; is_refused(&rt, alloc, &longer, &terms)?);
+        Ok(())
+    }
+}

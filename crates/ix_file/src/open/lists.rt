@@ -1,0 +1,234 @@
+//! The lists of an index text.
+ghost use Rattle.std.specs.Prelude.{◌≡◌, ◌≢◌, ◌⊎◌, ℕ, ◌+◌, ◌-◌, ◌^◌, ◌<◌, ◌≤◌, ◌++◌, [], List, map, length, All, IfOk, IfErr, IfSome, OnErr};
+ghost use Rattle.ix_vbyte.specs.Code.{code_of};
+ghost use Rattle.ix_vbyte.specs.Gaps.{Ascends, gaps_of};
+ghost use Rattle.ix_vbyte.specs.Postings.{codes_of, posting_bytes};
+ghost use Rattle.ix_text.specs.Parts.{DocumentRow, Posting};
+ghost use Rattle.ix_text.specs.TokenLaws.{IsPostingIn};
+ghost use Rattle.ix_text.specs.TokenNumbers.{numbers_of_posting, numbers_of_postings};
+ghost use Rattle.ix_text.specs.TokenTables.{HasTokens};
+ghost use Rattle.ix_file.specs.Claimed.{HasClaimed, HasRoom, HaveClaimed};
+ghost use Rattle.ix_file.specs.Listings.{AreLaidOut, HasListedCounts, listings_in, sizes_sum};
+ghost use Rattle.ix_file.specs.ReadLists.{AreListedIn, AreListsIn, ArePositionsIn, IsNextPosting, MayClaim, list_in};
+ghost use Rattle.ix_file.specs.declared.open_error.OpenError.TheVariants.{Memory};
+
+use crate::open::claims::Claims;
+use crate::open::dictionary::TermRow;
+use crate::{OpenError, Section};
+use ix_text::TokenTable;
+use ix_vbyte::{VbError, decode};
+
+/// Checks the list of each term, where it stands in POSTINGS, and that no token is claimed twice.
+///
+/// The errors of a list, list by list; behind the last, `Doubled` where two terms, or one term twice, claim a token;
+/// or `Memory`.
+pub(crate) fn check_lists(
+    section: &[u8],
+    terms: &[TermRow],
+    tokens: &TokenTable,
+    claims: Claims,
+) -> Result<(), OpenError>
+    requires laid_out { AreLaidOut terms.now }
+    requires whole { sizes_sum (listings_in terms.now) ≡ length section.now }
+    requires counts { All HasListedCounts (listings_in terms.now) }
+    requires ready { MayClaim tokens.now claims }
+    requires none { HasClaimed claims [] }
+    ensures found { IfOk result (λ _. (rows : List DocumentRow) → HasTokens tokens.now rows → (lists : List (List Posting)) × AreListsIn rows section.now terms.now lists) }
+    ensures refused { IfErr result (λ error. (error ≡ Memory) ⊎ ((rows : List DocumentRow) (lists : List (List Posting)) → HasTokens tokens.now rows → ¬ (AreListsIn rows section.now terms.now lists))) }
+{
+    let mut claims = claims;
+    for term in terms {
+        check_list(list_of(section, term), term.documents, tokens, &mut claims)?;
+    }
+    if claims.are_doubled() {
+        return Err(OpenError::Doubled);
+    }
+    Ok(())
+}
+
+/// The bytes of a term's list.
+#[inline]
+pub(crate) fn list_of<'a>(section: &'a [u8], term: &TermRow) -> &'a [u8]
+    requires { term.now.start + term.now.size ≤ length section.now }
+    ensures { result.now ≡ list_in section.now term.now }
+{
+    &section[term.start..term.start + term.size as usize]
+}
+
+/// Checks the bytes of one list, which has this many documents, and claims its tokens.
+///
+/// For each document `Number` of its gap, `Zero` where it is 0, `DocRange` where there is no such document, `Number`
+/// of the number of its positions, `Zero` where it is 0; for each position `Number` of its gap, `Zero` where it is 0,
+/// `PositionRange` where the document has no such token; `ListLength` where the list ends before its last position,
+/// also within a number, or goes on behind it; or `Memory`.
+fn check_list(
+    bytes: &[u8],
+    documents: u32,
+    tokens: &TokenTable,
+    claims: &mut Claims,
+) -> Result<(), OpenError>
+    requires some { 0 < documents }
+    requires ready { MayClaim tokens.now claims.old }
+    ensures found { IfOk result (λ _. (rows : List DocumentRow) → HasTokens tokens.now rows → (postings : List Posting) × AreListedIn rows documents bytes.now postings × HaveClaimed claims.old claims.new (numbers_of_postings rows postings)) }
+    ensures room { MayClaim tokens.now claims.new }
+    ensures refused { IfErr result (λ error. (error ≡ Memory) ⊎ ((rows : List DocumentRow) (postings : List Posting) → HasTokens tokens.now rows → ¬ (AreListedIn rows documents bytes.now postings))) }
+{
+    let mut left = bytes;
+    let mut next = 0;
+    for _document in 0..documents {
+        let (behind, rest) = check_posting(left, next, tokens, claims)?;
+        next = behind;
+        left = rest;
+    }
+    if !left.is_empty() {
+        return Err(OpenError::ListLength);
+    }
+    Ok(())
+}
+
+/// Checks the posting that what is left of a list begins with, where `next` is one above the document before, and
+/// claims its tokens. Answers one above its document, and what follows it.
+///
+/// Most postings have one position and short codes: those take neither a call nor a loop.
+#[inline(always)]
+fn check_posting<'a>(
+    left: &'a [u8],
+    next: u32,
+    tokens: &TokenTable,
+    claims: &mut Claims,
+) -> Result<(u32, &'a [u8]), OpenError>
+    requires { MayClaim tokens.now claims.old }
+    ensures found { IfOk result (λ read. (rows : List DocumentRow) → HasTokens tokens.now rows → (posting : Posting) × IsNextPosting rows next left.now posting read.1.now × (read.0 ≡ posting.0 + 1) × HaveClaimed claims.old claims.new (numbers_of_posting rows posting)) }
+    ensures room { MayClaim tokens.now claims.new }
+    ensures refused { IfErr result (λ error. (error ≡ Memory) ⊎ ((rows : List DocumentRow) (posting : Posting) (rest : List ℕ) → HasTokens tokens.now rows → ¬ (IsNextPosting rows next left.now posting rest))) }
+{
+    let Some((gap, position, rest)) = short_posting(left) else {
+        return check_any_posting(left, next, tokens, claims);
+    };
+    let Some(document) = next.checked_add(gap - 1) else {
+        return Err(OpenError::DocRange);
+    };
+    let Some(span) = tokens.span(document) else {
+        return Err(OpenError::DocRange);
+    };
+    if position > span.1 {
+        return Err(OpenError::PositionRange);
+    }
+    claims.claim(span.0 + (position - 1))?;
+    Ok((document + 1, rest))
+}
+
+/// The same of a posting of any shape.
+#[inline(never)]
+fn check_any_posting<'a>(
+    left: &'a [u8],
+    next: u32,
+    tokens: &TokenTable,
+    claims: &mut Claims,
+) -> Result<(u32, &'a [u8]), OpenError>
+    requires { MayClaim tokens.now claims.old }
+    ensures found { IfOk result (λ read. (rows : List DocumentRow) → HasTokens tokens.now rows → (posting : Posting) × IsNextPosting rows next left.now posting read.1.now × (read.0 ≡ posting.0 + 1) × HaveClaimed claims.old claims.new (numbers_of_posting rows posting)) }
+    ensures room { MayClaim tokens.now claims.new }
+    ensures refused { IfErr result (λ error. (error ≡ Memory) ⊎ ((rows : List DocumentRow) (posting : Posting) (rest : List ℕ) → HasTokens tokens.now rows → ¬ (IsNextPosting rows next left.now posting rest))) }
+{
+    let (gap, behind) = gap_in_list(left)?;
+    let Some(document) = next.checked_add(gap - 1) else {
+        return Err(OpenError::DocRange);
+    };
+    let Some(span) = tokens.span(document) else {
+        return Err(OpenError::DocRange);
+    };
+    let (count, behind) = gap_in_list(behind)?;
+    let rest = check_positions(behind, count, span, claims)?;
+    Ok((document + 1, rest))
+}
+
+/// Checks the gaps of this many positions, of a document with this span (the number of its first token, and how many
+/// it has), and claims each. Answers what follows them.
+fn check_positions<'a>(
+    bytes: &'a [u8],
+    count: u32,
+    span: (u32, u32),
+    claims: &mut Claims,
+) -> Result<&'a [u8], OpenError>
+    requires small { span.0 + span.1 < 2 ^ 32 }
+    requires room { HasRoom claims.old (span.0 + span.1) }
+    ensures found { IfOk result (λ rest. (positions : List ℕ) × ArePositionsIn span.1 count bytes.now positions rest.now × HaveClaimed claims.old claims.new (map (λ position. span.0 + position) positions)) }
+    ensures room { (top : ℕ) → HasRoom claims.old top → HasRoom claims.new top }
+    ensures refused { IfErr result (λ error. (error ≡ Memory) ⊎ ((positions rest : List ℕ) → ¬ (ArePositionsIn span.1 count bytes.now positions rest))) }
+{
+    let (first, tokens) = span;
+    let mut left = bytes;
+    let mut next = 0;
+    for _place in 0..count {
+        let (gap, rest) = gap_in_list(left)?;
+        if gap > tokens - next {
+            return Err(OpenError::PositionRange);
+        }
+        next += gap;
+        claims.claim(first + (next - 1))?;
+        left = rest;
+    }
+    Ok(left)
+}
+
+/// The posting of one position that the rest of a list begins with, where its codes are short: its gap, its position's
+/// gap, and what follows it.
+#[inline(always)]
+fn short_posting(bytes: &[u8]) -> Option<(u32, u32, &[u8])>
+    ensures { IfSome result (λ read. (0 < read.0) × (0 < read.1) × (bytes.now ≡ code_of read.0 ++ (code_of 1 ++ (code_of read.1 ++ read.2.now)))) }
+{
+    let (gap, behind) = short_gap(bytes)?;
+    let (count, behind) = short_gap(behind)?;
+    if count != 1 {
+        return None;
+    }
+    let (position, rest) = short_gap(behind)?;
+    Some((gap, position, rest))
+}
+
+/// The number above 0 whose code of one or two bytes the rest of a list begins with, and what follows the code.
+#[inline(always)]
+fn short_gap(bytes: &[u8]) -> Option<(u32, &[u8])>
+    ensures { IfSome result (λ read. (0 < read.0) × (bytes.now ≡ code_of read.0 ++ read.1.now)) }
+{
+    match bytes {
+        [first, rest @ ..] if *first > 128 => Some((u32::from(*first - 128), rest)),
+        [first, second, rest @ ..] if *first > 0 && *first < 128 && *second >= 128 => {
+            let number = u32::from(*first) * 128 + u32::from(*second - 128);
+            Some((number, rest))
+        }
+        _ => None,
+    }
+}
+
+/// The number above 0 whose code the rest of a list begins with, and what follows the code.
+///
+/// `ListLength` where the list ends within the code, and `Number` where it is faulty otherwise; `Zero` of 0.
+///
+/// Almost all codes are short: those are read in the caller, without a call.
+#[inline(always)]
+fn gap_in_list(bytes: &[u8]) -> Result<(u32, &[u8]), OpenError>
+    ensures found { IfOk result (λ read. (0 < read.0) × (bytes.now ≡ code_of read.0 ++ read.1.now)) }
+    ensures refused { OnErr result ((n : ℕ) (rest : List ℕ) → 0 < n → n < 2 ^ 32 → bytes.now ≢ code_of n ++ rest) }
+{
+    match short_gap(bytes) {
+        Some(read) => Ok(read),
+        None => any_gap_in_list(bytes),
+    }
+}
+
+/// The same of a code of any length. Few codes come here, so it stays a call.
+#[cold]
+#[inline(never)]
+fn any_gap_in_list(bytes: &[u8]) -> Result<(u32, &[u8]), OpenError>
+    ensures found { IfOk result (λ read. (0 < read.0) × (bytes.now ≡ code_of read.0 ++ read.1.now)) }
+    ensures refused { OnErr result ((n : ℕ) (rest : List ℕ) → 0 < n → n < 2 ^ 32 → bytes.now ≢ code_of n ++ rest) }
+{
+    match decode(bytes) {
+        Ok((0, _)) => Err(OpenError::Zero),
+        Ok((number, count)) => Ok((number, &bytes[count..])),
+        Err(VbError::Cut) => Err(OpenError::ListLength),
+        Err(fault) => Err(OpenError::Number(Section::Postings, fault)),
+    }
+}
