@@ -1,0 +1,38 @@
+#!/usr/bin/env python3
+"""Measures opening an index and walking its lists, and prints the best of each over the rounds of the bench.
+
+usage: measure.py OPEN_BENCH INDEX
+"""
+import os
+import subprocess
+import sys
+
+
+def peak_of(words):
+    """The most memory of one run, in bytes, as its status tells it from time to time."""
+    run = subprocess.Popen(words, stdout=subprocess.DEVNULL)
+    peak = 0
+    while run.poll() is None:
+        try:
+            with open(f"/proc/{run.pid}/status", encoding="ascii") as status, open(f"/proc/{run.pid}/cmdline", "rb") as name:
+                mine = name.read().startswith(words[0].encode())
+                for line in status:
+                    if mine and line.startswith("VmHWM"):
+                        peak = max(peak, int(line.split()[1]) * 1024)
+        except OSError:
+            break
+    return peak
+
+
+def main():
+    bench, index = sys.argv[1:]
+    size = os.path.getsize(index)
+    out = subprocess.run([bench, index], stdout=subprocess.PIPE, check=True).stdout.decode()
+    rounds = [[int(n) for n in line.split()] for line in out.splitlines()]
+    bare, opened, decoded, walked = (min(column) for column in list(zip(*rounds))[:4])
+    print(f"{size} bytes; a bare pass of decoding {bare} us; opening {opened} us, {opened / bare:.2f} times")
+    print(f"decoding every code of the lists {decoded} us; walking their documents {walked} us, {decoded / walked:.2f} times as fast")
+    print(f"memory of opening: {peak_of([bench, index, 'once']) / size - 1:.2f} times the file beside it")
+
+
+main()
