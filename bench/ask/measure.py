@@ -10,6 +10,9 @@ import subprocess
 import sys
 import time
 
+sys.path.insert(0, os.path.dirname(os.path.dirname(os.path.abspath(__file__))))
+from peak import peak_of
+
 
 def words_of(path):
     """The fifth, sixth and seventh word of the first document."""
@@ -51,24 +54,8 @@ def main():
             f"  ask {ask.query}: {ask.seconds:.3f} s, {ask.seconds / bare:.2f} times the bare count, "
             f"{ask.seconds / asks[0].seconds:.2f} times one word, {size / ask.seconds / 1e6:.0f} MB/s; {ask.names} names, status {ask.status}"
         )
-    memory = peak_of(ix, path, first)
+    memory = peak_of([ix, "ask", path, first])
     print(f"  memory of ask {first}: {memory / size:.2f} times the file")
-
-
-def peak_of(ix, path, query):
-    """The most memory of one run, in bytes, as its status tells it from time to time."""
-    run = subprocess.Popen([ix, "ask", path, query], stdout=subprocess.DEVNULL)
-    peak = 0
-    while run.poll() is None:
-        try:
-            with open(f"/proc/{run.pid}/status", encoding="ascii") as status, open(f"/proc/{run.pid}/cmdline", "rb") as words:
-                mine = words.read().startswith(ix.encode())
-                for line in status:
-                    if mine and line.startswith("VmHWM"):
-                        peak = max(peak, int(line.split()[1]) * 1024)
-        except OSError:
-            break
-    return peak
 
 
 main()

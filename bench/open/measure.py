@@ -7,21 +7,8 @@ import os
 import subprocess
 import sys
 
-
-def peak_of(words):
-    """The most memory of one run, in bytes, as its status tells it from time to time."""
-    run = subprocess.Popen(words, stdout=subprocess.DEVNULL)
-    peak = 0
-    while run.poll() is None:
-        try:
-            with open(f"/proc/{run.pid}/status", encoding="ascii") as status, open(f"/proc/{run.pid}/cmdline", "rb") as name:
-                mine = name.read().startswith(words[0].encode())
-                for line in status:
-                    if mine and line.startswith("VmHWM"):
-                        peak = max(peak, int(line.split()[1]) * 1024)
-        except OSError:
-            break
-    return peak
+sys.path.insert(0, os.path.dirname(os.path.dirname(os.path.abspath(__file__))))
+from peak import peak_of
 
 
 def main():
