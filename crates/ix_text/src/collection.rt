@@ -78,10 +78,11 @@ impl<'a> Collection<'a> {
     ghost use Rattle.ix_text.specs.CollectionFaults.{IsCollectionFault};
     ghost use Rattle.ix_text.specs.Docs.{named_text};
 
-    /// Reads a collection text of at most 2^28 bytes, whose names and texts stay where they are.
+    /// Reads a collection text of at most 2^28 bytes: UTF-8 text, each line of which is a name, a TAB, a text and an
+    /// LF. The empty text has no documents. Names and texts stay where they are; only the list of them takes memory.
     ///
-    /// The size is tested first, then that all is UTF-8, and then the lines in order; on each line the errors in
-    /// their order. The first fault is the error, or `Memory`.
+    /// The size is tested first (`TooLarge`), then that all is UTF-8 (`NotUtf8`), and then the lines in order, each
+    /// for `NoTab`, `Name` and `NoLineEnd`. The first fault is the error, or `Memory` where memory is refused.
     pub fn read(alloc: Global, bytes: &'a [u8]) -> Result<Collection<'a>, CollectionError>
         ensures documents { IfOk result (λ documents. IsCollectionText bytes.now documents) }
         ensures fault { IfErr result (λ error. (error ≡ CollectionError.Memory) ⊎ IsCollectionFault bytes.now error) }
@@ -193,7 +194,7 @@ fn cut_at(text: &str, byte: u8) -> Option<(&str, &str)>
     Some((&text[..at], &text[at + 1..]))
 }
 
-/// A text has one list of documents or one fault, and never both.
+/// A law: a text has one list of documents or one fault, and never both.
 pub fn has_documents_or_a_fault()
     ensures one_list { HasOneListOfDocuments }
     ensures one_fault { HasOneFault }

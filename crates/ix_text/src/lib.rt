@@ -1,5 +1,6 @@
 //! The rules of text on which every layer of the index stands: words and their terms, token lists, stop lists,
-//! collection texts and trigrams.
+//! collection texts and trigrams. A function without arguments is a law: it does nothing, and what it ensures is a
+//! fact about the definitions.
 #![tactic(auto)]
 
 mod collection;

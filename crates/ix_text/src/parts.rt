@@ -13,7 +13,7 @@ pub fn lawful_parts_have_collection()
     ensures { LawfulPartsHaveCollection }
 {}
 
-/// The parts of a lawful collection keep those rules.
+/// The parts of a lawful collection keep its rules.
 pub fn lawful_collections_have_lawful_parts()
     ensures { LawfulCollectionsHaveLawfulParts }
 {}

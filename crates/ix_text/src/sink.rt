@@ -6,11 +6,15 @@ ghost use Rattle.ix_text.specs.Sinks.{AppendsFront};
 
 use std::io::{ErrorKind, Write};
 
-/// A write or a flush was refused.
+/// A write or a flush was refused, or [`put_all`] gave up.
 #[derive(Clone, Copy, Debug, PartialEq, Eq)]
 pub struct WriteRefused;
 
-/// Writes all of `bytes`. A write that was interrupted is made again; one of no bytes is a refusal.
+/// Writes all of `bytes`, without a flush. A write that was interrupted is made again; one that takes no bytes is a
+/// refusal. After a refusal a beginning of the bytes is out.
+///
+/// It calls the writer at most 2^64 - 1 times, and then gives up, as where each call was interrupted: the answer is
+/// `WriteRefused` then too, though the writer refused nothing.
 pub fn put_all<W: Write>(out: &mut W, bytes: &[u8]) -> Result<(), WriteRefused>
     ensures whole { OnOk result (Appends (W.contents out.old) (W.contents out.new) bytes.now) }
     ensures front { OnErr result (AppendsFront (W.contents out.old) (W.contents out.new) bytes.now) }
@@ -39,7 +43,7 @@ fn put_some<W: Write>(out: &mut W, bytes: &[u8]) -> Result<usize, WriteRefused>
     }
 }
 
-/// Flushes the writer.
+/// Flushes the writer, and adds nothing to what it holds. A flush that was interrupted is a refusal too.
 pub fn flush<W: Write>(out: &mut W) -> Result<(), WriteRefused>
     ensures { Keeps (W.contents out.old) (W.contents out.new) }
 {

@@ -43,7 +43,8 @@ impl StopList {
         }
     }
 
-    /// The list of terms that ascend already, each of 1 to 255 bytes. Takes no memory.
+    /// The list of terms that ascend by their bytes already: at most 2^28 of them, each of 1 to 255 bytes. Takes no
+    /// memory.
     pub fn from_sorted(terms: Vec<String>) -> StopList
         requires few { length terms.items ≤ 2 ^ 28 }
         requires ascending { IsAscending (map string_bytes terms.items) }
@@ -53,8 +54,11 @@ impl StopList {
         StopList { terms }
     }
 
-    /// Reads a stop text of at most 2^28 bytes: cut at every LF, each line that is not empty holds one word. The
-    /// size is tested first, and then the lines in order; the first fault is the error, or `Memory`.
+    /// Reads a stop text of at most 2^28 bytes: cut at every LF, each line that is not empty holds exactly one word
+    /// (UAX #29), whose term has 1 to 255 bytes. The list has these terms, each once.
+    ///
+    /// The size is tested first (`TooLarge`), and then the lines in order, each for `NotOneWord` and `LongWord`. The
+    /// first fault is the error, or `Memory` where memory is refused.
     pub fn read(alloc: Global, text: &str) -> Result<StopList, StopError>
         ensures terms { IfOk result (λ stop. IsStopText text.now stop) }
         ensures fault { IfErr result (λ error. (error ≡ StopError.Memory) ⊎ IsStopFault text.now error) }

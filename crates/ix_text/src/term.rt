@@ -13,6 +13,7 @@ use unicode_normalization::{QuickCheck, is_nfc_quick, to_nfc, to_nfd};
 
 /// The term of a word: NFC of the full default case folding of NFD of the word (UAX #15; The Unicode Standard,
 /// section 3.13). An ASCII word takes one pass, and a word is decomposed first only where that may change its term.
+/// Fails where memory is refused.
 pub fn term_of(alloc: Global, word: &str) -> Result<String, Memory>
     ensures { IfOk result (λ term. string_bytes term ≡ term_of_word word.now) }
 {

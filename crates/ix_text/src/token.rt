@@ -11,7 +11,8 @@ use std::alloc::Global;
 use unicode_segmentation::UnicodeSegmentation;
 
 /// The token list of a text: for each of its words (UAX #29), in order, its term, or nothing where that is among the
-/// stop terms or is empty or longer than 255 bytes. An entry's place, from 0, is its position (IIR 2.4.2).
+/// stop terms or is empty or longer than 255 bytes. An entry's place, from 0, is its position (IIR 2.4.2). Fails where
+/// memory is refused.
 pub fn tokens(alloc: Global, text: &str, stop: &StopList) -> Result<Vec<Option<String>>, Memory>
     ensures { IfOk result (λ list. map (option_map string_bytes) list.items ≡ token_list stop.now text.now) }
 {
@@ -106,7 +107,8 @@ pub(crate) fn has_term_size(term: &str) -> bool
     0 < term.len() && term.len() <= 255
 }
 
-/// A law: token lists are lawful and short, and the collection of a collection text under a stop set is lawful.
+/// A law: what a token list holds may stand in a lawful collection; it has at most as many entries as its text has
+/// bytes; and the collection of a collection text under a stop set is lawful.
 pub fn lawful_collection()
     ensures entries { (stop : List (List ℕ)) (text : List ℕ) → IsUtf8 text → All (IsLawfulEntry stop) (token_list stop text) }
     ensures short { (stop : List (List ℕ)) (text : List ℕ) → IsUtf8 text → length (token_list stop text) ≤ length text }

@@ -2,7 +2,7 @@
 
 use std::alloc::{AllocError, Global};
 
-/// A mark for each of as many tokens, by their numbers.
+/// A mark, set or not, for each token of a collection, by its number from 0.
 #[derive(Drop)]
 pub struct TokenMarks {
     // a bit a mark: that of a number is bit `number % 64` of word `number / 64`
@@ -13,7 +13,7 @@ impl TokenMarks {
     ghost use Rattle.std.specs.Prelude.{◌≡◌, ◌<◌, ◌≤◌, ◌++◌, ◌∷◌, ◌↔◌, ℕ, [], List, IfOk, IsTrue, Contains};
     ghost use Rattle.ix_text.specs.TokenMarks.{HoldsNumbers, room};
 
-    /// Marks for the numbers below `count`, none of them set. Fails where the growth is refused.
+    /// Marks for the numbers below `count`, none of them set: a bit each. Fails where memory is refused.
     pub fn new(alloc: Global, count: u32) -> Result<TokenMarks, AllocError>
         ensures none { IfOk result (λ marks. HoldsNumbers marks []) }
         ensures room { IfOk result (λ marks. count ≤ room marks) }
@@ -23,7 +23,7 @@ impl TokenMarks {
         })
     }
 
-    /// Marks the number. Whether it was free, that is, not marked before.
+    /// Marks the number, one of those that the marks were made for. Whether it was free, that is, not marked before.
     #[inline]
     pub fn mark(&mut self, number: u32) -> bool
         requires { number < room self.old }

@@ -3,7 +3,8 @@ ghost use Rattle.std.specs.List.Sorted.{IsNonDecreasing};
 
 use std::alloc::{AllocError, Global};
 
-/// How many tokens stand before each document of a collection, and how many each has.
+/// How many tokens stand before each document of a collection, and how many each has. Documents are counted from 0, and
+/// so are tokens, over all documents.
 #[derive(Drop)]
 pub struct TokenTable {
     // the tokens before each document, and then those of all
@@ -16,7 +17,7 @@ impl TokenTable {
     ghost use Rattle.ix_text.specs.Parts.{DocumentRow};
     ghost use Rattle.ix_text.specs.TokenTables.{HasRoomFor, HasTokens, IsSpan};
 
-    /// The table of no documents. Fails where the growth is refused.
+    /// The table of no documents. Fails where memory is refused.
     pub fn new(alloc: Global) -> Result<TokenTable, AllocError>
         ensures { IfOk result (λ table. HasTokens table []) }
     {
@@ -25,7 +26,8 @@ impl TokenTable {
         })
     }
 
-    /// Adds a document with as many tokens. Fails where the growth is refused, and then nothing has changed.
+    /// Adds a document with as many tokens, where all documents together have at most 2^28 then. Fails where memory is
+    /// refused, and then nothing has changed.
     pub fn push(&mut self, tokens: u32) -> Result<(), AllocError>
         requires { HasRoomFor self.old tokens }
         ensures ok { (rows : List DocumentRow) (row : DocumentRow) → HasTokens self.old rows → row.tokens ≡ tokens

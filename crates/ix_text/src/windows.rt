@@ -22,15 +22,15 @@ impl<'a> Model for TrigramWindows<'a> {
     ghost view = { λ grams. trigram_list grams.rest.now };
 }
 
-/// The windows of three characters of a text, in order. It takes no memory.
+/// The windows of three characters (Unicode scalar values) of a text, in order: none where it has fewer. It takes no
+/// memory.
 pub fn trigrams(text: &str) -> TrigramWindows<'_>
     ensures { result ≡ trigram_list text.now }
 {
     TrigramWindows { rest: text }
 }
 
-/// The trigram at a place is the text's three characters from there on. The function does nothing: what it ensures is
-/// a fact about the definitions.
+/// A law: the trigram at a place is the text's three characters from there on.
 pub fn trigrams_stand_by_place()
     ensures { TrigramsStandByPlace }
 {}
