@@ -6,6 +6,7 @@ pub mod Marks
 pub mod OnePosition
 pub mod Pieces
 pub mod Postings
+pub mod ShortPostings
 pub mod Sizes
 pub mod Texts
 pub mod Values

@@ -6,6 +6,7 @@ pub mod Gaps
 pub mod Numbers
 pub mod OnePosition
 pub mod Postings
+pub mod ShortPostings
 pub mod Reading
 pub mod Texts
 pub mod Walking

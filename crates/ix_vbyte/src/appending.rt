@@ -8,7 +8,8 @@ ghost use Rattle.ix_vbyte.specs.Texts.{counted};
 use crate::push_code;
 use std::alloc::AllocError;
 
-/// Appends the code of the number of bytes of a text, and the text.
+/// Appends a text of less than 2^32 bytes: the code of the number of its bytes, and then these. Where memory is
+/// refused, nothing was appended.
 #[inline]
 pub fn push_counted(out: &mut Vec<u8>, text: &[u8]) -> Result<(), AllocError>
     requires { length text.now < 2 ^ 32 }
@@ -34,8 +35,9 @@ fn append_counted(out: &mut Vec<u8>, text: &[u8]) -> Result<(), AllocError>
     out.extend_from_slice(text)
 }
 
-/// Appends the codes of the gaps of ascending numbers, where `next` is one above the number before the
-/// first, or 0 (Introduction to Information Retrieval, 5.3.1).
+/// Appends the codes of the gaps of numbers, where `next` is one above the number before the first, or 0
+/// (Introduction to Information Retrieval, 5.3.1). A gap is a number less the one before it, and the numbers
+/// ascend strictly, from `next` on and below 2^32 - 1. Where memory is refused, nothing was appended.
 #[inline]
 pub fn push_gaps(out: &mut Vec<u8>, next: u32, numbers: &[u32]) -> Result<(), AllocError>
     requires { Ascends next (2 ^ 32 - 1) numbers.now }
@@ -66,7 +68,9 @@ fn append_gaps(out: &mut Vec<u8>, next: u32, numbers: &[u32]) -> Result<(), Allo
 }
 
 /// Appends the posting of a document, where `next` is one above the document before it, or 0: the code of
-/// the gap, that of the number of positions, and those of the positions' gaps.
+/// the gap, that of the number of positions, and those of the positions' gaps. The document is not below
+/// `next`, the positions ascend strictly, and all are below 2^32 - 1. Where memory is refused, nothing was
+/// appended.
 #[inline]
 pub fn push_posting(
     out: &mut Vec<u8>,

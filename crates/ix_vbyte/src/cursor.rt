@@ -15,13 +15,13 @@ use std::marker::Model;
 /// A document that has the term, and the positions at which it has it, read from the bytes of the coded list.
 #[derive(Drop)]
 pub struct Posting<'a> {
-    /// The document's number.
+    /// The document's number, from 0.
     pub document: u32,
     positions: Positions<'a>,
 }
 
 impl<'a> Posting<'a> {
-    /// The positions, ascending. It takes no memory.
+    /// The positions, ascending, from the first on at each call. It takes no memory.
     #[inline]
     pub fn positions(&self) -> Positions<'a>
         ensures { result ≡ self.now.positions }
@@ -111,7 +111,7 @@ impl<'a> Model for Postings<'a> {
 }
 
 impl<'a> Postings<'a> {
-    /// The postings of a coded list that has that many.
+    /// The postings of a coded list: `bytes` are the whole list, and it has `count` postings.
     #[inline]
     pub fn new(bytes: &'a [u8], count: u32) -> Postings<'a>
         requires { IsCodedList count bytes.now }
@@ -124,7 +124,7 @@ impl<'a> Postings<'a> {
         }
     }
 
-    /// The same postings once more.
+    /// The postings that are left once more, walked apart from these.
     #[inline]
     pub fn again(&self) -> Postings<'a>
         ensures { result ≡ self.now }

@@ -30,7 +30,7 @@ impl<'a> Model for Positions<'a> {
 }
 
 impl<'a> Positions<'a> {
-    /// The positions whose gaps stand in the bytes.
+    /// The positions of a posting: `bytes` are the codes of their gaps and nothing else, and there are `count` of them.
     #[inline]
     pub fn new(bytes: &'a [u8], count: u32) -> Positions<'a>
         requires { ArePositionsFrom 0 count bytes.now }
@@ -52,7 +52,7 @@ impl<'a> Positions<'a> {
         self.count as usize
     }
 
-    /// The same positions once more.
+    /// The positions that are left once more, walked apart from these.
     #[inline]
     pub fn again(&self) -> Positions<'a>
         ensures { result ≡ self.now }

@@ -1,5 +1,8 @@
 //! Worked codes, and every short string of bytes.
-use crate::{VbError, code_len, decode, encode, push_code, push_counted, push_gaps, push_posting};
+use crate::{
+    VbError, code_len, decode, encode, push_code, push_counted, push_gaps, push_posting,
+    short_posting,
+};
 use std::test::Fail;
 
 /// Numbers and their codes, worked by hand.
@@ -41,6 +44,46 @@ fn worked_refusals(rt: HostRuntime) {
     ];
     for (bytes, error) in refused {
         assert_eq!(rt; decode(bytes), Err(error), "{bytes:?}");
+    }
+}
+
+/// Bytes that begin with a posting of one position, its two gaps, and how many bytes it takes; worked by hand.
+const SHORT_POSTINGS: [(&[u8], (u32, u32, usize)); 5] = [
+    (b"\x81\x81\x81xx", (1, 1, 3)),
+    (b"\xff\x81\x01\x80x", (127, 128, 4)),
+    (b"\x01\x80\x81\xffx", (128, 127, 4)),
+    (b"\x7f\xff\x81\x7f\xff", (16383, 16383, 5)),
+    (b"\x06\xb8\x81\x85\x80", (824, 5, 4)),
+];
+
+#[test]
+fn short_postings_are_found(rt: HostRuntime) {
+    for (bytes, (gap, position, size)) in SHORT_POSTINGS {
+        match short_posting(bytes) {
+            Some(found) => {
+                assert_eq!(rt; found.gap, gap);
+                assert_eq!(rt; found.position, position);
+                assert_eq!(rt; found.size, size);
+            }
+            None => assert!(rt; false, "{bytes:?}"),
+        }
+    }
+}
+
+#[test]
+fn other_postings_are_not_short(rt: HostRuntime) {
+    let others: [&[u8]; 8] = [
+        b"\x81\x82\x81\x81\x81",
+        b"\x80\x81\x81\x81\x81",
+        b"\x81\x81\x80\x81\x81",
+        b"\x01\x00\x80\x81\x81",
+        b"\x81\x81\x01\x00\x80",
+        b"\x00\x81\x81\x81\x81",
+        b"\x81\x81\x81x",
+        b"",
+    ];
+    for bytes in others {
+        assert!(rt; short_posting(bytes).is_none(), "{bytes:?}");
     }
 }
 

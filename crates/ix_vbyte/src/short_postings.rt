@@ -1,0 +1,81 @@
+//! Postings of one position whose gaps have short codes, at the front of bytes that may be anything.
+ghost use Rattle.std.specs.Prelude.{◌≡◌, ◌≢◌, ◌<◌, ◌≤◌, ◌^◌, ◌++◌, ◌⊎◌, ℕ, List, length, IfNone, IfSome};
+ghost use Rattle.ix_vbyte.specs.ShortPostings.{BeginsWithSingle, IsShortCode, single_bytes};
+
+/// How many bytes are looked at: two gaps of two bytes, and the number of positions.
+const SHORT: usize = 5;
+
+/// The code of 1.
+const ONE: u8 = 129;
+
+/// A posting of one position.
+#[derive(Clone, Copy)]
+pub struct ShortPosting {
+    /// The gap of its document.
+    pub gap: u32,
+    /// The gap of its position, which is one above it.
+    pub position: u32,
+    /// How many bytes it takes.
+    pub size: usize,
+}
+
+/// The posting of one position that the bytes begin with, where its two gaps are below 2^14 and not 0, and at least
+/// five bytes are there. None of any other bytes.
+///
+/// Most postings of a term are such. Which shape the document's gap has is mostly foreseen, so it is a branch; of the
+/// positions' gaps as many have one byte as two, so nothing branches on that.
+#[inline(always)]
+pub fn short_posting(bytes: &[u8]) -> Option<ShortPosting>
+    ensures found { IfSome result (λ posting. BeginsWithSingle bytes.now posting.gap posting.position posting.size) }
+    ensures none { IfNone result ((gap position : ℕ) (rest : List ℕ) → 5 ≤ length bytes.now → 0 < gap → gap < 2 ^ 14 → 0 < position → position < 2 ^ 14
+        → bytes.now ≢ single_bytes gap position ++ rest) }
+{
+    if bytes.len() < SHORT {
+        return None;
+    }
+    let first = bytes[0];
+    let second = bytes[1];
+    if first > 128 {
+        if second != ONE {
+            return None;
+        }
+        let Some((position, size)) = short_code(bytes[2], bytes[3]) else {
+            return None;
+        };
+        return Some(ShortPosting {
+            gap: u32::from(first - 128),
+            position,
+            size: 2 + size,
+        });
+    }
+    if first == 0 || first == 128 || second < 128 || bytes[2] != ONE {
+        return None;
+    }
+    let Some((position, size)) = short_code(bytes[3], bytes[4]) else {
+        return None;
+    };
+    Some(ShortPosting {
+        gap: u32::from(first) * 128 + u32::from(second - 128),
+        position,
+        size: 3 + size,
+    })
+}
+
+/// The number above 0 whose code of one byte or two these bytes begin with, and how many it takes.
+#[inline(always)]
+fn short_code(first: u8, second: u8) -> Option<(u32, usize)>
+    ensures found { IfSome result (λ code. IsShortCode first second code.0 code.1) }
+    ensures none { IfNone result ((first ≡ 0) ⊎ ((first ≡ 128) ⊎ ((first < 128) × (second < 128)))) }
+{
+    let high = u32::from(first % 128);
+    let low = u32::from(second % 128);
+    let code = if first >= 128 {
+        (high, 1)
+    } else {
+        (high * 128 + low, 2)
+    };
+    if high == 0 || first / 128 + second / 128 == 0 {
+        return None;
+    }
+    Some(code)
+}
