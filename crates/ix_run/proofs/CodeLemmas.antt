@@ -1,15 +1,12 @@
 -- A code or a fault that shows byte by byte.
-use Rattle.std.proofs.Common.{◌≡◌, ◌≢◌, ℕ, zero, suc, ◌+◌, ◌%◌, ◌^◌, ◌<◌, ◌≤◌, List, [], ◌∷◌, ◌++◌, Option, Some, None, Result, Ok, Err, IfSome, length, take, drop, slice_get, refl, sym, ap, ◌∙◌, subst, arith, append_assoc, append-nil, inl, inr, take-append-drop, set}
-use Rattle.std.specs.Prelude.{◌↔◌, IsErrOf}
+use Rattle.std.proofs.Common.{◌≡◌, ℕ, zero, suc, ◌+◌, ◌^◌, ◌<◌, List, [], ◌∷◌, ◌++◌, Option, Some, None, IfSome, length, take, slice_get, refl, sym, ap, ◌∙◌, subst, arith, append_assoc, append-nil, inl, inr}
 use Rattle.std.proofs.lemmas.Bool.{cases_lt}
-use Rattle.std.proofs.lemmas.List.{take-append-le, take_all, take_at, drop_all, length-append, length-take, length-take-le, take_more_set, nil_from_length}
-use Rattle.std.proofs.lemmas.List.Elements.{All-head, All-tail}
-use Rattle.std.specs.Io.KnownBytes.{Consumes, IsAtEnd}
+use Rattle.std.proofs.lemmas.List.{take-append-le, take_at, drop_all, length-append, length-take, nil_from_length}
+use Rattle.std.proofs.lemmas.List.Elements.{All-head}
+use Rattle.std.specs.Io.KnownBytes.{Consumes}
 use Rattle.ix_vbyte.specs.Code.{code_of, value_of, IsCode}
-use Rattle.ix_vbyte.specs.Decoded.{HasFault}
 use Rattle.ix_vbyte.specs.Reading.{StartsWithCode, StartsWithZero, IsTooBig, IsCut}
-use Rattle.ix_vbyte.specs.declared.errors.VbError.{VbError}
-use Rattle.ix_vbyte.specs.declared.errors.VbError.TheVariants.{Cut, LeadingZero, TooBig}
+use Rattle.ix_vbyte.specs.declared.errors.VbError.TheVariants.{Cut}
 use Rattle.ix_vbyte.proofs.Fronts.{code_or_fault, cut_at_once, starts_as}
 
 -- no byte is cut

@@ -1,17 +1,17 @@
 -- A front of a lawful dictionary is lawful.
-use Rattle.std.proofs.Common.{◌≡◌, ℕ, suc, ◌+◌, ◌^◌, ◌<◌, ◌≤◌, ◌⊎◌, List, [], ◌∷◌, ◌++◌, length, map, get_or, All, Contains, Option, Some, None, IfSome, refl, sym, ap, subst, ◌∙◌, inl, inr, arith, length-append}
+use Rattle.std.proofs.Common.{◌≡◌, ℕ, ◌+◌, ◌<◌, List, [], ◌∷◌, ◌++◌, length, map, All, Contains, Option, Some, None, refl, sym, ap, subst, ◌∙◌, inl, inr, arith, length-append}
 use Rattle.std.proofs.lemmas.Cmp.{nat_list_cmp_total}
-use Rattle.std.proofs.lemmas.List.{append_assoc, append-nil, get_or_append_left, map-append}
+use Rattle.std.proofs.lemmas.List.{get_or_append_left, map-append}
 use Rattle.std.proofs.lemmas.List.Elements.{All-append, All-nil, All-cons, All-weaker, All-contains, Contains-append_left, Contains-push, Contains-push_cases}
 use Rattle.std.proofs.lemmas.Map.Keys.{Less-from_sorted, sorted_from_all_adjacent}
 use Rattle.std.specs.Cmp.Lexicographic.{slice_cmp}
 use Rattle.std.specs.List.Sorted.{IsStrictlyIncreasing}
 use Rattle.std.specs.Ordering.{nat_cmp}
 use Rattle.ix_text.specs.ByteOrder.{IsAscending}
-use Rattle.ix_text.specs.Parts.{DictionaryEntry, Posting, IsPosting, ArePostings, HasPosition, terms_of}
-use Rattle.ix_text.specs.PartsLaws.{AreLawful, IsLawfulTerm, IsInRange}
+use Rattle.ix_text.specs.Parts.{DictionaryEntry, Posting, IsPosting, HasPosition, terms_of}
+use Rattle.ix_text.specs.PartsLaws.{AreLawful, IsLawfulTerm}
 use Rattle.ix_run.specs.Heads.{Heading, parts_with}
-use Rattle.ix_run.specs.Sources.{AreWhole, IsBegun, IsLawfulFront, closed, entry_with, extended}
+use Rattle.ix_run.specs.Sources.{AreWhole, IsLawfulFront, closed, extended}
 
 -- a front of ascending texts ascends
 ascending_front : (xs ys : List (List ℕ)) → IsAscending (xs ++ ys) → IsAscending xs

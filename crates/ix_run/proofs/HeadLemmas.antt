@@ -1,5 +1,5 @@
 -- The head of a run text, part behind part.
-use Rattle.std.proofs.Common.{◌≡◌, ℕ, zero, suc, ◌+◌, ◌^◌, ◌<◌, ◌≤◌, List, [], ◌∷◌, ◌++◌, Option, Some, length, take, get_or, map, All, refl, sym, ap, ap₂, ◌∙◌, subst, arith, append_assoc, append-nil}
+use Rattle.std.proofs.Common.{◌≡◌, ℕ, zero, suc, ◌+◌, ◌^◌, ◌<◌, ◌≤◌, List, [], ◌++◌, Option, Some, length, take, get_or, All, sym, ap, ap₂, ◌∙◌, subst, arith, append_assoc, append-nil}
 use Rattle.std.proofs.KnownBytes.{Consumes-trans}
 use Rattle.std.proofs.lemmas.List.{take_more, take_all, nil_from_length, length-take}
 use Rattle.std.proofs.lemmas.List.Elements.{All-get_or, All-from_get_or}
@@ -10,7 +10,7 @@ use Rattle.std.specs.List.{flat_map, sum_by}
 use Rattle.std.specs.Prelude.{codes}
 use Rattle.ix_text.specs.Collections.{IsName}
 use Rattle.ix_text.specs.Parts.{DocumentRow}
-use Rattle.ix_run.specs.Heads.{Heading, IsLawfulHeading}
+use Rattle.ix_run.specs.Heads.{Heading}
 use Rattle.ix_run.specs.Pieces.{EachFits, RowFits}
 use Rattle.ix_run.specs.RunText.{heading_bytes, head_bytes, stop_bytes, row_bytes}
 

@@ -1,19 +1,24 @@
 -- A posting that may come next at the front of what is left.
-use Rattle.std.proofs.Common.{◌≡◌, ℕ, ◌+◌, ◌-◌, ◌^◌, ◌<◌, ◌≤◌, List, ◌++◌, Option, Some, length, get_or, sum_by, sym, ap, ◌∙◌, subst, arith, append_assoc}
+use Rattle.std.proofs.Common.{◌≡◌, ℕ, ◌+◌, ◌-◌, ◌^◌, ◌<◌, ◌≤◌, List, [], ◌∷◌, ◌++◌, Option, Some, None, length, get_or, sum_by, sym, ap, ap₂, ◌∙◌, subst, arith, append_assoc, append-nil}
+use Rattle.std.specs.Io.KnownBytes.{Consumes}
 use Rattle.std.proofs.lemmas.List.{length-append}
 use Rattle.std.proofs.lemmas.List.Elements.{All-contains, All-from_get_or, Contains-get_or}
 use Rattle.std.proofs.lemmas.List.Sums.{sum_by-take-le}
 use Rattle.std.proofs.lemmas.Option.{slice_get_within}
 use Rattle.ix_text.specs.Parts.{DocumentRow, Posting}
 use Rattle.ix_text.specs.TokenMarks.{HoldsNumbers}
-use Rattle.ix_text.specs.TokenNumbers.{AreDistinct}
+use Rattle.ix_text.specs.TokenNumbers.{AreDistinct, numbers_of_posting}
 use Rattle.ix_text.specs.TokenTables.{HasTokens, IsSpan}
 use Rattle.ix_text.specs.declared.token_marks.TokenMarks.{TokenMarks}
 use Rattle.ix_text.specs.declared.token_table.TokenTable.{TokenTable}
+use Rattle.std.specs.Prelude.{Contains}
+use Rattle.ix_text.proofs.DistinctNumbers.{distinct_next, distinct_push}
 use Rattle.ix_text.proofs.TokenStarts.{in_range_from_span, span_from_in_range, tokens_before_next}
 use Rattle.ix_vbyte.specs.Code.{code_of}
 use Rattle.ix_vbyte.specs.Gaps.{Ascends, gaps_of}
 use Rattle.ix_vbyte.specs.Postings.{codes_of, posting_bytes}
+use Rattle.ix_vbyte.specs.ShortPostings.{single_bytes}
+use Rattle.ix_vbyte.proofs.Values.{code_of-apart}
 use Rattle.ix_vbyte.proofs.Gaps.{Ascends-from, Ascends-rising, Ascends-within, length-Ascends}
 use Rattle.ix_run.specs.ReadPostings.{HaveRoom, IsFree, PostingFits, StandNext, numbers_at}
 
@@ -115,3 +120,66 @@ positions_next tokens marks ready rows has next posting fits span is count limit
   short = short;
   spelled = e;
 }
+
+-- ---- a posting of one position
+
+-- its one position, from the code of that gap
+one_left : (positions : List ℕ) (position : ℕ) (behind rest : List ℕ) → 0 < position → 1 ≡ length positions → code_of position ++ behind ≡ codes_of (gaps_of positions) ++ rest
+    → (positions ≡ (position - 1) ∷ []) × (behind ≡ rest)
+one_left [] position behind rest some count e = absurd (omega (arith, count))
+one_left (x ∷ []) position behind rest some count e =
+    let apart = code_of-apart position (x + 1 - 0) behind rest (e ∙ ap (λ (xs : List ℕ). xs ++ rest) (append-nil (code_of (x + 1 - 0)))) in
+    let same : x ≡ position - 1 = omega (arith, apart.0) in
+    (ap (λ (n : ℕ). n ∷ []) same, apart.1)
+one_left (x ∷ z ∷ more) position behind rest some count e = absurd (omega (arith, count))
+
+-- what was taken is the posting that stands first
+pub single_accepted : (a b : Option (List ℕ)) (rest : List ℕ) (taken position gap : ℕ) (posting : Posting) → 0 < position → Consumes a b (single_bytes taken position) → a ≡ Some (posting_bytes gap posting ++ rest)
+    → (taken ≡ gap) × (posting.1 ≡ (position - 1) ∷ []) × (b ≡ Some rest)
+single_accepted None b rest taken position gap posting some h e = absurd cc
+single_accepted (Some x) None rest taken position gap posting some h e = absurd h
+single_accepted (Some x) (Some y) rest taken position gap posting some h e =
+    let spelled : Some x ≡ Some (code_of gap ++ behind_gap posting rest) = posting_parts (Some x) gap posting rest e in
+    let same : x ≡ code_of gap ++ behind_gap posting rest = cc in
+    let parts : x ≡ code_of taken ++ (code_of 1 ++ (code_of position ++ y)) =
+    h ∙ append_assoc (code_of taken) (code_of 1 ++ code_of position) y ∙ ap (λ (xs : List ℕ). code_of taken ++ xs) (append_assoc (code_of 1) (code_of position) y) in
+    let one = code_of-apart taken gap (code_of 1 ++ (code_of position ++ y)) (behind_gap posting rest) (sym parts ∙ same) in
+    let two = code_of-apart 1 (length posting.1) (code_of position ++ y) (behind_count posting rest) one.1 in
+    let three = one_left posting.1 position y rest some two.0 two.1 in
+    (one.0, three.0, ap (λ (bytes : List ℕ). Some bytes) three.1)
+
+-- and its bytes are those of the posting
+pub single_spelled : (gap position next document : ℕ) (positions : List ℕ) → 0 < position → document + 1 ≡ next + gap → positions ≡ (position - 1) ∷ []
+    → single_bytes gap position ≡ posting_bytes (document + 1 - next) (document, positions)
+single_spelled gap position next document positions some is only =
+    let same : gap ≡ document + 1 - next = omega (arith, is) in
+    let also : position ≡ (position - 1) + 1 - 0 = omega (arith, some) in
+    sym (append_assoc (code_of gap) (code_of 1) (code_of position))
+    ∙ ap₂ (λ (n m : ℕ). (code_of n ++ code_of 1) ++ code_of m) same also
+    ∙ ap (λ (xs : List ℕ). (code_of (document + 1 - next) ++ code_of 1) ++ xs) (sym (append-nil (code_of ((position - 1) + 1 - 0))))
+    ∙ ap (λ (xs : List ℕ). posting_bytes (document + 1 - next) (document, xs)) (sym only)
+
+-- the token of its one position
+numbers_single : (rows : List DocumentRow) (document position : ℕ) (positions : List ℕ) (span : ℕ × ℕ) → IsSpan rows document span → positions ≡ (position - 1) ∷ []
+    → numbers_of_posting rows (document, positions) ≡ (span.0 + (position - 1)) ∷ []
+numbers_single rows document position positions span is only =
+    ap (λ (xs : List ℕ). numbers_of_posting rows (document, xs)) only ∙ ap (λ (first : ℕ). (first + (position - 1)) ∷ []) (sym is.first)
+
+pub free_single : (rows : List DocumentRow) (numbers : List ℕ) (posting : Posting) (position : ℕ) (span : ℕ × ℕ) → IsSpan rows posting.0 span → IsFree rows numbers posting → posting.1 ≡ (position - 1) ∷ []
+    → ¬ (Contains numbers (span.0 + (position - 1)))
+free_single rows numbers posting position span is free only =
+    distinct_next numbers (span.0 + (position - 1)) [] (subst (λ (more : List ℕ). AreDistinct (numbers ++ more)) (numbers_single rows posting.0 position posting.1 span is only) free)
+
+pub marked_single : (rows : List DocumentRow) (numbers : List ℕ) (document position : ℕ) (positions : List ℕ) (span : ℕ × ℕ) → IsSpan rows document span → positions ≡ (position - 1) ∷ []
+    → (marks : TokenMarks) → AreDistinct numbers → ¬ (Contains numbers (span.0 + (position - 1))) → HoldsNumbers marks (numbers ++ (span.0 + (position - 1)) ∷ [])
+    → IsFree rows numbers (document, positions) × HoldsNumbers marks (numbers ++ numbers_of_posting rows (document, positions))
+marked_single rows numbers document position positions span is only marks distinct free held =
+    let same = sym (numbers_single rows document position positions span is only) in (
+      subst (λ (more : List ℕ). AreDistinct (numbers ++ more)) same (distinct_push numbers (span.0 + (position - 1)) distinct free),
+      subst (λ (more : List ℕ). HoldsNumbers marks (numbers ++ more)) same held,
+    )
+
+pub ascends_single : (tokens : TokenTable) (marks : TokenMarks) (ready : HaveRoom tokens marks) (rows : List DocumentRow) (has : HasTokens tokens rows) (next : ℕ) (posting : Posting) → PostingFits rows next posting
+    → (position : ℕ) (span : ℕ × ℕ) → IsSpan rows posting.0 span → posting.1 ≡ (position - 1) ∷ [] → position - 1 < span.1
+ascends_single tokens marks ready rows has next posting fits position span is only =
+    (subst (Ascends 0 span.1) only (ascends tokens marks ready rows has next posting fits span is)).1

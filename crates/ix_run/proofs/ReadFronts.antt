@@ -1,16 +1,14 @@
 -- What a reader of a run text may have given, step by step.
-use Rattle.std.proofs.Common.{◌≡◌, ℕ, suc, ◌+◌, ◌-◌, ◌^◌, ◌<◌, ◌≤◌, ◌⊎◌, List, [], ◌∷◌, ◌++◌, length, map, get_or, All, Contains, Option, Some, None, IfSome, Less, refl, sym, ap, subst, ◌∙◌, inl, inr, arith, length-append}
-use Rattle.std.proofs.lemmas.List.{append_assoc, append-nil, get_or_append_left, get_or_default, length-map, map-append}
+use Rattle.std.proofs.Common.{◌≡◌, ℕ, suc, ◌+◌, ◌-◌, ◌<◌, ◌≤◌, List, [], ◌∷◌, ◌++◌, length, get_or, All, Contains, Option, Some, None, IfSome, Less, refl, sym, ap, subst, ◌∙◌, inl, inr, arith, length-append}
+use Rattle.std.proofs.lemmas.List.{append_assoc, append-nil, get_or_append_left, get_or_default, map-append}
 use Rattle.std.proofs.Math.Seq.{get_or-append_right}
 use Rattle.std.proofs.lemmas.Bool.{cases_lt}
-use Rattle.std.proofs.lemmas.List.Concat.{flat_map-append}
-use Rattle.std.proofs.lemmas.List.Elements.{All-append, All-nil, All-cons, All-push, All-weaker, All-contains, Contains-append_left, Contains-append_right, Contains-push, Contains-push_cases}
+use Rattle.std.proofs.lemmas.List.Elements.{All-nil, All-push, All-weaker, All-contains, Contains-push, Contains-push_cases}
 use Rattle.std.specs.Cmp.Lexicographic.{slice_cmp}
-use Rattle.std.specs.List.{flat_map}
 use Rattle.std.specs.List.Sorted.{IsStrictlyIncreasing}
 use Rattle.std.specs.Ordering.{nat_cmp}
 use Rattle.ix_text.specs.ByteOrder.{IsAscending}
-use Rattle.ix_text.specs.Parts.{DictionaryEntry, DocumentRow, Posting, IsPosting, ArePostings, HasPosition, terms_of}
+use Rattle.ix_text.specs.Parts.{DictionaryEntry, DocumentRow, Posting, IsPosting, HasPosition, terms_of}
 use Rattle.ix_text.specs.PartsLaws.{AreLawful, IsLawfulTerm, IsInRange}
 use Rattle.ix_text.specs.Terms.{IsTerm}
 use Rattle.ix_text.specs.TokenLaws.{AreInOrder}
@@ -25,8 +23,7 @@ use Rattle.ix_run.specs.ReadPostings.{IsFree, PostingFits}
 use Rattle.ix_run.specs.ReadTerms.{TermFits}
 use Rattle.ix_run.specs.Reading.{last_text}
 use Rattle.ix_run.specs.Sources.{AreWhole, IsBegun, IsLawfulFront, closed, entry_with, extended}
-use Rattle.ix_run.proofs.Fronts.{front_lawful, whole_front}
-use Rattle.ix_run.proofs.OrderLemmas.{ascends-push, stands_above}
+use Rattle.ix_run.proofs.OrderLemmas.{ascends-push}
 
 -- ---- one posting more
 

@@ -1,22 +1,19 @@
 -- A reader of a run text that goes on to the next term, or to the end.
-use Rattle.std.proofs.Common.{◌≡◌, ◌≢◌, ℕ, ◌+◌, ◌<◌, ◌≤◌, ◌^◌, List, [], ◌∷◌, ◌++◌, length, map, Option, Some, None, IfSome, option_map, refl, sym, ap, ap₂, subst, ◌∙◌, arith, length-append}
+use Rattle.std.proofs.Common.{◌≡◌, ◌≢◌, ℕ, List, [], ◌∷◌, ◌++◌, length, Option, Some, None, IfSome, refl, sym, ap, subst, ◌∙◌, arith}
 use Rattle.std.proofs.lemmas.List.{append_assoc, append-nil}
 use Rattle.std.specs.Io.KnownBytes.{Consumes, IsAtEnd}
-use Rattle.std.specs.List.{flat_map}
 use Rattle.ix_text.specs.Parts.{DictionaryEntry, Posting, terms_of}
 use Rattle.ix_text.specs.TokenMarks.{HoldsNumbers}
 use Rattle.ix_text.specs.TokenNumbers.{AreDistinct, numbers_of_entries}
 use Rattle.ix_text.proofs.TokensApart.{numbers_of_entries-push}
 use Rattle.ix_vbyte.specs.Code.{code_of}
-use Rattle.ix_vbyte.specs.Postings.{list_bytes, list_bytes_from}
+use Rattle.ix_vbyte.specs.Postings.{list_bytes}
 use Rattle.ix_vbyte.specs.Texts.{counted}
 use Rattle.ix_run.specs.ReadTerms.{TermFits}
-use Rattle.ix_run.specs.Reading.{AreCounted, LieAhead, LieBehind, MayLieAhead, Standing, bytes_ahead, last_text, term_at}
-use Rattle.ix_run.specs.RunText.{term_bytes}
-use Rattle.ix_run.specs.Sources.{AreWhole, closed, entry_with, extended}
-use Rattle.ix_run.specs.declared.run_reader.Place.{Place}
-use Rattle.ix_run.specs.declared.run_reader.Place.TheVariants.{AtTerm, Ended, Failed}
-use Rattle.ix_run.proofs.ReadFronts.{closed-none, front_begun, front_closed, last_text-push, terms_push}
+use Rattle.ix_run.specs.Reading.{LieAhead, LieBehind, MayLieAhead, Standing, bytes_ahead, last_text}
+use Rattle.ix_run.specs.Sources.{AreWhole, closed, entry_with}
+use Rattle.ix_run.specs.declared.run_reader.Place.TheVariants.{AtTerm, Ended}
+use Rattle.ix_run.proofs.ReadFronts.{front_begun, front_closed, last_text-push, terms_push}
 use Rattle.ix_run.proofs.ReadWholes.{closed-begun, term_fits}
 
 -- the bytes of a term and of what lies behind it

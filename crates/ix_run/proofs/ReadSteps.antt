@@ -1,5 +1,5 @@
 -- A reader of a run text that takes a posting.
-use Rattle.std.proofs.Common.{◌≡◌, ◌≢◌, ℕ, ◌+◌, ◌-◌, ◌^◌, ◌<◌, ◌≤◌, List, [], ◌∷◌, ◌++◌, length, map, Contains, Option, Some, None, IfSome, option_map, refl, sym, ap, ap₂, subst, ◌∙◌, arith, length-append}
+use Rattle.std.proofs.Common.{◌≡◌, ◌≢◌, ℕ, ◌+◌, ◌-◌, ◌^◌, ◌<◌, ◌≤◌, List, [], ◌∷◌, ◌++◌, length, Option, Some, None, IfSome, refl, sym, ap, ap₂, subst, ◌∙◌, arith, length-append}
 use Rattle.std.proofs.lemmas.List.{append_assoc, append-nil, map-append}
 use Rattle.std.proofs.lemmas.List.Elements.{Contains-get_or}
 use Rattle.std.proofs.lemmas.Option.{slice_get_within}
@@ -13,7 +13,7 @@ use Rattle.ix_vbyte.specs.Gaps.{next_after}
 use Rattle.ix_vbyte.specs.Postings.{documents_of, list_bytes_from, posting_bytes}
 use Rattle.ix_vbyte.proofs.Gaps.{next_after-push}
 use Rattle.ix_run.specs.ReadPostings.{IsFree, PostingFits}
-use Rattle.ix_run.specs.Reading.{AreCounted, LieAhead, LieBehind, MayLieAhead, Standing, bytes_ahead, last_text, term_at}
+use Rattle.ix_run.specs.Reading.{LieAhead, LieBehind, MayLieAhead, Standing, bytes_ahead, last_text, term_at}
 use Rattle.ix_run.specs.RunText.{term_bytes}
 use Rattle.ix_run.specs.Sources.{AreWhole, closed, entry_with, extended}
 use Rattle.ix_run.specs.declared.run_reader.Place.{Place}

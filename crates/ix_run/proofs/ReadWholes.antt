@@ -1,22 +1,20 @@
 -- What comes next where a reader of a run text stands within a lawful whole.
-use Rattle.std.proofs.Common.{◌≡◌, ℕ, suc, ◌+◌, ◌-◌, ◌*◌, ◌^◌, ◌<◌, ◌≤◌, List, [], ◌∷◌, ◌++◌, length, map, get_or, All, Contains, Option, Some, None, Less, refl, sym, ap, subst, ◌∙◌, arith, length-append}
-use Rattle.std.proofs.lemmas.List.{append_assoc, append-nil, length-map, map-append}
+use Rattle.std.proofs.Common.{◌≡◌, ℕ, ◌-◌, ◌^◌, ◌<◌, List, [], ◌∷◌, ◌++◌, length, get_or, Contains, Some, Less, refl, sym, ap, subst, ◌∙◌, arith}
+use Rattle.std.proofs.lemmas.List.{append_assoc, length-map, map-append}
 use Rattle.std.proofs.lemmas.List.Elements.{All-contains, Contains-append_left, Contains-append_right}
 use Rattle.std.proofs.lemmas.List.Sums.{get_or-le-sum_by}
 use Rattle.std.specs.Cmp.Lexicographic.{slice_cmp}
-use Rattle.std.specs.List.{flat_map, sum_by}
 use Rattle.std.specs.List.Sorted.{IsStrictlyIncreasing}
 use Rattle.std.specs.Ordering.{nat_cmp}
 use Rattle.ix_text.specs.ByteOrder.{IsAscending}
-use Rattle.ix_text.specs.Parts.{DictionaryEntry, DocumentRow, Posting, IsPosting, HasPosition, terms_of}
-use Rattle.ix_text.specs.PartsLaws.{AreLawful, HasCollection, IsLawfulTerm, IsInRange, position_count}
-use Rattle.ix_text.specs.Terms.{IsTerm}
+use Rattle.ix_text.specs.Parts.{DictionaryEntry, Posting, IsPosting, terms_of}
+use Rattle.ix_text.specs.PartsLaws.{IsLawfulTerm, position_count}
 use Rattle.ix_text.specs.TokenNumbers.{AreDistinct, numbers_of_entries, numbers_of_posting, numbers_of_postings}
 use Rattle.ix_text.proofs.CollectionTold.{has_collection}
 use Rattle.ix_text.proofs.PartsCounted.{positions_counted}
 use Rattle.ix_text.proofs.TokensApart.{lawful_distinct}
 use Rattle.ix_vbyte.specs.Gaps.{next_after}
-use Rattle.ix_vbyte.specs.Postings.{ArePostings, documents_of, list_bytes}
+use Rattle.ix_vbyte.specs.Postings.{documents_of, list_bytes}
 use Rattle.ix_vbyte.proofs.Gaps.{length-Ascends}
 use Rattle.ix_vbyte.proofs.Sizes.{list_short}
 use Rattle.ix_run.specs.Heads.{Heading, parts_with}

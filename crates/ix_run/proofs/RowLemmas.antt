@@ -1,6 +1,5 @@
 -- A document's row at the front of what is left.
-use Rattle.std.proofs.Common.{◌≡◌, ℕ, ◌+◌, ◌^◌, ◌<◌, ◌≤◌, List, ◌++◌, Option, Some, None, IfSome, length, All, refl, sym, ap, ap₂, ◌∙◌, subst, arith, append_assoc}
-use Rattle.std.specs.Io.KnownBytes.{Consumes}
+use Rattle.std.proofs.Common.{◌≡◌, ℕ, ◌^◌, ◌<◌, ◌≤◌, List, ◌++◌, Option, Some, IfSome, ap, ap₂, ◌∙◌, arith, append_assoc}
 use Rattle.ix_text.specs.Collections.{IsName}
 use Rattle.ix_text.specs.Parts.{DocumentRow}
 use Rattle.ix_text.specs.Terms.{IsTerm}
@@ -11,7 +10,7 @@ use Rattle.ix_run.specs.CodeFaults.{IsCodeFault}
 use Rattle.ix_run.specs.RunText.{row_bytes}
 use Rattle.ix_run.specs.RunTextErrors.{IsRefusal}
 use Rattle.ix_run.specs.declared.run_text_error.RunTextError.{RunTextError}
-use Rattle.ix_run.proofs.SpelledLemmas.{code_refused, code_accepted}
+use Rattle.ix_run.proofs.SpelledLemmas.{code_refused}
 
 pub term_from_name : (name : List ℕ) → IsName name → IsTerm name
 term_from_name name is = record { text = is.characters; some_byte = is.some_byte; short = is.short }

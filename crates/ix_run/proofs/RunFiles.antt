@@ -1,11 +1,13 @@
 -- A run text that is read to its end, posting by posting and term by term.
-use Rattle.std.proofs.Common.{◌≡◌, ◌≢◌, ℕ, ◌+◌, ◌-◌, ◌^◌, ◌<◌, ◌≤◌, List, [], ◌∷◌, ◌++◌, length, map, All, Contains, Option, Some, None, refl, sym, ap, ap₂, subst, ◌∙◌, arith, length-append}
+use Rattle.std.proofs.Common.{◌≡◌, ℕ, ◌+◌, ◌-◌, ◌^◌, ◌<◌, ◌≤◌, List, [], ◌∷◌, ◌++◌, length, map, All, sum_by, Option, Some, None, refl, sym, ap, ap₂, subst, ◌∙◌, arith, length-append}
 use Rattle.std.proofs.lemmas.List.{append_assoc, append-nil, length-map, map-append}
-use Rattle.std.proofs.lemmas.List.Elements.{All-contains, Contains-push}
+use Rattle.std.proofs.lemmas.List.Elements.{All-contains, All-get_or, All-head, All-tail, All-weaker, Contains-push}
+use Rattle.std.proofs.lemmas.List.Sums.{get_or-le-sum_by, sum_by-cons}
 use Rattle.ix_text.specs.Collections.{Collection}
-use Rattle.ix_text.specs.Parts.{DictionaryEntry, Parts, Posting, ArePartsOf, row_of}
-use Rattle.ix_text.specs.PartsLaws.{HasCollection}
+use Rattle.ix_text.specs.Parts.{DictionaryEntry, Parts, Posting, ArePostings as ArePostingsOfTerm, IsEntryOf, IsPosting as IsPostingOfTerm, row_of}
+use Rattle.ix_text.specs.PartsLaws.{position_count}
 use Rattle.ix_text.proofs.CollectionTold.{has_collection}
+use Rattle.ix_text.proofs.PartsCounted.{positions_counted}
 use Rattle.ix_text.proofs.PartsLemmas.{same_entry_fields, same_parts_fields}
 use Rattle.ix_vbyte.specs.Gaps.{Ascends, next_after}
 use Rattle.ix_vbyte.specs.Postings.{ArePostings, IsPosting, documents_of, list_bytes, posting_bytes}
@@ -121,7 +123,7 @@ module _ {R : Type 0} (remaining : R → Option (List ℕ)) where
     drained = drained;
     yielded = λ entries may.
         subst (λ (ps : List Posting). MayYield remaining old ps entries) (append-nil takes.told) (takes.yielded [] entries (ends.yielded [] entries may).1);
-    given = λ finished entry read. (ends.given finished (extended entry takes.told) (takes.given finished entry read)).0;
+    given = λ finished entry read. ends.given finished (extended entry takes.told) (takes.given finished entry read);
     accepted = λ postings entries faces.
         let ahead = takes.accepted postings entries faces in
         let last = accepted ahead.0 entries ahead.2 in
@@ -130,7 +132,34 @@ module _ {R : Type 0} (remaining : R → Option (List ℕ)) where
 
 -- ---- all terms
 
--- What a loop over the terms keeps: those that were given, coded.
+-- a sum of positive numbers is no less than how many they are
+length_within : {A : Type 0} (f : A → ℕ) (xs : List A) → All (λ x. 0 < f x) xs → length xs ≤ sum_by f xs
+length_within f [] all = omega arith
+length_within f (x ∷ xs) all = let rest = length_within f xs (All-tail (λ x. 0 < f x) x xs all) in let first = All-head (λ x. 0 < f x) x xs all in omega (arith, rest, first, sum_by-cons f x xs)
+
+-- postings have some position
+some_positions : (postings : List Posting) → ArePostingsOfTerm postings → 0 < position_count postings
+some_positions postings are =
+    let d : Posting = (0, []) in
+    let first = All-get_or IsPostingOfTerm postings 0 d are.some are.each in
+    let some = first.0 in
+    omega (arith, some, get_or-le-sum_by (λ (posting : Posting). length posting.1) postings 0 d are.some)
+
+-- each term of a dictionary has a token of its own
+few_terms : (heading : Heading) (entries : List DictionaryEntry) → AreWhole heading entries → length entries ≤ 2 ^ 28
+few_terms heading entries whole =
+    let has = has_collection (parts_with heading entries) whole.lawful in
+    let some = length_within (λ (e : DictionaryEntry). position_count e.postings) entries
+    (All-weaker (IsEntryOf has.collection) (λ e. 0 < position_count e.postings) (λ e is. some_positions e.postings is.ordered) entries has.of_collection.entries) in
+    let total = positions_counted has.collection (parts_with heading entries) has.of_collection in
+    let few = has.lawful.few_tokens in omega (arith, some, total, few)
+
+-- how many entries there are does not rest on the postings of the one at hand
+length-closed : (finished : List DictionaryEntry) (at_hand : Option DictionaryEntry) (one other : List Posting) → length (closed finished at_hand one) ≡ length (closed finished at_hand other)
+length-closed finished None one other = refl
+length-closed finished (Some entry) one other = omega (arith, length-append finished (extended entry one ∷ []), length-append finished (extended entry other ∷ []))
+
+-- What a loop over the terms keeps: those that were given, coded, and no more than there may be tokens.
 pub record ReadsOn {R : Type 0} (remaining : R → Option (List ℕ)) (old now : RunReader R) (values : List TermValue) : Type 0 where
   pub heading : heading_of now.head ≡ heading_of old.head
   pub drained : IsDrained now
@@ -140,6 +169,8 @@ pub record ReadsOn {R : Type 0} (remaining : R → Option (List ℕ)) (old now :
   pub finished : List DictionaryEntry
   pub at_hand : Option DictionaryEntry
   pub given : HasRead now finished at_hand
+  pub counted : length values ≡ length (closed finished at_hand [])
+  pub few : length values ≤ 2 ^ 28
   pub accepted : (entries : List DictionaryEntry) → Faces remaining old [] entries → (rest : List DictionaryEntry) × (entries ≡ done ++ rest) × Faces remaining now [] rest
 
 same_term : (at_hand : Option (List ℕ)) (one other : List ℕ) → at_hand ≡ Some one → at_hand ≡ Some other → one ≡ other
@@ -156,6 +187,8 @@ module _ {R : Type 0} (remaining : R → Option (List ℕ)) where
     finished = [];
     at_hand = None;
     given = read;
+    counted = refl;
+    few = omega arith;
     accepted = λ entries faces. (entries, refl, faces);
   }
 
@@ -170,6 +203,11 @@ module _ {R : Type 0} (remaining : R → Option (List ℕ)) where
           let same : term ≡ gives.term = same_term (term_of mid) term gives.term at_hand gives.at_hand in
           let entry : DictionaryEntry = entry_with gives.term gives.postings in
           let none : begins.skipped ≡ [] = begins.none on.drained in
+          let behind : List DictionaryEntry = closed on.finished on.at_hand begins.skipped in
+          let last : DictionaryEntry = extended (entry_with term []) gives.postings in
+          let after = gives.given behind (entry_with term []) (begins.given on.finished on.at_hand on.given) in
+          let grown : length (values ++ value ∷ []) ≡ length (behind ++ last ∷ []) =
+          (let counted = on.counted in omega (arith, counted, length-closed on.finished on.at_hand begins.skipped [], length-append values (value ∷ []), length-append behind (last ∷ []))) in
           record {
             heading = two ∙ one ∙ on.heading;
             drained = gives.drained;
@@ -180,9 +218,11 @@ module _ {R : Type 0} (remaining : R → Option (List ℕ)) where
                 let Q : List ℕ → Type 0 = λ t. MayYield remaining now [] (entry_with t gives.postings ∷ entries) in
                 subst (MayYield remaining old []) (sym (append_assoc on.done (entry ∷ []) entries))
                 (on.yielded (entry ∷ entries) (subst Q same (subst P none (begins.yielded gives.postings entries (gives.yielded entries may)))));
-            finished = closed on.finished on.at_hand begins.skipped;
-            at_hand = Some (extended (entry_with term []) gives.postings);
-            given = gives.given (closed on.finished on.at_hand begins.skipped) (entry_with term []) (begins.given on.finished on.at_hand on.given);
+            finished = behind;
+            at_hand = Some last;
+            given = after.0;
+            counted = grown ∙ (omega (arith, length-append behind (last ∷ []), length-append behind (extended last [] ∷ [])));
+            few = (let few = few_terms (heading_of new.head) (behind ++ last ∷ []) (after.0.lawful.begun.posted after.1) in omega (arith, few, grown));
             accepted = λ entries faces.
                 let ahead = on.accepted entries faces in
                 let first = accepted ahead.0 ahead.2 in

@@ -1,19 +1,19 @@
 -- A run in memory as a source, step by step.
-use Rattle.std.proofs.Common.{◌≡◌, ◌≢◌, ℕ, ◌+◌, ◌-◌, ◌^◌, ◌<◌, ◌≤◌, List, [], ◌∷◌, ◌++◌, length, map, get_or, All, Option, Some, None, IsSome, IfSome, option_map, refl, sym, ap, ap₂, subst, ◌∙◌, arith, length-append}
-use Rattle.std.proofs.lemmas.List.{append_assoc, append-nil, length-map}
-use Rattle.std.proofs.lemmas.List.Elements.{All-contains, All-cons, All-head, All-tail, All-weaker, Contains-append_left, Contains-push}
-use Rattle.ix_text.specs.Collections.{Collection, IsLawful}
-use Rattle.ix_text.specs.Parts.{DictionaryEntry, Parts, Posting, ArePartsOf, row_of}
-use Rattle.ix_text.specs.PartsLaws.{AreLawful, IsLawfulTerm, LiesBelow}
+use Rattle.std.proofs.Common.{◌≡◌, ◌≢◌, ℕ, ◌-◌, ◌^◌, ◌<◌, List, [], ◌∷◌, ◌++◌, length, map, get_or, All, Option, Some, None, IsSome, option_map, refl, sym, ap, ap₂, subst, ◌∙◌, arith, length-append}
+use Rattle.std.proofs.lemmas.List.{append_assoc, length-map}
+use Rattle.std.proofs.lemmas.List.Elements.{All-contains, All-head, All-tail, All-weaker, Contains-append_left, Contains-push}
+use Rattle.ix_text.specs.Collections.{Collection}
+use Rattle.ix_text.specs.Parts.{DictionaryEntry, Posting, ArePartsOf, row_of}
+use Rattle.ix_text.specs.PartsLaws.{IsLawfulTerm, LiesBelow}
 use Rattle.ix_text.proofs.PartsLawful.{lawful_parts, postings_below}
 use Rattle.ix_text.proofs.PartsLemmas.{same_entry_fields}
 use Rattle.ix_vbyte.specs.Postings.{ArePostings, list_bytes}
 use Rattle.ix_vbyte.specs.Walking.{IsCodedList}
 use Rattle.ix_vbyte.proofs.Sizes.{postings_from}
 use Rattle.ix_run.specs.Heads.{Heading, parts_with}
-use Rattle.ix_run.specs.Runs.{IsRun, IsRunOf, RunValue, TermValue, coded, run_value}
+use Rattle.ix_run.specs.Runs.{IsRunOf, RunValue, TermValue, coded, run_value}
 use Rattle.ix_run.specs.RunSources.{AreCoded, HasGiven, HasLeft, IsAtEndOfTerm, IsAtPlace, SourceValue, heading_shown, unread}
-use Rattle.ix_run.specs.Sources.{AreWhole, BeginsTerm, EndsPostings, EndsTerms, GivesPosting, IsLawfulFront, closed, entry_with, extended}
+use Rattle.ix_run.specs.Sources.{AreWhole, BeginsTerm, EndsPostings, EndsTerms, GivesPosting, closed, entry_with, extended}
 use Rattle.ix_run.proofs.Fronts.{front_lawful}
 
 -- the lists of a lawful dictionary can be coded

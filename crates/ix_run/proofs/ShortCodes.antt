@@ -6,31 +6,8 @@ use Rattle.std.proofs.lemmas.Int.Digits.{digits_of_step}
 use Rattle.std.proofs.KnownBytes.{Consumes-trans, Keeps-refl}
 use Rattle.std.specs.Io.KnownBytes.{Consumes, prepend_known}
 use Rattle.ix_vbyte.specs.Code.{code_of}
+use Rattle.ix_vbyte.proofs.ShortPostings.{code_of-one, code_of-two}
 use Rattle.ix_run.proofs.InputLemmas.{held, byte_taken}
-
--- a marked byte is a code
-pub code_of-one : (first number : ℕ) → 128 ≤ first → first < 256 → number ≡ first % 128 → code_of number ≡ first ∷ []
-unfolding code_of
-code_of-one first number marked byte is =
-    let high : number / 128 ≡ 0 = omega arith in
-    let low : 128 + number % 128 ≡ first = omega arith in
-    ap (λ (m : ℕ). digits_of 128 m ++ (128 + number % 128) ∷ []) high ∙ ap (λ (x : ℕ). x ∷ []) low
-
--- an unmarked byte that is not 0, and a marked one, are a code
-pub code_of-two : (first second number : ℕ) → 0 < first → first < 128 → 128 ≤ second → second < 256 → number ≡ first * 128 + second % 128 → code_of number ≡ first ∷ second ∷ []
-unfolding code_of
-code_of-two first second number some below marked byte is =
-    let high : number / 128 ≡ first = omega arith in
-    let low : 128 + number % 128 ≡ second = omega arith in
-    let over : first / 128 ≡ 0 = omega arith in
-    let left : first % 128 ≡ first = omega arith in
-    let digits : digits_of 128 first ≡ first ∷ [] =
-    digits_of_step 128 first (omega arith) some
-    ∙ ap (λ (m : ℕ). digits_of 128 m ++ (first % 128) ∷ []) over
-    ∙ ap (λ (x : ℕ). x ∷ []) left in
-    ap (λ (m : ℕ). digits_of 128 m ++ (128 + number % 128) ∷ []) high
-    ∙ ap (λ (xs : List ℕ). xs ++ (128 + number % 128) ∷ []) digits
-    ∙ ap (λ (x : ℕ). first ∷ x ∷ []) low
 
 -- a held byte is taken
 one_taken : (known : Option (List ℕ)) (buffer : List ℕ) (start end byte : ℕ) → start < end → end ≤ length buffer → byte ≡ get_or buffer start byte

@@ -1,5 +1,5 @@
 -- What is spelled at the front of what is left is read, unless a read or a growth is refused.
-use Rattle.std.proofs.Common.{◌≡◌, ℕ, ◌+◌, ◌^◌, ◌<◌, ◌≤◌, List, [], ◌∷◌, ◌++◌, Option, Some, None, IfSome, length, take, drop, refl, sym, ap, ◌∙◌, subst, arith, append_assoc, ◌⊎◌, inl, inr}
+use Rattle.std.proofs.Common.{◌≡◌, ℕ, ◌^◌, ◌<◌, ◌≤◌, List, ◌++◌, Option, Some, None, IfSome, length, take, drop, refl, sym, ap, ◌∙◌, subst, arith, append_assoc, ◌⊎◌, inl, inr}
 use Rattle.std.proofs.lemmas.List.{take_at, drop_at, take-take, length-append, length-take}
 use Rattle.std.specs.Io.KnownBytes.{Consumes}
 use Rattle.ix_vbyte.specs.Code.{code_of, IsCode}
@@ -12,7 +12,7 @@ use Rattle.ix_vbyte.specs.Texts.{counted}
 use Rattle.ix_run.specs.CodeFaults.{IsCodeFault, IsTextFault}
 use Rattle.ix_run.specs.RunTextErrors.{IsRefusal}
 use Rattle.ix_run.specs.declared.run_text_error.RunTextError.{RunTextError}
-use Rattle.ix_run.specs.declared.run_text_error.RunTextError.TheVariants.{Magic, Number, Text, Name, TermSize, TermOrder, ListLength, DocRange, Zero, PositionRange, StopIndexed, StopOrder, Extra, TooLarge, Read, Memory, Doubled, Failed}
+use Rattle.ix_run.specs.declared.run_text_error.RunTextError.TheVariants.{Number, ListLength, Read, Memory}
 
 -- the code stands first in as many bytes as it may have
 code_within : (bytes : List ℕ) (number count limit : ℕ) → StartsWithCode bytes number count → count ≤ limit → StartsWithCode (take limit bytes) number count

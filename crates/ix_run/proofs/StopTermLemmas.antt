@@ -1,5 +1,5 @@
 -- Stop terms that fit one another are a stop set, and the other way round.
-use Rattle.std.proofs.Common.{◌≡◌, ℕ, ◌^◌, ◌≤◌, List, [], length, All, subst, arith}
+use Rattle.std.proofs.Common.{ℕ, List, length, subst, arith}
 use Rattle.std.proofs.lemmas.List.{take_all}
 use Rattle.std.proofs.lemmas.List.Elements.{All-get_or}
 use Rattle.ix_text.specs.ByteOrder.{IsAscending}

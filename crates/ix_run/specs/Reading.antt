@@ -109,9 +109,21 @@ pub record Skips {R : Type 0} (remaining : R → Option (List ℕ)) (old new : R
 abbrev pub term_of : {R : Type 0} → RunReader R → Option (List ℕ)
 term_of reader = term_at reader.place (string_bytes reader.term)
 
+-- the end mark was taken: no term is left
+abbrev pub IsEnded : {R : Type 0} → RunReader R → Type 0
+IsEnded reader = reader.place ≡ Ended
+
+-- a call was refused
+abbrev pub HasFailed : {R : Type 0} → RunReader R → Type 0
+HasFailed reader = reader.place ≡ Failed
+
+-- how many postings of the term at hand are left
+abbrev pub postings_left : {R : Type 0} → RunReader R → ℕ
+postings_left reader = reader.documents
+
 -- of the term at hand, if there is one, no posting is left, and no call was refused
 abbrev pub IsDrained : {R : Type 0} → RunReader R → Type 0
-IsDrained reader = term_of reader ≢ None → (reader.place ≢ Failed) × (reader.documents ≡ 0)
+IsDrained reader = term_of reader ≢ None → (¬ (HasFailed reader)) × (postings_left reader ≡ 0)
 
 -- The first of the entries is the one at hand, and its postings and the other entries lie ahead.
 pub record BeginsFirst {R : Type 0} (remaining : R → Option (List ℕ)) (reader : RunReader R) (entries : List DictionaryEntry) : Type 0 where

@@ -1,5 +1,5 @@
 -- A run text that is read to its end, and kept coded.
-use Rattle.std.specs.Prelude.{◌≡◌, ℕ, List, [], map, Option, Some}
+use Rattle.std.specs.Prelude.{◌≡◌, ℕ, ◌<◌, ◌++◌, List, [], length, map, Option, Some}
 use Rattle.ix_text.specs.Parts.{DictionaryEntry, Posting}
 use Rattle.ix_run.specs.Reading.{Faces, HasRead, IsDrained, MayYield, term_of}
 use Rattle.ix_run.specs.Runs.{TermValue, coded}
@@ -20,7 +20,8 @@ pub record GivesTerm {R : Type 0} (remaining : R → Option (List ℕ)) (old new
   pub shown : value ≡ coded (entry_with term postings)
   pub drained : IsDrained new
   pub yielded : (entries : List DictionaryEntry) → MayYield remaining new [] entries → MayYield remaining old postings entries
-  pub given : (finished : List DictionaryEntry) (entry : DictionaryEntry) → HasRead old finished (Some entry) → HasRead new finished (Some (extended entry postings))
+  pub given : (finished : List DictionaryEntry) (entry : DictionaryEntry) → HasRead old finished (Some entry)
+      → HasRead new finished (Some (extended entry postings)) × (0 < length (entry.postings ++ postings))
   pub accepted : (ahead : List Posting) (entries : List DictionaryEntry) → Faces remaining old ahead entries → (ahead ≡ postings) × Faces remaining new [] entries
 
 -- What was read of a reader that had given nothing: all that it could yield.

@@ -5,7 +5,7 @@ use Rattle.ix_run.specs.Inputs.{known_left}
 use Rattle.ix_run.specs.declared.run_reader.RunReader.{RunReader}
 
 -- the heading that it read
-unfoldable pub heading_read : {R : Type 0} → RunReader R → Heading
+abbrev pub heading_read : {R : Type 0} → RunReader R → Heading
 heading_read reader = heading_of reader.head
 
 -- the bytes that it has left, where its own reader tells them

@@ -44,6 +44,10 @@ pub record HasGiven (source : SourceValue) (finished : List DictionaryEntry) (at
 abbrev pub IsAtEndOfTerm : SourceValue → Type 0
 IsAtEndOfTerm source = source.term ≢ None → source.postings ≡ []
 
+-- no term is left, and none is at hand
+abbrev pub IsAtEnd : SourceValue → Type 0
+IsAtEnd source = (source.terms ≡ []) × (source.term ≡ None)
+
 -- What a run in memory is at any time: at some place of a lawful dictionary.
 pub record IsAtPlace (source : SourceValue) : Type 0 where
   pub finished : List DictionaryEntry

@@ -9,7 +9,6 @@ use Rattle.ix_vbyte.specs.Texts.{counted}
 use Rattle.ix_run.specs.Heads.{row_of_doc}
 use Rattle.ix_run.specs.RunText.{row_bytes}
 use Rattle.ix_run.specs.declared.head.RunHead.{RunHead}
-use Rattle.ix_run.specs.declared.head.RunDoc.{RunDoc}
 use Rattle.ix_run.specs.declared.coded_term.CodedTerm.{CodedTerm}
 
 -- a term, the number of its documents, and the bytes of its list

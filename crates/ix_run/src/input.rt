@@ -4,11 +4,12 @@ ghost use Rattle.std.specs.Io.{ReadsAtMost};
 ghost use Rattle.std.specs.Io.KnownBytes.{Consumes, IsAtEnd, Keeps};
 ghost use Rattle.std.specs.Option.{option_to_list};
 ghost use Rattle.ix_vbyte.specs.Code.{code_of};
+ghost use Rattle.ix_vbyte.specs.ShortPostings.{single_bytes};
 ghost use Rattle.ix_run.specs.CodeFaults.{IsCodeFault, IsTextFault};
 ghost use Rattle.ix_run.specs.declared.run_text_error.RunTextError.TheVariants.{Read as ReadRefused};
 
 use crate::RunTextError;
-use ix_vbyte::{VbError, decode};
+use ix_vbyte::{ShortPosting, VbError, decode, short_posting};
 use std::alloc::{AllocError, Global};
 use std::io::{ErrorKind, Read};
 
@@ -117,6 +118,26 @@ impl<R: Read> Input<R> {
             }
         }
         (0, 0)
+    }
+
+    /// Takes a posting of one position whose gaps have short codes, where it is buffered with a byte or more behind it
+    /// and has at most `limit` bytes. None: nothing was taken.
+    ///
+    /// Four postings of five are such: they are read in the caller, and what is left is set once.
+    #[inline(always)]
+    pub(crate) fn short_posting(&mut self, limit: usize) -> Option<ShortPosting>
+        ensures taken { IfSome result (λ posting. Consumes (known_left R.remaining self.old) (known_left R.remaining self.new) (single_bytes posting.gap posting.position)) }
+        ensures size { IfSome result (λ posting. (posting.size ≡ length (single_bytes posting.gap posting.position)) × (posting.size ≤ limit)) }
+        ensures some { IfSome result (λ posting. (0 < posting.gap) × (0 < posting.position)) }
+        ensures kept { IfNone result (known_left R.remaining self.new ≡ known_left R.remaining self.old) }
+    {
+        match short_posting(&self.buffer[self.start..self.end]) {
+            Some(posting) if posting.size <= limit => {
+                self.start += posting.size;
+                Some(posting)
+            }
+            _ => None,
+        }
     }
 
     /// Takes a code of at most `limit` bytes, and answers its number and how many bytes it has.

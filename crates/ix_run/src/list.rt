@@ -1,5 +1,5 @@
 //! Reading a list of postings in a run text, posting by posting.
-ghost use Rattle.std.specs.Prelude.{◌≡◌, ◌<◌, ◌≤◌, ◌+◌, ◌-◌, ◌^◌, ◌++◌, List, [], ◌∷◌, ℕ, length, Contains, Some, IfOk, OnOk, MatchOption, MatchResult};
+ghost use Rattle.std.specs.Prelude.{◌≡◌, ◌<◌, ◌≤◌, ◌+◌, ◌-◌, ◌^◌, ◌++◌, List, [], ◌∷◌, ℕ, length, Contains, Some, IfOk, IfErr, OnOk, MatchOption, MatchResult};
 ghost use Rattle.std.specs.Io.KnownBytes.{Consumes};
 ghost use Rattle.ix_text.specs.Parts.{DocumentRow, Posting};
 ghost use Rattle.ix_text.specs.TokenMarks.{HoldsNumbers, room};
@@ -24,7 +24,45 @@ use std::io::Read;
 /// `ListLength` where the list ends inside the posting; `Zero` where a gap or the number of positions is 0; `DocRange`
 /// where there is no such document; `PositionRange` where the document has no such position; `Doubled` where the token
 /// there is marked. After an error any tokens may be marked.
+#[inline(always)]
 pub(crate) fn read_posting<R: Read>(
+    input: &mut Input<R>,
+    limit: usize,
+    next: u32,
+    tokens: &TokenTable,
+    marks: &mut TokenMarks,
+    positions: &mut Vec<u32>,
+) -> Result<(u32, usize), RunTextError>
+    requires below { next ≤ 2 ^ 28 }
+    requires ready { HaveRoom tokens.now marks.old }
+    ensures taken { IfOk result (λ read. Consumes (known_left R.remaining input.old) (known_left R.remaining input.new) (posting_bytes (read.0 + 1 - next) (read.0, positions.new.items))) }
+    ensures size { IfOk result (λ read. (read.1 ≡ length (posting_bytes (read.0 + 1 - next) (read.0, positions.new.items))) × (read.1 ≤ limit)) }
+    ensures fits { IfOk result (λ read. (rows : List DocumentRow) → HasTokens tokens.now rows → PostingFits rows next (read.0, positions.new.items)) }
+    ensures room { room marks.new ≡ room marks.old }
+    ensures marked { IfOk result (λ read. (rows : List DocumentRow) (numbers : List ℕ) → HasTokens tokens.now rows → HoldsNumbers marks.old numbers → AreDistinct numbers
+        → IsFree rows numbers (read.0, positions.new.items) × HoldsNumbers marks.new (numbers ++ numbers_of_posting rows (read.0, positions.new.items))) }
+    ensures accepted { (rows : List DocumentRow) (numbers : List ℕ) (posting : Posting) (rest : List ℕ) → HasTokens tokens.now rows → HoldsNumbers marks.old numbers
+        → PostingFits rows next posting → IsFree rows numbers posting → length (posting_bytes (posting.0 + 1 - next) posting) ≤ limit
+        → known_left R.remaining input.old ≡ Some (posting_bytes (posting.0 + 1 - next) posting ++ rest)
+        → MatchResult result (λ read. (read.0 ≡ posting.0) × (positions.new.items ≡ posting.1) × (known_left R.remaining input.new ≡ Some rest)) IsRefusal }
+{
+    if let Some(posting) = input.short_posting(limit) {
+        let document = tell_single(
+            posting.gap,
+            posting.position,
+            next,
+            tokens,
+            marks,
+            positions,
+        )?;
+        return Ok((document, posting.size));
+    }
+    read_any_posting(input, limit, next, tokens, marks, positions)
+}
+
+/// The same of a posting of any shape.
+#[inline(never)]
+fn read_any_posting<R: Read>(
     input: &mut Input<R>,
     limit: usize,
     next: u32,
@@ -53,6 +91,47 @@ pub(crate) fn read_posting<R: Read>(
     let head_bytes = gap_bytes + count_bytes;
     let list_bytes = read_positions(input, limit - head_bytes, count, span, marks, positions)?;
     Ok((document, head_bytes + list_bytes))
+}
+
+/// Tells a posting of one position: answers its document, and `positions` holds its position alone, whose token is
+/// marked. `gap` and `position` are its gaps, the first counted from `next`.
+///
+/// `DocRange` where there is no such document; `PositionRange` where the document has no such position; `Doubled` where
+/// the token there is marked.
+#[inline(always)]
+fn tell_single(
+    gap: u32,
+    position: u32,
+    next: u32,
+    tokens: &TokenTable,
+    marks: &mut TokenMarks,
+    positions: &mut Vec<u32>,
+) -> Result<u32, RunTextError>
+    requires some { (0 < gap) × (0 < position) }
+    requires below { next ≤ 2 ^ 28 }
+    requires ready { HaveRoom tokens.now marks.old }
+    ensures told { IfOk result (λ document. (document + 1 ≡ next + gap) × (positions.new.items ≡ (position - 1) ∷ [])) }
+    ensures fits { IfOk result (λ document. (rows : List DocumentRow) → HasTokens tokens.now rows → PostingFits rows next (document, positions.new.items)) }
+    ensures room { room marks.new ≡ room marks.old }
+    ensures marked { IfOk result (λ document. (rows : List DocumentRow) (numbers : List ℕ) → HasTokens tokens.now rows → HoldsNumbers marks.old numbers → AreDistinct numbers
+        → IsFree rows numbers (document, positions.new.items) × HoldsNumbers marks.new (numbers ++ numbers_of_posting rows (document, positions.new.items))) }
+    ensures accepted { (rows : List DocumentRow) (numbers : List ℕ) (posting : Posting) → HasTokens tokens.now rows → HoldsNumbers marks.old numbers
+        → PostingFits rows next posting → IsFree rows numbers posting → posting.0 + 1 - next ≡ gap → posting.1 ≡ (position - 1) ∷ []
+        → IfErr result IsRefusal }
+{
+    let Some((document, span)) = document_behind(tokens, next, gap) else {
+        return Err(RunTextError::DocRange);
+    };
+    let (first, count) = span;
+    if position > count {
+        return Err(RunTextError::PositionRange);
+    }
+    if !marks.mark(first + (position - 1)) {
+        return Err(RunTextError::Doubled);
+    }
+    positions.clear();
+    positions.push(position - 1)?;
+    Ok(document)
 }
 
 /// Takes a number of at most `limit` bytes that is not 0, and answers it and how many bytes it has: `Zero` where it is.

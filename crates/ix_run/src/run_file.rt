@@ -52,14 +52,11 @@ fn coded_terms<R: Read + Drop>(
 {
     let mut terms = Vec::new(alloc);
     let mut positions = Vec::new(alloc);
-    for _ in 0..u64::MAX {
-        if !reader.next_term()? {
-            return Ok(terms);
-        }
+    while reader.next_term()? {
         let term = coded_term(alloc, reader, &mut positions)?;
         terms.push(term)?;
     }
-    Err(RunTextError::Memory)
+    Ok(terms)
 }
 
 /// Takes the term at hand with all its postings, none of which was given yet. `positions` is where they are read into.

@@ -135,6 +135,7 @@ impl<R: Read + Drop> RunReader<R> {
     }
 
     /// Takes the next posting of the list at hand. After an error the place is as it was.
+    #[inline(always)]
     fn posting(&mut self, positions: &mut Vec<u32>) -> Result<u32, RunTextError>
         requires { 0 < self.old.documents }
         ensures heading { heading_of self.new.head ≡ heading_of self.old.head }
@@ -225,16 +226,15 @@ impl<R: Read + Drop> RunReader<R> {
 impl<R: Read + Drop> Source for RunReader<R> {
     ghost use Rattle.std.specs.Prelude.{◌≡◌, ◌<◌, ◌∷◌, [], List, ℕ, Some, None, Ok, Err, false, IsSome, IfOk, IfSome, OnErr, MatchBool, MatchOption, MatchResult};
     ghost use Rattle.ix_text.specs.Parts.{DictionaryEntry, Posting};
-    ghost use Rattle.ix_run.specs.Heads.{heading_of};
-    ghost use Rattle.ix_run.specs.Reading.{BeginsFirst, Faces, GivesFirst, HasRead, IsDrained, MayYield, term_of};
+    ghost use Rattle.ix_run.specs.Reading.{BeginsFirst, Faces, GivesFirst, HasFailed, HasRead, IsDrained, IsEnded, MayYield, postings_left, term_of};
+    ghost use Rattle.ix_run.specs.RunReaders.{heading_read};
     ghost use Rattle.ix_run.specs.RunTextErrors.{IsRefusal};
     ghost use Rattle.ix_run.specs.Sources.{BeginsTerm, EndsTerms, EndsPostings, GivesPosting};
-    ghost use Rattle.ix_run.specs.declared.run_reader.Place.TheVariants.{Ended, Failed};
-    ghost use Rattle.ix_run.specs.declared.run_text_error.RunTextError.TheVariants.{Failed as FailedBefore};
+    ghost use Rattle.ix_run.specs.declared.run_text_error.RunTextError.TheVariants.{Failed};
 
     type Error = RunTextError;
 
-    ghost heading = { λ reader. heading_of reader.head };
+    ghost heading = { heading_read };
 
     ghost current = { term_of };
 
@@ -244,7 +244,7 @@ impl<R: Read + Drop> Source for RunReader<R> {
 
     ghost is_drained = { IsDrained };
 
-    ghost is_ended = { λ reader. reader.place ≡ Ended };
+    ghost is_ended = { IsEnded };
 
     fn head(&self) -> &RunHead {
         &self.head
@@ -259,19 +259,19 @@ impl<R: Read + Drop> Source for RunReader<R> {
     /// `Extra` where a byte stands behind the end mark; `Read` where the reader refused, and `Memory`; after any
     /// error `Failed`.
     fn next_term(&mut self) -> Result<bool, RunTextError>
-        ensures heading { heading_of self.new.head ≡ heading_of self.old.head }
+        ensures heading { heading_read self.new ≡ heading_read self.old }
         ensures begun { IfOk result (λ more. MatchBool more
             ((term : List ℕ) × (term_of self.new ≡ Some term) × BeginsTerm (MayYield R.remaining) HasRead IsDrained self.old self.new term)
-            ((term_of self.new ≡ None) × (self.new.place ≡ Ended) × EndsTerms (MayYield R.remaining) HasRead IsDrained self.old self.new)) }
-        ensures ended { self.old.place ≡ Ended → (result ≡ Ok false) × (self.new.place ≡ Ended) }
+            ((term_of self.new ≡ None) × IsEnded self.new × EndsTerms (MayYield R.remaining) HasRead IsDrained self.old self.new)) }
+        ensures ended { IsEnded self.old → (result ≡ Ok false) × IsEnded self.new }
 
         // Where a lawful dictionary lies ahead, its next entry is begun, unless a read or memory is refused.
         ensures accepted { (postings : List Posting) (entries : List DictionaryEntry) → Faces R.remaining self.old postings entries
             → MatchResult result (λ more. MatchBool more (BeginsFirst R.remaining self.new entries) (entries ≡ [])) IsRefusal }
 
         // What a refusal leaves.
-        ensures refused { OnErr result (self.new.place ≡ Failed) }
-        ensures failed { self.old.place ≡ Failed → result ≡ Err FailedBefore }
+        ensures refused { OnErr result (HasFailed self.new) }
+        ensures failed { HasFailed self.old → result ≡ Err Failed }
     {
         match self.place {
             Place::Failed => Err(RunTextError::Failed),
@@ -298,9 +298,10 @@ impl<R: Read + Drop> Source for RunReader<R> {
     /// 0; `DocRange` where the run has no such document; `PositionRange` where the document has no such position;
     /// `Doubled` where another term has that position; `Read` where the reader refused, and `Memory`; after any error
     /// `Failed`.
+    #[inline]
     fn next_posting(&mut self, positions: &mut Vec<u32>) -> Result<Option<u32>, RunTextError>
         requires { IsSome (term_of self.old) }
-        ensures heading { heading_of self.new.head ≡ heading_of self.old.head }
+        ensures heading { heading_read self.new ≡ heading_read self.old }
         ensures current { term_of self.new ≡ term_of self.old }
         ensures given { IfOk result (λ found. MatchOption found
             (IsDrained self.new × EndsPostings (MayYield R.remaining) HasRead self.old self.new)
@@ -308,7 +309,7 @@ impl<R: Read + Drop> Source for RunReader<R> {
         ensures drained { IsDrained self.old → result ≡ Ok None }
 
         // Fewer are left.
-        ensures counted { IfOk result (λ found. IfSome found (λ _. self.new.documents < self.old.documents)) }
+        ensures counted { IfOk result (λ found. IfSome found (λ _. postings_left self.new < postings_left self.old)) }
 
         // Where postings of a lawful dictionary lie ahead, the next one is given, unless a read or memory is refused.
         ensures accepted { (postings : List Posting) (entries : List DictionaryEntry) → Faces R.remaining self.old postings entries
@@ -316,8 +317,8 @@ impl<R: Read + Drop> Source for RunReader<R> {
             (λ document. GivesFirst R.remaining self.new (document, positions.new.items) postings entries)) IsRefusal }
 
         // What a refusal leaves.
-        ensures refused { OnErr result (self.new.place ≡ Failed) }
-        ensures failed { self.old.place ≡ Failed → result ≡ Err FailedBefore }
+        ensures refused { OnErr result (HasFailed self.new) }
+        ensures failed { HasFailed self.old → result ≡ Err Failed }
     {
         if matches!(self.place, Place::Failed) {
             return Err(RunTextError::Failed);

@@ -56,9 +56,9 @@ impl<'a> RunSource<'a> {
 }
 
 impl<'a> Source for RunSource<'a> {
-    ghost use Rattle.std.specs.Prelude.{◌≡◌, [], None, Ok, IsSome, IfOk, OnErr, MatchOption};
-    ghost use Rattle.ix_run.specs.RunSources.{HasGiven, HasLeft, IsAtEndOfTerm};
-    ghost use Rattle.ix_run.specs.Sources.{EndsPostings, GivesPosting};
+    ghost use Rattle.std.specs.Prelude.{◌≡◌, ℕ, List, Some, None, Ok, false, IsOk, IsSome, IfOk, OnErr, MatchBool, MatchOption};
+    ghost use Rattle.ix_run.specs.RunSources.{HasGiven, HasLeft, IsAtEnd, IsAtEndOfTerm};
+    ghost use Rattle.ix_run.specs.Sources.{BeginsTerm, EndsPostings, EndsTerms, GivesPosting};
 
     type Error = Memory;
 
@@ -72,13 +72,23 @@ impl<'a> Source for RunSource<'a> {
 
     ghost is_drained = { IsAtEndOfTerm };
 
-    ghost is_ended = { λ source. (source.terms ≡ []) × (source.term ≡ None) };
+    ghost is_ended = { IsAtEnd };
 
     fn head(&self) -> &RunHead {
         self.head
     }
 
-    fn next_term(&mut self) -> Result<bool, Memory> {
+    /// Goes on to the next term. False: there is none, now and at each later call. Never refused, and takes no memory.
+    fn next_term(&mut self) -> Result<bool, Memory>
+        ensures heading { self.new.heading ≡ self.old.heading }
+        ensures begun { IfOk result (λ more. MatchBool more
+            ((term : List ℕ) × (self.new.term ≡ Some term) × BeginsTerm HasLeft HasGiven IsAtEndOfTerm self.old self.new term)
+            ((self.new.term ≡ None) × IsAtEnd self.new × EndsTerms HasLeft HasGiven IsAtEndOfTerm self.old self.new)) }
+        ensures ended { IsAtEnd self.old → (result ≡ Ok false) × IsAtEnd self.new }
+
+        // It is never refused.
+        ensures granted { IsOk result }
+    {
         let Some((term, terms)) = self.terms.split_first() else {
             self.term = None;
             self.postings = Postings::new(&[], 0);
@@ -94,6 +104,9 @@ impl<'a> Source for RunSource<'a> {
         self.term.unwrap()
     }
 
+    /// The document of the next posting of the term at hand, whose positions are put into `positions` in place of what
+    /// it held. None: there is no further one, now and at each later call for this term. `Memory` where the positions
+    /// find no room, which leaves the source as it was.
     fn next_posting(&mut self, positions: &mut Vec<u32>) -> Result<Option<u32>, Memory>
         requires { IsSome self.old.term }
         ensures heading { self.new.heading ≡ self.old.heading }

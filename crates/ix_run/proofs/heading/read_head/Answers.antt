@@ -1,12 +1,12 @@
 -- A head that stands first is the one that is read.
-use Rattle.std.proofs.Common.{◌≡◌, ◌<◌, ◌≤◌, ◌+◌, ◌^◌, ℕ, List, Option, Some, length, map, sym, ap, subst, arith}
+use Rattle.std.proofs.Common.{◌≡◌, ◌<◌, ◌^◌, ℕ, length, map, sym, subst, arith}
 use Rattle.std.proofs.lemmas.List.{length-map}
 use Rattle.std.proofs.lemmas.Result.{err_from_is_err_and}
 use Rattle.std.specs.Int.{to_le_bytes, w32}
 use Rattle.std.specs.Io.KnownBytes.{Consumes}
 use Rattle.ix_run.specs.Heads.{Heading, IsLawfulHeading, row_of_doc}
 use Rattle.ix_run.specs.Inputs.{known_left}
-use Rattle.ix_run.specs.Pieces.{EachFits, RowFits}
+use Rattle.ix_run.specs.Pieces.{RowFits}
 use Rattle.ix_run.specs.RunText.{row_bytes}
 use Rattle.ix_run.proofs.HeadLemmas.{after_magic, after_first, after_numbers, after_stop, known_parts, head_taken, same_heading, fits_from_rows, names_from_fits, few_from_fits}
 use Rattle.ix_run.proofs.PieceLemmas.{pieces_all}

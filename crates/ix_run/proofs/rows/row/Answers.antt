@@ -1,5 +1,5 @@
 -- A row that stands first is the one that is read.
-use Rattle.std.proofs.Common.{◌≡◌, ◌≤◌, ◌^◌, ◌++◌, Some, arith, string_bytes}
+use Rattle.std.proofs.Common.{◌++◌, arith, string_bytes}
 use Rattle.std.proofs.lemmas.Result.{err_from_is_err_and}
 use Rattle.ix_vbyte.specs.Code.{code_of}
 use Rattle.ix_run.specs.Inputs.{known_left}

@@ -1,9 +1,8 @@
 -- One document more, or why there is none.
-use Rattle.std.proofs.Common.{◌≡◌, ◌<◌, ◌≤◌, ◌+◌, ◌^◌, ◌∙◌, ◌∷◌, ◌++◌, [], map, length, ap, sym, arith}
+use Rattle.std.proofs.Common.{◌≡◌, ◌<◌, ◌∙◌, ◌∷◌, ◌++◌, [], map, length, ap, arith}
 use Rattle.std.proofs.lemmas.List.{map_push, length-map}
 use Rattle.std.proofs.lemmas.List.Sums.{sum_by_push}
 use Rattle.std.proofs.lemmas.Result.{err_from_is_err_and}
-use Rattle.std.specs.List.{sum_by}
 use Rattle.ix_run.specs.Heads.{row_of_doc}
 use Rattle.ix_run.specs.Inputs.{known_left}
 use Rattle.ix_run.specs.Pieces.{RowFits}

@@ -1,5 +1,5 @@
 -- The test of a text against the last of the texts.
-use Rattle.std.proofs.Common.{List, ℕ, [], ◌≡◌, ◌<◌, ◌-◌, length, map, string_bytes, get_or, ap, sym, ◌∙◌, arith}
+use Rattle.std.proofs.Common.{[], ◌≡◌, ◌<◌, ◌-◌, length, map, string_bytes, get_or, ap, sym, ◌∙◌, arith}
 use Rattle.std.proofs.lemmas.List.{length-map, get_or-map}
 use Rattle.ix_run.proofs.OrderLemmas.{above_by}
 use Rattle.ix_run.proofs.stop_terms.stands_above.Goals as goal

@@ -1,5 +1,5 @@
 -- The terms so far were read.
-use Rattle.std.proofs.Common.{◌≡◌, ◌≤◌, length, map, string_bytes}
+use Rattle.std.proofs.Common.{◌≡◌, length, map, string_bytes}
 use Rattle.ix_vbyte.specs.Texts.{counted}
 use Rattle.ix_run.specs.Inputs.{known_left}
 use Rattle.ix_run.specs.Pieces.{ArePiecesRead, StopTermFits}

@@ -1,7 +1,8 @@
 -- The one byte or the two are the code of the number, and stand first.
 use Rattle.std.proofs.Common.{◌+◌, ◌*◌, length, sym, ap, arith}
 use Rattle.ix_run.specs.Inputs.{known_left}
-use Rattle.ix_run.proofs.ShortCodes.{code_of-one, code_of-two, code_taken-one, code_taken-two}
+use Rattle.ix_vbyte.proofs.ShortPostings.{code_of-one, code_of-two}
+use Rattle.ix_run.proofs.ShortCodes.{code_taken-one, code_taken-two}
 use Rattle.ix_run.proofs.input.Input.code.Goals as goal
 
 pub returns-then-first-ge128-clause-taken : goal.returns-then-first-ge128-clause-taken

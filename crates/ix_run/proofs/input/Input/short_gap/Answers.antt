@@ -1,7 +1,8 @@
 -- The byte is the code of the number, and stands first.
 use Rattle.std.proofs.Common.{◌-◌, length, ap, arith}
 use Rattle.ix_run.specs.Inputs.{known_left}
-use Rattle.ix_run.proofs.ShortCodes.{code_of-one, code_taken-one}
+use Rattle.ix_vbyte.proofs.ShortPostings.{code_of-one}
+use Rattle.ix_run.proofs.ShortCodes.{code_taken-one}
 use Rattle.ix_run.proofs.input.Input.short_gap.Goals as goal
 
 pub returns-then-byte-gt128-clause-taken : goal.returns-then-byte-gt128-clause-taken

@@ -2,7 +2,6 @@
 use Rattle.std.proofs.Common.{◌≡◌, [], None, ap, sym, subst, ◌∙◌}
 use Rattle.std.proofs.lemmas.Result.{err_from_is_err_and}
 use Rattle.ix_run.specs.Heads.{Heading, heading_of, parts_with}
-use Rattle.ix_run.specs.RunReaders.{heading_read}
 use Rattle.ix_run.specs.RunText.{run_layout}
 use Rattle.ix_run.specs.Runs.{IsRunOf, RunValue, head_value, run_bytes}
 use Rattle.ix_run.specs.Sources.{AreWhole}
@@ -21,7 +20,6 @@ returns-in_err-terms-clause-accepted g c first collection bytes is known =
     rw (p.1, p.2) (c.in_err-terms.ensures.refused is.parts.entries faced.1)
 
 pub new-requires : goal.new-requires
-unfolding heading_read
 new-requires g c =
     let read = c.in_ok-terms.ensures.read in
     let same : heading_of c.into_head.result ≡ heading_of c.in_ok-reader.reader.head = c.into_head.ensures ∙ c.in_ok-terms.ensures.heading in
@@ -29,7 +27,6 @@ new-requires g c =
     (subst (λ (h : Heading). AreWhole h read.entries) (sym same) (read.yielded.whole [] None c.in_ok-reader.ensures.unread))
 
 pub returns-clause-exact : goal.returns-clause-exact
-unfolding heading_read
 returns-clause-exact g c bytes known =
     let read = c.in_ok-terms.ensures.read in
     let same : heading_of c.into_head.result ≡ heading_of c.in_ok-reader.reader.head = c.into_head.ensures ∙ c.in_ok-terms.ensures.heading in
@@ -39,7 +36,6 @@ returns-clause-exact g c bytes known =
     (subst P (sym same) (c.in_ok-reader.ensures.yields bytes read.entries known read.yielded).0)
 
 pub returns-clause-accepted : goal.returns-clause-accepted
-unfolding heading_read
 returns-clause-accepted g c first collection bytes is known =
     let read = c.in_ok-terms.ensures.read in
     let faced = c.in_ok-reader.ensures.faced first collection bytes is known in

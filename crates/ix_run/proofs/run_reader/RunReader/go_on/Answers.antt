@@ -1,5 +1,5 @@
 -- What is left of the list at hand lies before what is taken, and with it what was given is closed.
-use Rattle.std.proofs.Common.{◌≡◌, ◌≢◌, ℕ, List, [], ◌∷◌, ◌++◌, length, Option, Some, None, string_bytes, refl, sym, ap, subst, ◌∙◌}
+use Rattle.std.proofs.Common.{◌≢◌, ℕ, List, [], ◌∷◌, length, Some, None, string_bytes, refl, sym, ap, subst, ◌∙◌}
 use Rattle.std.proofs.lemmas.Result.{err_from_is_err_and}
 use Rattle.ix_text.specs.Parts.{DictionaryEntry}
 use Rattle.ix_vbyte.specs.Postings.{list_bytes}

@@ -6,19 +6,18 @@ use Rattle.ix_run.specs.Inputs.{known_left}
 use Rattle.ix_run.specs.Reading.{bytes_ahead, heading_from}
 use Rattle.ix_run.specs.Sources.{AreWhole}
 use Rattle.ix_run.proofs.ReadOpen.{opened_faces, opened_yields, text_heading, text_parts, text_whole, unread}
-use Rattle.ix_run.specs.RunReaders.{bytes_left, heading_read}
+use Rattle.ix_run.specs.RunReaders.{bytes_left}
 use Rattle.ix_run.proofs.run_reader.RunReader.open.Goals as goal
 
 pub returns-clause-taken : goal.returns-clause-taken
-unfolding bytes_left heading_read
+unfolding bytes_left
 returns-clause-taken g c = rw c.in_ok-input.ensures at c.in_ok-head.ensures.taken
 
 pub returns-clause-lawful : goal.returns-clause-lawful
-unfolding heading_read
 returns-clause-lawful g c = c.in_ok-head.ensures.lawful
 
 pub returns-clause-accepted : goal.returns-clause-accepted
-unfolding bytes_left heading_read
+unfolding bytes_left
 returns-clause-accepted g c heading rest lawful e = c.in_ok-head.ensures.accepted heading rest lawful (c.in_ok-input.ensures ∙ e)
 
 pub returns-clause-unread : goal.returns-clause-unread
@@ -26,7 +25,6 @@ returns-clause-unread g c =
     unread (heading_of c.in_ok-head.head) c.in_ok-marks.marks (string_bytes c.new-3.result) c.new-3.ensures.bytes c.in_ok-head.ensures.lawful c.in_ok-marks.ensures.none
 
 pub returns-clause-yields : goal.returns-clause-yields
-unfolding heading_read
 returns-clause-yields g c bytes entries known may =
     opened_yields (heading_of c.in_ok-head.head) c.in_ok-marks.marks (string_bytes c.new-3.result) c.new-3.ensures.bytes
     (known_left g.R.Read.remaining c.in_ok-input.input) (known_left g.R.Read.remaining c.read_head.new.input) bytes entries
@@ -39,7 +37,6 @@ returns-in_err-head-clause-faced g c first collection bytes is known =
     (c.in_ok-input.ensures ∙ known ∙ ap (λ (bs : List ℕ). Some bs) (text_parts first collection bytes is)))
 
 pub returns-clause-faced : goal.returns-clause-faced
-unfolding heading_read
 returns-clause-faced g c first collection bytes is known =
     let found = c.in_ok-head.ensures.accepted (heading_from first is.parts) (bytes_ahead [] is.parts.entries) (text_heading first collection bytes is)
     (c.in_ok-input.ensures ∙ known ∙ ap (λ (bs : List ℕ). Some bs) (text_parts first collection bytes is)) in (

@@ -1,7 +1,6 @@
 -- The postings that are gone over are the first of those that lie ahead; where none is left, those were all.
-use Rattle.std.proofs.Common.{◌≡◌, arith, ◌∙◌}
+use Rattle.std.proofs.Common.{arith, ◌∙◌}
 use Rattle.std.proofs.lemmas.Result.{err_from_is_err_and}
-use Rattle.ix_run.specs.declared.run_reader.Place.TheVariants.{AtTerm}
 use Rattle.ix_run.proofs.ReadSkips.{none_ahead, skips_more, skips_none}
 use Rattle.ix_run.proofs.ReadSteps.{term_at_hand}
 use Rattle.ix_run.proofs.run_reader.RunReader.skip.Goals as goal

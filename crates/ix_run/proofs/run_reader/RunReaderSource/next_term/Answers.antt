@@ -1,5 +1,5 @@
 -- At the end a reader stays; before it, the private call has gone on.
-use Rattle.std.proofs.Common.{◌≡◌, None, refl, ap, string_bytes, ◌∙◌, sym}
+use Rattle.std.proofs.Common.{◌≡◌, ap, string_bytes}
 use Rattle.ix_run.specs.Reading.{term_at}
 use Rattle.ix_run.specs.declared.run_reader.Place.{Place}
 use Rattle.ix_run.specs.declared.run_reader.Place.TheVariants.{AtTerm, Ended}

@@ -1,7 +1,0 @@
-use Rattle.std.proofs.Common.{refl}
-use Rattle.ix_run.specs.RunReaders.{heading_read}
-use Rattle.ix_run.proofs.run_reader.RunReader.head.Goals as goal
-
-pub returns : goal.returns
-unfolding heading_read
-returns g c = refl
