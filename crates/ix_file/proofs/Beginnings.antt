@@ -10,7 +10,7 @@ use Rattle.ix_text.specs.Terms.{IsTerm}
 use Rattle.ix_text.proofs.SinkLemmas.{appends_nothing}
 use Rattle.ix_file.specs.IndexText.{magic}
 use Rattle.ix_file.specs.Sections.{FrontCoded, stop_section, documents_section, postings_section}
-use Rattle.ix_file.specs.Told.{told_first, text_of}
+use Rattle.ix_file.specs.Told.{told_first, settled_front}
 use Rattle.ix_file.specs.SectionSteps.{Begins}
 use Rattle.ix_file.specs.Telling.{SectionsTold, IsTold}
 use Rattle.ix_file.specs.declared.put_error.PutError.{PutError}
@@ -79,16 +79,16 @@ kept_first sections stop rows begins = record {
   few_positions = omega arith;
 }
 
-text_of-first : (stop : List (List ℕ)) (rows : List DocumentRow) → text_of (told_first stop rows) ≡ magic FrontCoded
+settled_front-first : (stop : List (List ℕ)) (rows : List DocumentRow) → settled_front (told_first stop rows) ≡ magic FrontCoded
 unfolding postings_section
-text_of-first stop rows = append-nil (magic FrontCoded)
+settled_front-first stop rows = append-nil (magic FrontCoded)
 
 -- nothing went out yet
 pub told_at_first : (known : Option (List ℕ)) (sections : Sections) (stop : List (List ℕ)) (rows : List DocumentRow) → Begins sections stop rows → IsTold known known sections (told_first stop rows)
 told_at_first known sections stop rows begins = record {
   ready = begins.ready;
   kept = kept_first sections stop rows begins;
-  written = record { gone = []; gained = appends_nothing known; spelled = begins.pending ∙ sym (text_of-first stop rows) };
+  written = record { gone = []; gained = appends_nothing known; spelled = begins.pending ∙ sym (settled_front-first stop rows) };
 }
 
 -- what is so at Ok is so where there is no error

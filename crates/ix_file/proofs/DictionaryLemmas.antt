@@ -6,7 +6,7 @@ use Rattle.ix_vbyte.specs.Code.{code_of}
 use Rattle.ix_text.specs.Parts.{DictionaryEntry}
 use Rattle.ix_file.specs.Sections.{FrontCoded, entry_counts, grouped, front_coded_from, dictionary_section}
 use Rattle.ix_file.specs.Dictionaries.{GainsEntry}
-use Rattle.ix_file.specs.Telling.{last_term, IsDictionaryOf, IsListOf}
+use Rattle.ix_file.specs.Telling.{last_term, IsDictionaryOf, IsListOfEntry}
 use Rattle.ix_file.specs.declared.dictionary.Dictionary.{Dictionary}
 use Rattle.ix_file.specs.declared.list.ListAtHand.{ListAtHand}
 
@@ -36,7 +36,7 @@ unfolding dictionary_section
 dictionary_none dictionary bytes count previous = record { bytes = bytes; count = count; previous = previous }
 
 -- the entry of a list was gained
-dictionary_gained : (old new : Dictionary) (list : ListAtHand) (done : List DictionaryEntry) (entry : DictionaryEntry) → IsDictionaryOf old done → IsListOf list entry → GainsEntry old new list.term.items list.documents list.bytes → IsDictionaryOf new (done ++ entry ∷ [])
+dictionary_gained : (old new : Dictionary) (list : ListAtHand) (done : List DictionaryEntry) (entry : DictionaryEntry) → IsDictionaryOf old done → IsListOfEntry list entry → GainsEntry old new list.term.items list.documents list.bytes → IsDictionaryOf new (done ++ entry ∷ [])
 dictionary_gained old new list done entry is of gain = record {
   bytes =
       gain.bytes
@@ -55,7 +55,7 @@ dictionary_gained old new list done entry is of gain = record {
         ∙ ap₂ (λ m n. grouped (length done) (last_term [] done) entry.term ++ (code_of m ++ code_of n)) of.documents of.bytes
 
 -- the entry at hand was finished, if there was one
-pub dictionary_closed : (old new : Dictionary) (list : ListAtHand) (done : List DictionaryEntry) (at_hand : Option DictionaryEntry) → IsDictionaryOf old done → MatchOption at_hand (list.documents ≡ 0) (IsListOf list) → IfSome at_hand (λ entry. 0 < length entry.postings) → (0 < list.documents → GainsEntry old new list.term.items list.documents list.bytes) → (list.documents ≡ 0 → new ≡ old) → IsDictionaryOf new (done ++ option_to_list at_hand)
+pub dictionary_closed : (old new : Dictionary) (list : ListAtHand) (done : List DictionaryEntry) (at_hand : Option DictionaryEntry) → IsDictionaryOf old done → MatchOption at_hand (list.documents ≡ 0) (IsListOfEntry list) → IfSome at_hand (λ entry. 0 < length entry.postings) → (0 < list.documents → GainsEntry old new list.term.items list.documents list.bytes) → (list.documents ≡ 0 → new ≡ old) → IsDictionaryOf new (done ++ option_to_list at_hand)
 dictionary_closed old new list done None is of some gain none =
     let P : List DictionaryEntry → Type 0 = λ entries. IsDictionaryOf new entries in
     let Q : Dictionary → Type 0 = λ dictionary. IsDictionaryOf dictionary done in
@@ -65,6 +65,6 @@ dictionary_closed old new list done (Some entry) is of some gain none =
     dictionary_gained old new list done entry is of (gain posted)
 
 -- the finished ones with the one at hand are no more than the documents of the one at hand and them
-pub entries_closed : (count : ℕ) (list : ListAtHand) (done : List DictionaryEntry) (at_hand : Option DictionaryEntry) → count ≡ length done → MatchOption at_hand (list.documents ≡ 0) (IsListOf list) → IfSome at_hand (λ entry. 0 < length entry.postings) → length (done ++ option_to_list at_hand) ≤ count + list.documents
+pub entries_closed : (count : ℕ) (list : ListAtHand) (done : List DictionaryEntry) (at_hand : Option DictionaryEntry) → count ≡ length done → MatchOption at_hand (list.documents ≡ 0) (IsListOfEntry list) → IfSome at_hand (λ entry. 0 < length entry.postings) → length (done ++ option_to_list at_hand) ≤ count + list.documents
 entries_closed count list done None is of some = omega (arith, length-append {A = DictionaryEntry} done [])
 entries_closed count list done (Some entry) is of some = omega (arith, length-append done (entry ∷ []), of.documents, some)

@@ -14,7 +14,7 @@ use Rattle.ix_file.specs.IndexText.{IsIndexText, end_mark, layout, tail}
 use Rattle.ix_file.specs.SectionSteps.{Closes, KeepsTold}
 use Rattle.ix_file.specs.Sections.{FrontCoded, postings_section, stop_section, documents_section, dictionary_section, grams_section}
 use Rattle.ix_file.specs.Telling.{IsDictionaryOf, SectionsTold, Spells, IsClosable}
-use Rattle.ix_file.specs.Told.{Told, entries_of, parts_of, text_of}
+use Rattle.ix_file.specs.Told.{Told, entries_of, parts_of, settled_front}
 use Rattle.ix_file.specs.declared.put_error.PutError.{PutError}
 use Rattle.ix_file.specs.declared.sections.Sections.{Sections}
 use Rattle.ix_file.specs.declared.trailer.Trailer.{Trailer}
@@ -143,32 +143,32 @@ tail_spelled sections told ending is of =
     ∙ ap (λ trailer. stop_section told.stop ++ documents_section told.rows ++ dictionary_section FrontCoded (entries_of told) ++ (grams_section is.grams ++ trailer_bytes trailer)) (trailer_told sections told is.grams of)
     ∙ tail_of_trailer told is.grams
 
-layout_of : (told : Told) (grams : List GramEntry) → layout FrontCoded (parts_of told) grams ≡ text_of told ++ tail FrontCoded (parts_of told) grams
+layout_of : (told : Told) (grams : List GramEntry) → layout FrontCoded (parts_of told) grams ≡ settled_front told ++ tail FrontCoded (parts_of told) grams
 unfolding layout
 layout_of told grams = refl
 
 -- a front of what is settled is one of the whole text
-pub front_of_layout : (before now : Option (List ℕ)) (told : Told) (grams : List GramEntry) → AppendsFront before now (text_of told) → AppendsFront before now (layout FrontCoded (parts_of told) grams)
-front_of_layout before now told grams part = subst (λ bytes. AppendsFront before now bytes) (sym (layout_of told grams)) (front_more before now (text_of told) (tail FrontCoded (parts_of told) grams) part)
+pub front_of_layout : (before now : Option (List ℕ)) (told : Told) (grams : List GramEntry) → AppendsFront before now (settled_front told) → AppendsFront before now (layout FrontCoded (parts_of told) grams)
+front_of_layout before now told grams part = subst (λ bytes. AppendsFront before now bytes) (sym (layout_of told grams)) (front_more before now (settled_front told) (tail FrontCoded (parts_of told) grams) part)
 
 -- the whole text went out
-pub finished : (before sent new : Option (List ℕ)) (pending : List ℕ) (sections : Sections) (told : Told) (ending : List ℕ) → Spells before sent pending (text_of told) → pending ≡ [] → IsClosed sections told → IsEnding sections (terms_of (entries_of told)) ending → Appends sent new (sections.stop.items ++ sections.documents.items ++ sections.dictionary.bytes.items ++ ending) → IsFinished before new told
+pub finished : (before sent new : Option (List ℕ)) (pending : List ℕ) (sections : Sections) (told : Told) (ending : List ℕ) → Spells before sent pending (settled_front told) → pending ≡ [] → IsClosed sections told → IsEnding sections (terms_of (entries_of told)) ending → Appends sent new (sections.stop.items ++ sections.documents.items ++ sections.dictionary.bytes.items ++ ending) → IsFinished before new told
 finished before sent new pending sections told ending spells none of is gained =
-    let front : Appends before sent (text_of told) = all_spelled before sent pending (text_of told) spells none in
+    let front : Appends before sent (settled_front told) = all_spelled before sent pending (settled_front told) spells none in
     let back : Appends sent new (tail FrontCoded (parts_of told) is.grams) = subst (λ bytes. Appends sent new bytes) (tail_spelled sections told ending is of) gained in
     record {
       grams = is.grams;
       of_terms = is.of_terms;
-      written = subst (λ bytes. Appends before new bytes) (sym (layout_of told is.grams)) (appends_then before sent new (text_of told) (tail FrontCoded (parts_of told) is.grams) front back);
+      written = subst (λ bytes. Appends before new bytes) (sym (layout_of told is.grams)) (appends_then before sent new (settled_front told) (tail FrontCoded (parts_of told) is.grams) front back);
     }
 
 -- a front of the tail went out behind what is settled
-pub front_of_tail : (before sent new : Option (List ℕ)) (pending : List ℕ) (sections : Sections) (told : Told) (ending : List ℕ) (grams : List GramEntry) → Spells before sent pending (text_of told) → pending ≡ [] → IsClosed sections told → IsEnding sections (terms_of (entries_of told)) ending → AreGramsOfTerms (terms_of (entries_of told)) grams → AppendsFront sent new (sections.stop.items ++ sections.documents.items ++ sections.dictionary.bytes.items ++ ending) → AppendsFront before new (layout FrontCoded (parts_of told) grams)
+pub front_of_tail : (before sent new : Option (List ℕ)) (pending : List ℕ) (sections : Sections) (told : Told) (ending : List ℕ) (grams : List GramEntry) → Spells before sent pending (settled_front told) → pending ≡ [] → IsClosed sections told → IsEnding sections (terms_of (entries_of told)) ending → AreGramsOfTerms (terms_of (entries_of told)) grams → AppendsFront sent new (sections.stop.items ++ sections.documents.items ++ sections.dictionary.bytes.items ++ ending) → AppendsFront before new (layout FrontCoded (parts_of told) grams)
 front_of_tail before sent new pending sections told ending grams spells none of is others part =
-    let front : Appends before sent (text_of told) = all_spelled before sent pending (text_of told) spells none in
+    let front : Appends before sent (settled_front told) = all_spelled before sent pending (settled_front told) spells none in
     let same : is.grams ≡ grams = one_of_terms (terms_of (entries_of told)) is.grams grams is.of_terms others in
     let back : AppendsFront sent new (tail FrontCoded (parts_of told) grams) = subst (λ bytes. AppendsFront sent new bytes) (tail_spelled sections told ending is of ∙ ap (λ g. tail FrontCoded (parts_of told) g) same) part in
-    subst (λ bytes. AppendsFront before new bytes) (sym (layout_of told grams)) (front_then before sent new (text_of told) (tail FrontCoded (parts_of told) grams) front back)
+    subst (λ bytes. AppendsFront before new bytes) (sym (layout_of told grams)) (front_then before sent new (settled_front told) (tail FrontCoded (parts_of told) grams) front back)
 
 -- the whole text is a front of it
 pub front_of_finished : (before sent new : Option (List ℕ)) (told : Told) (grams : List GramEntry) → IsFinished before sent told → AreGramsOfTerms (terms_of (entries_of told)) grams → Keeps sent new → AppendsFront before new (layout FrontCoded (parts_of told) grams)
@@ -223,7 +223,7 @@ on_ok_text (Ok value) before now told collection lawful parts is = text_of_colle
 on_ok_text (Err error) before now told collection lawful parts is = tt
 
 -- what is settled begins an index text
-pub begins_text : (told : Told) (collection : Collection) (grams : List GramEntry) → IsLawful collection → ArePartsOf collection (parts_of told) → AreGramsOf collection grams → IsIndexText FrontCoded collection (text_of told ++ tail FrontCoded (parts_of told) grams)
+pub begins_text : (told : Told) (collection : Collection) (grams : List GramEntry) → IsLawful collection → ArePartsOf collection (parts_of told) → AreGramsOf collection grams → IsIndexText FrontCoded collection (settled_front told ++ tail FrontCoded (parts_of told) grams)
 begins_text told collection grams lawful parts grams_of = record {
   lawful = lawful;
   parts = parts_of told;

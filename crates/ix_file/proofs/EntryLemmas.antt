@@ -13,7 +13,7 @@ use Rattle.ix_text.specs.ByteOrder.{IsAscending}
 use Rattle.ix_text.specs.Parts.{GramEntry, HasNumber, IsGramEntry}
 use Rattle.ix_file.specs.declared.grams.GramPair.{GramPair}
 use Rattle.ix_file.specs.HeldGrams.{HasPair, gram_of, pair_cmp}
-use Rattle.ix_file.specs.GramEntries.{IsApart, entry, joined, with_pair, entries_of}
+use Rattle.ix_file.specs.GramEntries.{IsApart, entry, joined, with_pair, gram_entries_of}
 use Rattle.ix_file.proofs.PairGrams.{IsBelow, pair_below}
 
 abbrev cmp : List ℕ → List ℕ → Ordering
@@ -77,10 +77,10 @@ has_with_pair p [] g n =
     )
 has_with_pair p (e ∷ es) g n = has_joined (bytes_eq (gram_of p) e.gram) p e es g n refl
 
-pub has_entries : (ps : List GramPair) (g : List ℕ) (n : ℕ) → HasNumber (entries_of ps) g n ↔ HasPair ps g n
+pub has_entries : (ps : List GramPair) (g : List ℕ) (n : ℕ) → HasNumber (gram_entries_of ps) g n ↔ HasPair ps g n
 has_entries [] g n = (λ has. absurd (contains_none (entry g has.numbers) has.among), λ has. absurd (contains_none has.pair has.among))
 has_entries (p ∷ ps) g n =
-    let both = has_with_pair p (entries_of ps) g n in
+    let both = has_with_pair p (gram_entries_of ps) g n in
     let rest = has_entries ps g n in (
       λ has.
           elim (both.0 has) [
@@ -159,21 +159,21 @@ unfolding IsStrictlySortedBy
 order_with_pair p [] order below = record { ascending = (tt, tt); each = All-cons IsGramEntry (entry (gram_of p) (p.number ∷ [])) [] (single-is p) (All-nil IsGramEntry) }
 order_with_pair p (e ∷ es) order below = order_joined (bytes_eq (gram_of p) e.gram) p e es refl order below
 
-below_from_sorted : (p : GramPair) (ps : List GramPair) → AllByRecursion (λ q. pair_cmp p q ≡ Less) ps → IsBelowAll p (entries_of ps)
+below_from_sorted : (p : GramPair) (ps : List GramPair) → AllByRecursion (λ q. pair_cmp p q ≡ Less) ps → IsBelowAll p (gram_entries_of ps)
 below_from_sorted p ps up g n has =
     let h = (has_entries ps g n).0 has in
     let below = pair_below p h.pair (all_below pair_cmp p ps h.pair up h.among) in
     subst (λ (m : ℕ). IsBelow (gram_of p) p.number g m) h.numbered (subst (λ (f : List ℕ). IsBelow (gram_of p) p.number f h.pair.number) h.spelled below)
 
-order_entries : (ps : List GramPair) → IsStrictlySortedBy pair_cmp ps → AreInOrder (entries_of ps)
+order_entries : (ps : List GramPair) → IsStrictlySortedBy pair_cmp ps → AreInOrder (gram_entries_of ps)
 unfolding IsStrictlySortedBy
 order_entries [] up = record { ascending = tt; each = All-nil IsGramEntry }
-order_entries (p ∷ ps) up = order_with_pair p (entries_of ps) (order_entries ps up.1) (below_from_sorted p ps up.0)
+order_entries (p ∷ ps) up = order_with_pair p (gram_entries_of ps) (order_entries ps up.1) (below_from_sorted p ps up.0)
 
-pub ascending-entries : (ps : List GramPair) → IsStrictlySortedBy pair_cmp ps → IsAscending (map gram_in (entries_of ps))
+pub ascending-entries : (ps : List GramPair) → IsStrictlySortedBy pair_cmp ps → IsAscending (map gram_in (gram_entries_of ps))
 ascending-entries ps up = (order_entries ps up).ascending
 
-pub each-entries : (ps : List GramPair) → IsStrictlySortedBy pair_cmp ps → All IsGramEntry (entries_of ps)
+pub each-entries : (ps : List GramPair) → IsStrictlySortedBy pair_cmp ps → All IsGramEntry (gram_entries_of ps)
 each-entries ps up = (order_entries ps up).each
 
 -- ---- the pairs of the first gram are the first entry
@@ -203,11 +203,11 @@ apart_with_pair : (p q : GramPair) (es : List GramEntry) → gram_of p ≢ gram_
 apart_with_pair p q [] differ = with_pair-other p (entry (gram_of q) (q.number ∷ [])) [] differ
 apart_with_pair p q (e ∷ es) differ = apart_joined (bytes_eq (gram_of q) e.gram) p q e es differ
 
-pub entries-run : (p : GramPair) (more rest : List GramPair) → All (λ q. gram_of q ≡ gram_of p) more → IsApart p rest → entries_of (p ∷ (more ++ rest)) ≡ entry (gram_of p) (map number_in (p ∷ more)) ∷ entries_of rest
+pub entries-run : (p : GramPair) (more rest : List GramPair) → All (λ q. gram_of q ≡ gram_of p) more → IsApart p rest → gram_entries_of (p ∷ (more ++ rest)) ≡ entry (gram_of p) (map number_in (p ∷ more)) ∷ gram_entries_of rest
 entries-run p [] [] all apart = refl
-entries-run p [] (q ∷ rest) all apart = apart_with_pair p q (entries_of rest) (λ same. apart (sym same))
+entries-run p [] (q ∷ rest) all apart = apart_with_pair p q (gram_entries_of rest) (λ same. apart (sym same))
 entries-run p (q ∷ more) rest all apart =
     let same = All-head (λ r. gram_of r ≡ gram_of p) q more all in
     let later = All-weaker (λ r. gram_of r ≡ gram_of p) (λ r. gram_of r ≡ gram_of q) (λ r h. h ∙ sym same) more (All-tail (λ r. gram_of r ≡ gram_of p) q more all) in
     ap (with_pair p) (entries-run q more rest later (IsApart-moved q p rest same apart))
-    ∙ with_pair-same p (entry (gram_of q) (map number_in (q ∷ more))) (entries_of rest) (sym same)
+    ∙ with_pair-same p (entry (gram_of q) (map number_in (q ∷ more))) (gram_entries_of rest) (sym same)

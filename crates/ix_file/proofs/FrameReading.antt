@@ -1,13 +1,13 @@
 -- The frame of an index text is cut from both ends.
-use Rattle.std.proofs.Common.{◌≡◌, ◌⊎◌, inl, inr, ◌↔◌, Bool, IsTrue, bytes_eq, ℕ, ◌+◌, ◌^◌, ◌<◌, ◌≤◌, List, [], ◌++◌, length, take, drop, get_or, refl, sym, ap, ap₂, ◌∙◌, subst, arith, length-append, take-append-drop}
-use Rattle.std.proofs.lemmas.List.{append_assoc, length-take-le, length-take, get_or-take, get_or-drop, get_or_past}
+use Rattle.std.proofs.Common.{◌≡◌, ◌⊎◌, inl, inr, ◌↔◌, Bool, IsTrue, bytes_eq, ℕ, ◌+◌, ◌^◌, ◌<◌, ◌≤◌, List, ◌++◌, length, take, drop, get_or, refl, sym, ap, ap₂, ◌∙◌, subst, arith, length-append, take-append-drop}
+use Rattle.std.proofs.lemmas.List.{length-take-le, length-take, get_or-take, get_or-drop, get_or_past}
 use Rattle.std.proofs.lemmas.Bool.{cases_lt}
 use Rattle.std.proofs.lemmas.Bool.Decides.{Decides-eqb}
 use Rattle.std.proofs.lemmas.Slice.Eq.{slice_eq-Decides}
 use Rattle.std.proofs.lemmas.Nat.{le_bytes_4, le_bytes_8, from_le_bytes-to_le_bytes_4, from_le_bytes-to_le_bytes_8}
 use Rattle.std.specs.Int.{to_le_bytes, from_le_bytes, w32, w64}
 use Rattle.ix_vbyte.proofs.Pieces.{fronts_apart}
-use Rattle.ix_file.specs.Frames.{SectionTexts, eight, four, joined, lengths, counts, framed, IsCutInto}
+use Rattle.ix_file.specs.Frames.{SectionTexts, eight, four, joined_sections, lengths, counts, framed, IsCutInto}
 use Rattle.ix_file.specs.IndexText.{magic, end_mark}
 use Rattle.ix_file.specs.Sections.{Version, Plain, FrontCoded}
 use Rattle.ix_file.proofs.TextLaws.{length-magic, length-end_mark}
@@ -40,7 +40,7 @@ length-numbers texts documents terms = simp (length-append, length-eight, length
 
 pub record IsFrameOf (mark body sizes numbers final : List ℕ) (version : Version) (texts : SectionTexts) (documents terms : ℕ) : Type 0 where
   pub mark_is : mark ≡ magic version
-  pub body_is : body ≡ joined texts
+  pub body_is : body ≡ joined_sections texts
   pub sizes_are : sizes ≡ lengths texts
   pub numbers_are : numbers ≡ counts documents terms
   pub final_is : final ≡ end_mark version
@@ -51,10 +51,10 @@ frame_of bytes mark body sizes numbers final is version texts documents terms e 
     let trailer = lengths texts ++ counts documents terms in
     let given : length (sizes ++ numbers) ≡ 48 = omega (arith, is.sizes_length, is.numbers_length, length-append sizes numbers) in
     let same = sym is.whole ∙ e in
-    let first = fronts_apart mark (magic version) (body ++ ((sizes ++ numbers) ++ final)) (joined texts ++ (trailer ++ end_mark version)) (is.mark_length ∙ sym (length-magic version)) same in
-    let size : length body ≡ length (joined texts) =
-    omega (arith, ap length first.1, given, is.final_length, length-end_mark version, length-numbers texts documents terms, length-append body ((sizes ++ numbers) ++ final), length-append (sizes ++ numbers) final, length-append (joined texts) (trailer ++ end_mark version), length-append trailer (end_mark version)) in
-    let second = fronts_apart body (joined texts) ((sizes ++ numbers) ++ final) (trailer ++ end_mark version) size first.1 in
+    let first = fronts_apart mark (magic version) (body ++ ((sizes ++ numbers) ++ final)) (joined_sections texts ++ (trailer ++ end_mark version)) (is.mark_length ∙ sym (length-magic version)) same in
+    let size : length body ≡ length (joined_sections texts) =
+    omega (arith, ap length first.1, given, is.final_length, length-end_mark version, length-numbers texts documents terms, length-append body ((sizes ++ numbers) ++ final), length-append (sizes ++ numbers) final, length-append (joined_sections texts) (trailer ++ end_mark version), length-append trailer (end_mark version)) in
+    let second = fronts_apart body (joined_sections texts) ((sizes ++ numbers) ++ final) (trailer ++ end_mark version) size first.1 in
     let third = fronts_apart (sizes ++ numbers) trailer final (end_mark version) (given ∙ sym (length-numbers texts documents terms)) second.1 in
     let fourth = fronts_apart sizes (lengths texts) numbers (counts documents terms) (is.sizes_length ∙ sym (length-lengths texts)) third.0 in
     record { mark_is = first.0; body_is = second.0; sizes_are = fourth.0; numbers_are = fourth.1; final_is = third.1 }
@@ -87,8 +87,8 @@ length-framed version texts documents terms =
       length-magic version,
       length-end_mark version,
       length-numbers texts documents terms,
-      length-append (magic version) (joined texts ++ (trailer ++ end_mark version)),
-      length-append (joined texts) (trailer ++ end_mark version),
+      length-append (magic version) (joined_sections texts ++ (trailer ++ end_mark version)),
+      length-append (joined_sections texts) (trailer ++ end_mark version),
       length-append trailer (end_mark version),
     )
 

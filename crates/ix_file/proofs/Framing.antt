@@ -1,9 +1,9 @@
 -- The frame of an index text: it holds the sections of the parts, and a text has one frame.
-use Rattle.std.proofs.Common.{◌≡◌, ℕ, ◌+◌, ◌^◌, ◌<◌, List, [], ◌++◌, length, sym, ap, ◌∙◌, arith, length-append}
+use Rattle.std.proofs.Common.{◌≡◌, ℕ, ◌^◌, ◌<◌, List, [], ◌++◌, length, sym, ap, ◌∙◌, arith, length-append}
 use Rattle.std.proofs.lemmas.List.{append_assoc}
 use Rattle.ix_text.specs.Parts.{GramEntry, Parts}
 use Rattle.ix_vbyte.proofs.Pieces.{fronts_apart}
-use Rattle.ix_file.specs.Frames.{SectionTexts, IsCutInto, counts, eight, four, framed, joined, lengths}
+use Rattle.ix_file.specs.Frames.{SectionTexts, IsCutInto, counts, eight, four, framed, joined_sections, lengths}
 use Rattle.ix_file.specs.IndexText.{end_mark, layout, magic, tail}
 use Rattle.ix_file.specs.Sections.{Version}
 use Rattle.ix_file.specs.Spelled.{AreSectionsOf, sections_of}
@@ -24,7 +24,7 @@ sections_framed version parts grams texts documents terms is =
 
 -- ---- one frame
 
-cut_there : (version : Version) (texts : SectionTexts) (documents terms : ℕ) (bytes : List ℕ) → bytes ≡ framed version texts documents terms → IsCutInto bytes (magic version) (joined texts) (lengths texts) (counts documents terms) (end_mark version)
+cut_there : (version : Version) (texts : SectionTexts) (documents terms : ℕ) (bytes : List ℕ) → bytes ≡ framed version texts documents terms → IsCutInto bytes (magic version) (joined_sections texts) (lengths texts) (counts documents terms) (end_mark version)
 unfolding framed
 cut_there version texts documents terms bytes e = record {
   whole = e;
@@ -48,7 +48,7 @@ short version texts documents terms bytes few e =
     let size = simp length-append at (ap length e) in
     record { postings = omega (arith, few, size); stop = omega (arith, few, size); documents = omega (arith, few, size); dictionary = omega (arith, few, size); grams = omega (arith, few, size) }
 
-same_texts : (one other : SectionTexts) → AreShort one → AreShort other → lengths one ≡ lengths other → joined one ≡ joined other → one ≡ other
+same_texts : (one other : SectionTexts) → AreShort one → AreShort other → lengths one ≡ lengths other → joined_sections one ≡ joined_sections other → one ≡ other
 same_texts one other few also sizes bodies =
     let a = eight_apart _ _ _ _ few.postings also.postings sizes in
     let b = eight_apart _ _ _ _ few.stop also.stop a.1 in
@@ -75,7 +75,7 @@ pub record IsSameFrame (version another : Version) (texts more : SectionTexts) (
 pub one_frame : (bytes : List ℕ) (version another : Version) (texts more : SectionTexts) (documents terms m n : ℕ) → length bytes < 2 ^ 64 → documents < 2 ^ 32 → terms < 2 ^ 32 → m < 2 ^ 32 → n < 2 ^ 32
     → bytes ≡ framed version texts documents terms → bytes ≡ framed another more m n → IsSameFrame version another texts more documents terms m n
 one_frame bytes version another texts more documents terms m n few a b c d e f =
-    let is = frame_of bytes (magic version) (joined texts) (lengths texts) (counts documents terms) (end_mark version) (cut_there version texts documents terms bytes e) another more m n f in
+    let is = frame_of bytes (magic version) (joined_sections texts) (lengths texts) (counts documents terms) (end_mark version) (cut_there version texts documents terms bytes e) another more m n f in
     let numbers = four_apart documents m (four terms) (four n) a c is.numbers_are in
     record {
       same_version = one_mark version another is.mark_is;

@@ -6,7 +6,7 @@ use Rattle.std.specs.List.{slice_get}
 use Rattle.std.specs.Option.{option_map}
 use Rattle.ix_text.specs.Parts.{GramEntry}
 use Rattle.ix_text.proofs.PartsLemmas.{injected}
-use Rattle.ix_file.specs.Opened.{grams_of}
+use Rattle.ix_file.specs.Opened.{gram_texts}
 use Rattle.ix_file.specs.OpenedGrams.{gram_in, grams_in}
 use Rattle.ix_file.specs.declared.open.grams.GramRow.{GramRow}
 
@@ -37,7 +37,7 @@ gram_held section rows gram place numbers d at told =
     contained (grams_in section rows) place (record { gram = gram; numbers = numbers })
     (stands ∙ ap Some (same_gram_fields (gram_in section row) gram numbers (ap (λ (e : GramEntry). e.gram) same ∙ at.2) (sym told)))
 
-pub no_gram : (grams : List GramEntry) (gram : List ℕ) → All (λ entry. entry.gram ≡ gram → ⊥) grams → Contains (grams_of grams) gram → ⊥
+pub no_gram : (grams : List GramEntry) (gram : List ℕ) → All (λ entry. entry.gram ≡ gram → ⊥) grams → Contains (gram_texts grams) gram → ⊥
 no_gram grams gram none (k, low, is) =
     let bare : GramEntry = record { gram = gram; numbers = [] } in
     let gram_in : GramEntry → List ℕ = λ entry. entry.gram in

@@ -7,6 +7,7 @@ pub mod DictionaryLemmas
 pub mod DictionaryTold
 pub mod DistinctClaims
 pub mod EndingLemmas
+pub mod EntryBytes
 pub mod EntryLemmas
 pub mod FrameReading
 pub mod Framing

@@ -10,9 +10,9 @@ use Rattle.ix_text.specs.StopSets.{HasTermSize}
 use Rattle.ix_text.specs.Terms.{IsTerm}
 use Rattle.ix_vbyte.specs.Code.{code_of}
 use Rattle.ix_vbyte.proofs.Values.{code_of-apart}
-use Rattle.ix_file.specs.Listings.{AreListings, HasListedCounts, Listing, listing_bytes, listing_in, listings_from, listings_in, listings_section, sizes_sum, term_bytes}
+use Rattle.ix_file.specs.Listings.{AreListings, HasListedCounts, Listing, listing_bytes, listing_in, listings_from, listings_in, listings_section, sizes_sum, dictionary_term_bytes}
 use Rattle.ix_file.specs.Sections.{Version}
-use Rattle.ix_file.specs.TermReading.{MayFollow, last_listed}
+use Rattle.ix_file.specs.TermReading.{TermMayFollow, last_listed}
 use Rattle.ix_file.specs.declared.open.dictionary.TermRow.{TermRow}
 use Rattle.ix_file.proofs.AscendingLemmas.{ascending_front, ascending_last, ascending_none, ascending_push, last_of, less_from_pair, pair_from_less}
 use Rattle.ix_file.proofs.ListingsTold.{GoesOn, goes_on, last_from, last_from-listed, listings_from-push, term-apart}
@@ -26,10 +26,10 @@ behind_documents left behind rest documents listing is e =
 
 -- behind the term of a listing stand its counts
 pub listing_split : (version : Version) (place : ℕ) (before left rest : List ℕ) (listing : Listing) → left ≡ listing_bytes version place before listing ++ rest
-    → left ≡ term_bytes version place before listing.term ++ ((code_of listing.documents ++ code_of listing.size) ++ rest)
-listing_split version place before left rest listing e = e ∙ append_assoc (term_bytes version place before listing.term) (code_of listing.documents ++ code_of listing.size) rest
+    → left ≡ dictionary_term_bytes version place before listing.term ++ ((code_of listing.documents ++ code_of listing.size) ++ rest)
+listing_split version place before left rest listing e = e ∙ append_assoc (dictionary_term_bytes version place before listing.term) (code_of listing.documents ++ code_of listing.size) rest
 
-pub behind_term : (version : Version) (place : ℕ) (before left behind rest term : List ℕ) (listing : Listing) → left ≡ term_bytes version place before term ++ behind → left ≡ listing_bytes version place before listing ++ rest
+pub behind_term : (version : Version) (place : ℕ) (before left behind rest term : List ℕ) (listing : Listing) → left ≡ dictionary_term_bytes version place before term ++ behind → left ≡ listing_bytes version place before listing ++ rest
     → (term ≡ listing.term) × (behind ≡ (code_of listing.documents ++ code_of listing.size) ++ rest)
 behind_term version place before left behind rest term listing is e =
     term-apart version place before term listing.term behind ((code_of listing.documents ++ code_of listing.size) ++ rest) (sym is ∙ listing_split version place before left rest listing e)
@@ -37,9 +37,9 @@ behind_term version place before left behind rest term listing is e =
 -- ---- a term
 
 -- the term that was cut is the one that stands there
-pub cut_is : (version : Version) (place : ℕ) (before given left rest more one term : List ℕ) → given ≡ before → left ≡ term_bytes version place given one ++ rest → left ≡ term_bytes version place before term ++ more → one ≡ term
+pub cut_is : (version : Version) (place : ℕ) (before given left rest more one term : List ℕ) → given ≡ before → left ≡ dictionary_term_bytes version place given one ++ rest → left ≡ dictionary_term_bytes version place before term ++ more → one ≡ term
 cut_is version place before given left rest more one term same is e =
-    (term-apart version place before one term rest more (sym (is ∙ ap (λ b. term_bytes version place b one ++ rest) same) ∙ e)).0
+    (term-apart version place before one term rest more (sym (is ∙ ap (λ b. dictionary_term_bytes version place b one ++ rest) same) ∙ e)).0
 
 pub from_cut : (cut term : List ℕ) → term ≡ cut → IsUtf8 term → HasTermSize cut → IsTerm term
 from_cut cut term is text has = record {
@@ -66,7 +66,7 @@ last_listed-last_of : (listings : List Listing) → last_listed listings ≡ las
 last_listed-last_of listings = ap (λ n. get_or (map term_of listings) (n - 1) []) (sym (length-map listings term_of))
 
 -- a listing that may follow
-pub listings_push : (stop : List (List ℕ)) (listings : List Listing) (listing : Listing) → AreListings stop listings → MayFollow stop (last_listed listings) listing.term → HasListedCounts listing → AreListings stop (listings ++ listing ∷ [])
+pub listings_push : (stop : List (List ℕ)) (listings : List Listing) (listing : Listing) → AreListings stop listings → TermMayFollow stop (last_listed listings) listing.term → HasListedCounts listing → AreListings stop (listings ++ listing ∷ [])
 listings_push stop listings listing are may has = record {
   terms = All-push (λ (l : Listing). IsTerm l.term) listings listing are.terms may.is_term;
   ascending =
@@ -97,7 +97,7 @@ above_last (x ∷ xs) listing is some =
     (ap (λ text. slice_cmp nat_cmp text listing.term) (last_listed-last_of (x ∷ xs)) ∙ ascending_last (map term_of (x ∷ xs)) listing.term is (omega arith))
 
 -- what the next listing keeps
-pub next_listing : (stop : List (List ℕ)) (listings : List Listing) (listing : Listing) → AreListings stop (listings ++ listing ∷ []) → MayFollow stop (last_listed listings) listing.term × HasListedCounts listing
+pub next_listing : (stop : List (List ℕ)) (listings : List Listing) (listing : Listing) → AreListings stop (listings ++ listing ∷ []) → TermMayFollow stop (last_listed listings) listing.term × HasListedCounts listing
 next_listing stop listings listing are =
     let among = Contains-push listings listing in
     let is_term : IsTerm listing.term = All-contains (λ (l : Listing). IsTerm l.term) (listings ++ listing ∷ []) listing are.terms among in (
@@ -140,7 +140,7 @@ listings_all version section done left e none =
 
 -- where no listing may follow those that were read, the section is that of none
 pub none_next : (version : Version) (stop : List (List ℕ)) (section : List ℕ) (done : List Listing) (left : List ℕ) → section ≡ listings_section version done ++ left → 0 < length left
-    → ((listing : Listing) (rest : List ℕ) → MayFollow stop (last_listed done) listing.term → HasListedCounts listing → left ≡ listing_bytes version (length done) (last_listed done) listing ++ rest → ⊥)
+    → ((listing : Listing) (rest : List ℕ) → TermMayFollow stop (last_listed done) listing.term → HasListedCounts listing → left ≡ listing_bytes version (length done) (last_listed done) listing ++ rest → ⊥)
     → (listings : List Listing) → AreListings stop listings → section ≡ listings_section version listings → ⊥
 unfolding listings_section
 none_next version stop section done left e some refused listings are same = at (goes_on version 0 [] done listings left (sym same ∙ e))

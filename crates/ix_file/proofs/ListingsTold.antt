@@ -7,7 +7,7 @@ use Rattle.ix_vbyte.specs.Code.{code_of}
 use Rattle.ix_vbyte.specs.Texts.{counted}
 use Rattle.ix_vbyte.proofs.Texts.{counted-apart}
 use Rattle.ix_vbyte.proofs.Values.{code_of-apart, some_code_byte}
-use Rattle.ix_file.specs.Listings.{Listing, listing_of, listing_bytes, listings_from, listings_section, term_bytes}
+use Rattle.ix_file.specs.Listings.{Listing, listing_of, listing_bytes, listings_from, listings_section, dictionary_term_bytes}
 use Rattle.ix_file.specs.Sections.{Version, Plain, FrontCoded, front_coded, grouped, front_coded_from, dictionary_section, entry_counts}
 use Rattle.ix_file.specs.TermReading.{last_listed}
 
@@ -58,7 +58,7 @@ grouped-apart place before one other xs ys e = either (nat_eq (place % 4) 0) e
     either false same = front_coded-apart before one other xs ys same
 
 -- no term stands there twice
-pub term-apart : (version : Version) (place : ℕ) (before one other : List ℕ) (xs ys : List ℕ) → term_bytes version place before one ++ xs ≡ term_bytes version place before other ++ ys → (one ≡ other) × (xs ≡ ys)
+pub term-apart : (version : Version) (place : ℕ) (before one other : List ℕ) (xs ys : List ℕ) → dictionary_term_bytes version place before one ++ xs ≡ dictionary_term_bytes version place before other ++ ys → (one ≡ other) × (xs ≡ ys)
 term-apart Plain place before one other xs ys e = counted-apart one other xs ys e
 term-apart FrontCoded place before one other xs ys e = grouped-apart place before one other xs ys e
 
@@ -82,13 +82,13 @@ pub listing-apart : (version : Version) (place : ℕ) (before : List ℕ) (one o
 listing-apart version place before one other xs ys e =
     let counts = code_of one.documents ++ code_of one.size in
     let counts' = code_of other.documents ++ code_of other.size in
-    let terms = term-apart version place before one.term other.term (counts ++ xs) (counts' ++ ys) (sym (append_assoc (term_bytes version place before one.term) counts xs) ∙ e ∙ append_assoc (term_bytes version place before other.term) counts' ys) in
+    let terms = term-apart version place before one.term other.term (counts ++ xs) (counts' ++ ys) (sym (append_assoc (dictionary_term_bytes version place before one.term) counts xs) ∙ e ∙ append_assoc (dictionary_term_bytes version place before other.term) counts' ys) in
     let numbers = counts_apart one.documents one.size other.documents other.size xs ys terms.1 in
     (same_listing one other terms.0 numbers.0 numbers.1, numbers.2)
 
 pub some_listing_byte : (version : Version) (place : ℕ) (before : List ℕ) (listing : Listing) → 0 < length (listing_bytes version place before listing)
 some_listing_byte version place before listing =
-    omega (arith, length-append (term_bytes version place before listing.term) (code_of listing.documents ++ code_of listing.size), length-append (code_of listing.documents) (code_of listing.size), some_code_byte listing.size)
+    omega (arith, length-append (dictionary_term_bytes version place before listing.term) (code_of listing.documents ++ code_of listing.size), length-append (code_of listing.documents) (code_of listing.size), some_code_byte listing.size)
 
 -- ---- listings
 

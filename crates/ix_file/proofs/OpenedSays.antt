@@ -1,5 +1,5 @@
 -- What an opened index says of its collection.
-use Rattle.std.proofs.Common.{ℕ, ◌<◌, List, map, length, get_or, Contains, refl, ap, ◌∙◌, subst, arith}
+use Rattle.std.proofs.Common.{ℕ, ◌<◌, List, map, length, Contains, refl, ap, ◌∙◌, subst, arith}
 use Rattle.std.proofs.lemmas.List.{get_or-map, length-map}
 use Rattle.std.proofs.lemmas.List.Elements.{All-contains}
 use Rattle.ix_text.specs.Parts.{GramEntry, HasNumber, IsEntryOf}

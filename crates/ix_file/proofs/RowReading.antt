@@ -1,5 +1,5 @@
 -- DOCS is read row by row.
-use Rattle.std.proofs.Common.{◌≡◌, ℕ, ◌+◌, ◌-◌, ◌^◌, ◌<◌, ◌≤◌, List, [], ◌∷◌, ◌++◌, length, flat_map, take, drop, All, refl, sym, ap, ◌∙◌, subst, arith, length-append}
+use Rattle.std.proofs.Common.{◌≡◌, ℕ, ◌+◌, ◌-◌, ◌^◌, ◌<◌, ◌≤◌, List, [], ◌∷◌, ◌++◌, length, flat_map, take, drop, refl, sym, ap, ◌∙◌, subst, arith, length-append}
 use Rattle.std.proofs.lemmas.List.{append_assoc, append-nil, nil_from_length, take_at, drop_at}
 use Rattle.std.proofs.lemmas.List.Elements.{All-nil, All-push, All-contains, Contains-push}
 use Rattle.std.proofs.lemmas.List.Sums.{sum_by_push, sum_by-append}
@@ -13,7 +13,7 @@ use Rattle.ix_vbyte.proofs.Texts.{counted-apart, counted_number-apart}
 use Rattle.ix_vbyte.proofs.Values.{some_code_byte}
 use Rattle.ix_file.specs.OpenedRows.{AreRows, row_bytes}
 use Rattle.ix_file.specs.Sections.{documents_section}
-use Rattle.ix_file.proofs.Continuing.{AreApart, GoesOn, HasNext, goes_on, has_next, read_more}
+use Rattle.ix_file.proofs.Continuing.{AreApart, GoesOn, goes_on, has_next, read_more}
 use Rattle.ix_file.proofs.StopReading.{All-front}
 
 -- a part of a text, by what stands before it

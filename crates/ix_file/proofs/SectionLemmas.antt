@@ -12,7 +12,7 @@ use Rattle.ix_vbyte.specs.Texts.{counted}
 use Rattle.ix_vbyte.proofs.Gaps.{Ascends-from}
 use Rattle.ix_text.specs.Parts.{GramEntry, IsGramEntry}
 use Rattle.ix_file.specs.declared.grams.GramPair.{GramPair}
-use Rattle.ix_file.specs.GramEntries.{IsApart, entry, entries_of}
+use Rattle.ix_file.specs.GramEntries.{IsApart, entry, gram_entries_of}
 use Rattle.ix_file.specs.declared.grams.Grams.{Grams}
 use Rattle.ix_file.specs.Grams.{AppendsGrams, AreGramsOfTerms}
 use Rattle.ix_file.specs.HeldGrams.{HoldsGrams, gram_of, pair_cmp}
@@ -43,7 +43,7 @@ IsLow p = p.number < 2 ^ 32 - 1
 pub record IsSectionUnderWay (before : List ℕ) (pairs : List GramPair) (now : List ℕ) (rest : List GramPair) : Type 0 where
   pub more : List ℕ
   pub grown : now ≡ before ++ more
-  pub left : more ++ grams_section (entries_of rest) ≡ grams_section (entries_of pairs)
+  pub left : more ++ grams_section (gram_entries_of rest) ≡ grams_section (gram_entries_of pairs)
   pub ascending : IsStrictlySortedBy pair_cmp rest
   pub low : All IsLow rest
 
@@ -69,14 +69,14 @@ all_front (x ∷ xs) ys all = All-cons IsLow x xs (All-head IsLow x (xs ++ ys) a
 
 -- ---- the entry of the pairs at the front
 
-run_entry : (rest : List GramPair) (first : GramPair) (run next : List GramPair) → IsRun rest first run next → entries_of rest ≡ entry (gram_of first) (map number_in (first ∷ run)) ∷ entries_of next
-run_entry rest first run next is = ap entries_of is.parts ∙ entries-run first run next is.same is.apart
+run_entry : (rest : List GramPair) (first : GramPair) (run next : List GramPair) → IsRun rest first run next → gram_entries_of rest ≡ entry (gram_of first) (map number_in (first ∷ run)) ∷ gram_entries_of next
+run_entry rest first run next is = ap gram_entries_of is.parts ∙ entries-run first run next is.same is.apart
 
 pub run_ascends : (rest : List GramPair) (first : GramPair) (run next : List GramPair) → IsRun rest first run next → IsStrictlySortedBy pair_cmp rest → All IsLow rest → Ascends 0 (2 ^ 32 - 1) (map number_in (first ∷ run))
 run_ascends rest first run next is up low =
     let of_run = entry (gram_of first) (map number_in (first ∷ run)) in
     let each = subst (λ (es : List GramEntry). All IsGramEntry es) (run_entry rest first run next is) (each-entries rest up) in
-    let rising = (All-head IsGramEntry of_run (entries_of next) each).1 in
+    let rising = (All-head IsGramEntry of_run (gram_entries_of next) each).1 in
     let few = all_front (first ∷ run) next (subst (λ (ps : List GramPair). All IsLow ps) is.parts low) in
     let within = All-map (λ n. (0 ≤ n) × (n < 2 ^ 32 - 1)) number_in (first ∷ run) (All-weaker IsLow (λ p. (0 ≤ p.number) × (p.number < 2 ^ 32 - 1)) (λ p h. (omega arith, h)) (first ∷ run) few) in
     Ascends-from 0 (2 ^ 32 - 1) (map number_in (first ∷ run)) rising within
@@ -96,14 +96,14 @@ section-step before pairs now rest new first run next so_far is appended =
       more = so_far.more ++ bytes;
       grown = appended ∙ ap (λ (xs : List ℕ). xs ++ bytes) so_far.grown ∙ append_assoc before so_far.more bytes;
       left =
-          append_assoc so_far.more bytes (grams_section (entries_of next))
-          ∙ ap (λ (xs : List ℕ). so_far.more ++ xs) (sym (section-cons of_run (entries_of next)) ∙ ap grams_section (sym (run_entry rest first run next is)))
+          append_assoc so_far.more bytes (grams_section (gram_entries_of next))
+          ∙ ap (λ (xs : List ℕ). so_far.more ++ xs) (sym (section-cons of_run (gram_entries_of next)) ∙ ap grams_section (sym (run_entry rest first run next is)))
           ∙ so_far.left;
       ascending = sorted_behind (first ∷ run) next (subst (λ (ps : List GramPair). IsStrictlySortedBy pair_cmp ps) is.parts so_far.ascending);
       low = all_behind (first ∷ run) next (subst (λ (ps : List GramPair). All IsLow ps) is.parts so_far.low);
     }
 
-pub section-end : (before : List ℕ) (pairs : List GramPair) (now : List ℕ) (rest : List GramPair) → IsSectionUnderWay before pairs now rest → length rest ≡ 0 → now ≡ before ++ grams_section (entries_of pairs)
+pub section-end : (before : List ℕ) (pairs : List GramPair) (now : List ℕ) (rest : List GramPair) → IsSectionUnderWay before pairs now rest → length rest ≡ 0 → now ≡ before ++ grams_section (gram_entries_of pairs)
 section-end before pairs now [] so_far none =
     so_far.grown ∙ ap (λ (xs : List ℕ). before ++ xs) (sym (append-nil so_far.more) ∙ ap (λ (xs : List ℕ). so_far.more ++ xs) (sym section-none) ∙ so_far.left)
 section-end before pairs now (p ∷ rest) so_far none = absurd (omega arith)
@@ -155,7 +155,7 @@ low_held grams terms sorted held same =
     sorted (All-contains_itself sorted)
 
 of_held : (grams : Grams) (terms : List (List ℕ)) (sorted : List GramPair) → HoldsGrams grams terms → ((p : GramPair) → Contains sorted p ↔ Contains grams.pairs.items p)
-    → IsStrictlySortedBy pair_cmp sorted → AreGramsOfTerms terms (entries_of sorted)
+    → IsStrictlySortedBy pair_cmp sorted → AreGramsOfTerms terms (gram_entries_of sorted)
 of_held grams terms sorted held same up = record {
   ascending = ascending-entries sorted up;
   each = each-entries sorted up;
@@ -167,6 +167,6 @@ of_held grams terms sorted held same up = record {
 
 pub section_held : {T E : Type 0} (result : Result T E) (grams : Grams) (terms : List (List ℕ)) (sorted : List GramPair) (old new : List ℕ) → HoldsGrams grams terms
     → ((p : GramPair) → Contains sorted p ↔ Contains grams.pairs.items p) → IsStrictlySortedBy pair_cmp sorted
-    → OnOk result (new ≡ old ++ grams_section (entries_of sorted)) → OnOk result (AppendsGrams terms old new)
+    → OnOk result (new ≡ old ++ grams_section (gram_entries_of sorted)) → OnOk result (AppendsGrams terms old new)
 section_held result grams terms sorted old new held same up appended =
-    on_ok_then result (λ (is : new ≡ old ++ grams_section (entries_of sorted)). record { grams = entries_of sorted; of_terms = of_held grams terms sorted held same up; appended = is }) appended
+    on_ok_then result (λ (is : new ≡ old ++ grams_section (gram_entries_of sorted)). record { grams = gram_entries_of sorted; of_terms = of_held grams terms sorted held same up; appended = is }) appended

@@ -1,6 +1,6 @@
 -- STOP is read term by term.
-use Rattle.std.proofs.Common.{◌≡◌, ℕ, ◌+◌, ◌^◌, ◌<◌, ◌≤◌, List, [], ◌∷◌, ◌++◌, length, flat_map, All, refl, sym, ap, ◌∙◌, subst, arith, length-append}
-use Rattle.std.proofs.lemmas.List.{append_assoc, take_at, append-nil, nil_from_length}
+use Rattle.std.proofs.Common.{◌≡◌, ℕ, ◌^◌, ◌<◌, ◌≤◌, List, [], ◌∷◌, ◌++◌, length, flat_map, All, refl, sym, ap, ◌∙◌, subst, arith, length-append}
+use Rattle.std.proofs.lemmas.List.{take_at, append-nil, nil_from_length}
 use Rattle.std.proofs.lemmas.List.Elements.{All-take, All-push, All-nil}
 use Rattle.ix_text.specs.ByteOrder.{IsAscending}
 use Rattle.ix_text.specs.StopSets.{IsStopSet}
@@ -11,7 +11,7 @@ use Rattle.ix_vbyte.proofs.Texts.{counted-apart}
 use Rattle.ix_vbyte.proofs.Values.{some_code_byte}
 use Rattle.ix_file.specs.Sections.{stop_section}
 use Rattle.ix_file.proofs.AscendingLemmas.{ascending_front, ascending_none}
-use Rattle.ix_file.proofs.Continuing.{AreApart, HasNext, has_next, read_more}
+use Rattle.ix_file.proofs.Continuing.{has_next, read_more}
 
 pub some_counted_byte : (text : List ℕ) → 0 < length (counted text)
 some_counted_byte text = omega (arith, some_code_byte (length text), length-append (code_of (length text)) text)

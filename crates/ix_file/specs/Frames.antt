@@ -16,8 +16,8 @@ pub record SectionTexts : Type 0 where
   pub grams : List ℕ
 
 -- the sections, one behind another
-abbrev pub joined : SectionTexts → List ℕ
-joined texts = texts.postings ++ (texts.stop ++ (texts.documents ++ (texts.dictionary ++ texts.grams)))
+abbrev pub joined_sections : SectionTexts → List ℕ
+joined_sections texts = texts.postings ++ (texts.stop ++ (texts.documents ++ (texts.dictionary ++ texts.grams)))
 
 -- a length, in eight bytes, the lowest first
 unfoldable pub eight : ℕ → List ℕ
@@ -38,7 +38,7 @@ counts documents terms = four documents ++ four terms
 
 -- the whole text
 unfoldable pub framed : Version → SectionTexts → ℕ → ℕ → List ℕ
-framed version texts documents terms = magic version ++ (joined texts ++ ((lengths texts ++ counts documents terms) ++ end_mark version))
+framed version texts documents terms = magic version ++ (joined_sections texts ++ ((lengths texts ++ counts documents terms) ++ end_mark version))
 
 -- the sections that stand there
 abbrev pub texts_in : SectionBytes → SectionTexts

@@ -19,9 +19,9 @@ with_pair pair [] = entry (gram_of pair) (pair.number ∷ []) ∷ []
 with_pair pair (first ∷ entries) = joined (bytes_eq (gram_of pair) first.gram) pair first entries
 
 -- the entries of pairs in order
-abbrev pub entries_of : List GramPair → List GramEntry
-entries_of [] = []
-entries_of (pair ∷ pairs) = with_pair pair (entries_of pairs)
+abbrev pub gram_entries_of : List GramPair → List GramEntry
+gram_entries_of [] = []
+gram_entries_of (pair ∷ pairs) = with_pair pair (gram_entries_of pairs)
 
 -- no pair follows, or one of another gram
 abbrev pub IsApart : GramPair → List GramPair → Type 0

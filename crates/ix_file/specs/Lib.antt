@@ -22,9 +22,11 @@ pub mod Refusals
 pub mod Rows
 pub mod SectionSteps
 pub mod Sections
+pub mod SizeLaws
 pub mod Spelled
 pub mod Tables
 pub mod Telling
 pub mod TellingLaws
 pub mod TermReading
 pub mod Told
+pub mod Writers

@@ -28,13 +28,13 @@ abbrev pub listings_in : List TermRow → List Listing
 listings_in rows = map listing_in rows
 
 -- a term at its place, behind the term before
-abbrev pub term_bytes : Version → ℕ → List ℕ → List ℕ → List ℕ
-term_bytes Plain place before term = counted term
-term_bytes FrontCoded place before term = grouped place before term
+abbrev pub dictionary_term_bytes : Version → ℕ → List ℕ → List ℕ → List ℕ
+dictionary_term_bytes Plain place before term = counted term
+dictionary_term_bytes FrontCoded place before term = grouped place before term
 
 -- a listing at its place: the term, and its two counts
 abbrev pub listing_bytes : Version → ℕ → List ℕ → Listing → List ℕ
-listing_bytes version place before listing = term_bytes version place before listing.term ++ (code_of listing.documents ++ code_of listing.size)
+listing_bytes version place before listing = dictionary_term_bytes version place before listing.term ++ (code_of listing.documents ++ code_of listing.size)
 
 -- the listings from a place on, behind the term before
 abbrev pub listings_from : Version → ℕ → List ℕ → List Listing → List ℕ

@@ -39,5 +39,5 @@ abbrev pub document_counts : List DictionaryEntry → List ℕ
 document_counts entries = map (λ entry. length entry.postings) entries
 
 -- the grams
-abbrev pub grams_of : List GramEntry → List (List ℕ)
-grams_of grams = map (λ entry. entry.gram) grams
+abbrev pub gram_texts : List GramEntry → List (List ℕ)
+gram_texts grams = map (λ entry. entry.gram) grams

@@ -2,7 +2,7 @@
 use Rattle.std.specs.Prelude.{◌≡◌, ℕ, ◌↔◌, List, slice_get, Some, Contains}
 use Rattle.ix_text.specs.Collections.{Collection, HasGram, HasPosting}
 use Rattle.ix_text.specs.Parts.{DictionaryEntry, HasPosition, Posting, terms_of}
-use Rattle.ix_file.specs.Opened.{IsIndexOf, Opened, grams_of, lists_of}
+use Rattle.ix_file.specs.Opened.{IsIndexOf, Opened, gram_texts, lists_of}
 use Rattle.ix_file.specs.Sections.{Version}
 
 -- the postings under a term are exactly those of the term in the collection
@@ -32,5 +32,5 @@ GramsHaveNumbers =
 -- and a gram that is not there is that of no term
 abbrev pub OthersAreNoGram : Type 0
 OthersAreNoGram =
-    (opened : Opened) (version : Version) (collection : Collection) (gram : List ℕ) → IsIndexOf opened version collection → ¬ (Contains (grams_of opened.grams) gram)
+    (opened : Opened) (version : Version) (collection : Collection) (gram : List ℕ) → IsIndexOf opened version collection → ¬ (Contains (gram_texts opened.grams) gram)
     → (number : ℕ) → ¬ (HasGram collection gram number)

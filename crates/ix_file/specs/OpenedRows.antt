@@ -1,5 +1,5 @@
 -- The rows of the documents, as an opened index holds them: each name stands where it is, in DOCS.
-use Rattle.std.specs.Prelude.{◌≡◌, ℕ, ◌+◌, ◌^◌, ◌<◌, ◌≤◌, List, ◌++◌, map, length, sum_by, slice_range, All}
+use Rattle.std.specs.Prelude.{ℕ, ◌+◌, ◌^◌, ◌≤◌, List, ◌++◌, map, length, sum_by, slice_range, All}
 use Rattle.ix_text.specs.Collections.{IsName}
 use Rattle.ix_text.specs.Parts.{DocumentRow}
 use Rattle.ix_vbyte.specs.Code.{code_of}

@@ -4,7 +4,7 @@ use Rattle.ix_file.specs.declared.put_error.PutError.{PutError}
 use Rattle.ix_file.specs.declared.put_error.PutError.TheVariants.{Write, Memory, Failed}
 
 -- the place of an error in the list, from 1
-abbrev pub number_of : PutError → ℕ
-number_of Write = 1
-number_of Memory = 2
-number_of Failed = 3
+abbrev pub put_error_number : PutError → ℕ
+put_error_number Write = 1
+put_error_number Memory = 2
+put_error_number Failed = 3

@@ -3,5 +3,5 @@ use Rattle.ix_text.specs.Parts.{DocumentRow}
 use Rattle.ix_file.specs.declared.row.DocRow.{DocRow}
 
 -- its name and its number of tokens
-abbrev pub row_of : DocRow → DocumentRow
-row_of row = record { name = row.name.now; tokens = row.tokens }
+abbrev pub document_row : DocRow → DocumentRow
+document_row row = record { name = row.name.now; tokens = row.tokens }

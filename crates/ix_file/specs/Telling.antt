@@ -5,7 +5,7 @@ use Rattle.ix_vbyte.specs.Gaps.{next_after}
 use Rattle.ix_vbyte.specs.Postings.{documents_of, list_bytes}
 use Rattle.ix_text.specs.Parts.{DictionaryEntry, terms_of}
 use Rattle.ix_file.specs.Sections.{FrontCoded, postings_section, stop_section, documents_section, dictionary_section}
-use Rattle.ix_file.specs.Told.{Told, entries_of, text_of, position_count}
+use Rattle.ix_file.specs.Told.{Told, entries_of, settled_front, position_total}
 use Rattle.ix_file.specs.HeldGrams.{HoldsGrams}
 use Rattle.ix_file.specs.declared.dictionary.Dictionary.{Dictionary}
 use Rattle.ix_file.specs.declared.list.ListAtHand.{ListAtHand}
@@ -23,7 +23,7 @@ pub record IsDictionaryOf (dictionary : Dictionary) (entries : List DictionaryEn
   pub previous : dictionary.previous.items ≡ last_term [] entries
 
 -- the list is that of the entry
-pub record IsListOf (list : ListAtHand) (entry : DictionaryEntry) : Type 0 where
+pub record IsListOfEntry (list : ListAtHand) (entry : DictionaryEntry) : Type 0 where
   pub term : list.term.items ≡ entry.term
   pub documents : list.documents ≡ length entry.postings
   pub bytes : list.bytes ≡ length (list_bytes entry.postings)
@@ -35,14 +35,14 @@ pub record SectionsTold (sections : Sections) (told : Told) : Type 0 where
   pub documents : sections.documents.items ≡ documents_section told.rows
   pub rows : sections.rows ≡ length told.rows
   pub dictionary : IsDictionaryOf sections.dictionary told.done
-  pub list : MatchOption told.at_hand (sections.list.documents ≡ 0) (IsListOf sections.list)
+  pub list : MatchOption told.at_hand (sections.list.documents ≡ 0) (IsListOfEntry sections.list)
   pub short : length sections.list.term.items ≤ 255
   pub grams : HoldsGrams sections.grams (terms_of (entries_of told))
   pub postings : sections.postings ≡ length (postings_section (entries_of told))
   pub within : sections.list.bytes ≤ sections.postings
-  pub few_bytes : sections.postings ≤ 15 * position_count (entries_of told)
-  pub few_documents : sections.dictionary.count + sections.list.documents ≤ position_count (entries_of told)
-  pub few_positions : position_count (entries_of told) ≤ 2 ^ 28
+  pub few_bytes : sections.postings ≤ 15 * position_total (entries_of told)
+  pub few_documents : sections.dictionary.count + sections.list.documents ≤ position_total (entries_of told)
+  pub few_positions : position_total (entries_of told) ≤ 2 ^ 28
 
 -- What went out since `before`, and then what is pending, is the text.
 pub record Spells (before now : Option (List ℕ)) (pending text : List ℕ) : Type 0 where
@@ -55,7 +55,7 @@ pub record Spells (before now : Option (List ℕ)) (pending text : List ℕ) : T
 pub record IsTold (before now : Option (List ℕ)) (sections : Sections) (told : Told) : Type 0 where
   pub ready : sections.refusal ≡ None
   pub kept : SectionsTold sections told
-  pub written : Spells before now sections.pending.items (text_of told)
+  pub written : Spells before now sections.pending.items (settled_front told)
 
 -- the entry at hand, if there is one, has a posting
 abbrev pub IsClosable : Told → Type 0
@@ -66,7 +66,7 @@ pub record MayPost (told : Told) (document count : ℕ) : Type 0 where
   pub entry : DictionaryEntry
   pub at_hand : told.at_hand ≡ Some entry
   pub follows : next_after 0 (documents_of entry.postings) ≤ document
-  pub few : position_count (entries_of told) + count ≤ 2 ^ 28
+  pub few : position_total (entries_of told) + count ≤ 2 ^ 28
 
 -- such a posting may be told to a writer that keeps this
 pub record CanPost (sections : Sections) (document count : ℕ) : Type 0 where

@@ -4,10 +4,10 @@ use Rattle.ix_text.specs.Collections.{Collection, IsLawful}
 use Rattle.ix_text.specs.Parts.{GramEntry, ArePartsOf, AreGramsOf}
 use Rattle.ix_file.specs.IndexText.{IsIndexText, tail}
 use Rattle.ix_file.specs.Sections.{FrontCoded}
-use Rattle.ix_file.specs.Told.{Told, parts_of, text_of}
+use Rattle.ix_file.specs.Told.{Told, parts_of, settled_front}
 
 -- the front that is settled by the parts of a lawful collection begins an index text of it
 abbrev pub SettledFrontBeginsIndexText : Type 0
 SettledFrontBeginsIndexText =
     (told : Told) (collection : Collection) (grams : List GramEntry) → IsLawful collection → ArePartsOf collection (parts_of told) → AreGramsOf collection grams
-    → IsIndexText FrontCoded collection (text_of told ++ tail FrontCoded (parts_of told) grams)
+    → IsIndexText FrontCoded collection (settled_front told ++ tail FrontCoded (parts_of told) grams)

@@ -17,7 +17,7 @@ pub record IsLongestFront (before : List ℕ) (shared size : ℕ) (left : List �
   pub differs : slice_get before shared ≢ slice_get left 0
 
 -- the term may stand behind the term before
-pub record MayFollow (stop : List (List ℕ)) (before term : List ℕ) : Type 0 where
+pub record TermMayFollow (stop : List (List ℕ)) (before term : List ℕ) : Type 0 where
   pub is_term : IsTerm term
   pub above : IsAscending (before ∷ term ∷ [])
   pub unstopped : ¬ (Contains stop term)

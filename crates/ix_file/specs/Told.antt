@@ -1,7 +1,8 @@
 -- What the calls of a writer told: the parts of an index, the entry at hand apart from the finished ones.
-use Rattle.std.specs.Prelude.{ℕ, List, [], ◌∷◌, ◌++◌, Option, None, Some, length, sum_by}
+use Rattle.std.specs.Prelude.{ℕ, List, [], ◌∷◌, ◌++◌, Option, None, Some, sum_by}
 use Rattle.std.specs.Option.{option_map, option_to_list}
 use Rattle.ix_text.specs.Parts.{Parts, DictionaryEntry, DocumentRow}
+use Rattle.ix_text.specs.PartsLaws.{position_count}
 use Rattle.ix_file.specs.IndexText.{magic}
 use Rattle.ix_file.specs.Sections.{FrontCoded, postings_section}
 
@@ -39,9 +40,9 @@ abbrev pub parts_of : Told → Parts
 parts_of told = record { stop = told.stop; rows = told.rows; entries = entries_of told }
 
 -- the front of an index text that is settled by what was told: everything before STOP
-abbrev pub text_of : Told → List ℕ
-text_of told = magic FrontCoded ++ postings_section (entries_of told)
+abbrev pub settled_front : Told → List ℕ
+settled_front told = magic FrontCoded ++ postings_section (entries_of told)
 
--- how many positions the entries have
-abbrev pub position_count : List DictionaryEntry → ℕ
-position_count entries = sum_by (λ entry. sum_by (λ posting. length posting.1) entry.postings) entries
+-- how many positions the entries have in all
+abbrev pub position_total : List DictionaryEntry → ℕ
+position_total entries = sum_by (λ entry. position_count entry.postings) entries

@@ -44,7 +44,7 @@ impl<'a> Index<'a> {
     ghost use Rattle.ix_file.specs.Frames.{texts_in};
     ghost use Rattle.ix_file.specs.Grams.{AreGramsOfTerms};
     ghost use Rattle.ix_file.specs.IndexText.{IsIndexText};
-    ghost use Rattle.ix_file.specs.Opened.{IsIndexOf, document_counts, grams_of, lists_of, names_of, token_counts, version_number};
+    ghost use Rattle.ix_file.specs.Opened.{IsIndexOf, document_counts, gram_texts, lists_of, names_of, token_counts, version_number};
     ghost use Rattle.ix_file.specs.Sections.{Version as FormatVersion};
     ghost use Rattle.ix_file.specs.Tables.{AreTablesOf, opened_in, tables_in};
     ghost use Rattle.ix_file.specs.declared.open_error.OpenError.TheVariants.{Memory};
@@ -161,7 +161,7 @@ impl<'a> Index<'a> {
 
     /// The numbers of the terms that have a gram, or none where no term has it.
     pub fn gram(&self, gram: &str) -> Option<Numbers<'a>>
-        ensures { MatchOption result (¬ (Contains (grams_of self.now.grams) gram.now)) (λ numbers. Contains self.now.grams (record { gram = gram.now; numbers = numbers })) }
+        ensures { MatchOption result (¬ (Contains (gram_texts self.now.grams) gram.now)) (λ numbers. Contains self.now.grams (record { gram = gram.now; numbers = numbers })) }
     {
         let rows = self.tables.tables().grams.as_slice();
         let place = find_gram(self.sections.grams, rows, gram)?;

@@ -1,12 +1,24 @@
 //! Laws of the index text. The functions do nothing: what they ensure is a fact about the definitions.
+ghost use Rattle.ix_text.specs.Parts.{terms_of};
+ghost use Rattle.ix_text.specs.PartsLaws.{AreLawful};
 ghost use Rattle.ix_file.specs.GramLaws.{GramsOfVocabularyAreOfCollection, TermsHaveOneGramList};
+ghost use Rattle.ix_file.specs.Grams.{AreGramsOfTerms};
 ghost use Rattle.ix_file.specs.Laws.{HasOneVersion, HasSixtyFourBytes, IndexTextTellsCollection, IndexTextTellsVersionAndCollection};
 ghost use Rattle.ix_file.specs.OpenedLaws.{EntriesHavePostings, GramsHaveNumbers, NumbersTellEntries, OthersAreNoGram, OthersHaveNoPosting};
+ghost use Rattle.ix_file.specs.SizeLaws.{HasBytesForEntries};
 ghost use Rattle.ix_file.specs.TellingLaws.{SettledFrontBeginsIndexText};
+
+use crate::Index;
 
 /// An index text has at least 64 bytes.
 pub fn index_text_has_sixty_four_bytes()
     ensures { HasSixtyFourBytes }
+{}
+
+/// An index text has, besides its marks and its trailer, two bytes for each stop term and each document of its opened
+/// index, seven for each term and three for each gram.
+pub fn index_text_has_bytes_for_entries()
+    ensures { HasBytesForEntries }
 {}
 
 /// A text of version 1 is none of version 2.
@@ -54,3 +66,12 @@ pub fn opened_grams_are_of_the_collection()
     ensures there { GramsHaveNumbers }
     ensures nowhere { OthersAreNoGram }
 {}
+
+/// The parts of an opened index are those of a lawful collection, and its grams are those of its terms.
+pub fn opened_parts_are_lawful(index: &Index<'_>)
+    ensures parts { AreLawful index.now.parts }
+    ensures grams { AreGramsOfTerms (terms_of index.now.parts.entries) index.now.grams }
+{
+    let _ = index.doc_count();
+    let _ = index.term_count();
+}

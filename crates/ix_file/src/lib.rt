@@ -23,9 +23,10 @@ mod writer;
 
 pub use index::Index;
 pub use laws::{
-    grams_of_the_vocabulary, index_text_has_one_version, index_text_has_sixty_four_bytes,
-    index_text_tells_collection, index_text_tells_version_and_collection,
-    opened_grams_are_of_the_collection, opened_postings_are_of_the_collection,
+    grams_of_the_vocabulary, index_text_has_bytes_for_entries, index_text_has_one_version,
+    index_text_has_sixty_four_bytes, index_text_tells_collection,
+    index_text_tells_version_and_collection, opened_grams_are_of_the_collection,
+    opened_parts_are_lawful, opened_postings_are_of_the_collection,
     settled_front_begins_index_text, terms_have_one_gram_list,
 };
 pub use numbers::Numbers;

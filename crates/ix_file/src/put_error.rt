@@ -1,6 +1,6 @@
 //! Why a writer of an index text refuses a call.
 ghost use Rattle.std.specs.Prelude.{◌≡◌};
-ghost use Rattle.ix_file.specs.PutErrors.{number_of};
+ghost use Rattle.ix_file.specs.PutErrors.{put_error_number};
 ghost use Rattle.ix_file.specs.declared.put_error.PutError.TheVariants.{Write, Memory};
 
 use ix_text::WriteRefused;
@@ -24,7 +24,7 @@ pub enum PutError {
 impl PutError {
     /// The error's number, from 1 in the order of the list.
     pub fn number(self) -> u8
-        ensures { result ≡ number_of self }
+        ensures { result ≡ put_error_number self }
     {
         match self {
             PutError::Write => 1,

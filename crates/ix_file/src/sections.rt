@@ -2,7 +2,7 @@
 ghost use Rattle.std.specs.Prelude.{◌≡◌, ◌≤◌, ◌<◌, ◌+◌, ◌-◌, ◌*◌, ◌^◌, ◌++◌, ℕ, List, [], ◌∷◌, length, None, Some, OnOk, OnErr, IfOk, IfErr, All, map, string_bytes};
 ghost use Rattle.ix_vbyte.specs.Gaps.{Ascends};
 ghost use Rattle.ix_text.specs.Terms.{IsTerm};
-ghost use Rattle.ix_file.specs.Rows.{row_of};
+ghost use Rattle.ix_file.specs.Rows.{document_row};
 ghost use Rattle.ix_file.specs.Sections.{stop_section, documents_section};
 
 use crate::PutError;
@@ -72,7 +72,7 @@ impl Sections {
     pub(crate) fn begin(&mut self, stop: &StopList, rows: &[DocRow<'_>]) -> Result<(), AllocError>
         requires few { length rows.now < 2 ^ 32 }
         requires names { All (λ row. length row.name.now < 2 ^ 32) rows.now }
-        ensures { IsEmpty self.old → OnOk result (Begins self.new stop.now (map row_of rows.now)) }
+        ensures { IsEmpty self.old → OnOk result (Begins self.new stop.now (map document_row rows.now)) }
     {
         self.pending.try_reserve(ROOM)?;
         self.pending.extend_from_slice(MAGIC)?;
@@ -182,7 +182,7 @@ fn push_stop(out: &mut Vec<u8>, terms: &[String]) -> Result<(), AllocError>
 /// Appends the DOCS section.
 fn push_rows(out: &mut Vec<u8>, rows: &[DocRow<'_>]) -> Result<(), AllocError>
     requires { All (λ row. length row.name.now < 2 ^ 32) rows.now }
-    ensures { OnOk result (out.new.items ≡ out.old.items ++ documents_section (map row_of rows.now)) }
+    ensures { OnOk result (out.new.items ≡ out.old.items ++ documents_section (map document_row rows.now)) }
 {
     for row in rows {
         push_counted(out, row.name.as_bytes())?;

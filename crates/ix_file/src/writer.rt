@@ -9,10 +9,10 @@ ghost use Rattle.ix_file.specs.Endings.{IsFinished, WritesIndexText};
 ghost use Rattle.ix_file.specs.Grams.{AreGramsOfTerms};
 ghost use Rattle.ix_file.specs.IndexText.{layout};
 ghost use Rattle.ix_file.specs.Sections.{FrontCoded};
-ghost use Rattle.ix_file.specs.Rows.{row_of};
-ghost use Rattle.ix_file.specs.SectionSteps.{KeepsTold};
-ghost use Rattle.ix_file.specs.Telling.{IsTold, Spells, MayPost, CanPost, IsClosable, CanClose};
-ghost use Rattle.ix_file.specs.Told.{Told, told_first, with_term, with_posting, entries_of, parts_of, text_of};
+ghost use Rattle.ix_file.specs.Rows.{document_row};
+ghost use Rattle.ix_file.specs.Telling.{MayPost, IsClosable};
+ghost use Rattle.ix_file.specs.Told.{Told, told_first, with_term, with_posting, entries_of, parts_of, settled_front};
+ghost use Rattle.ix_file.specs.Writers.{Answers, CanEndEntry, IsReady, TakesPosting, WasTold, sink, sink_name};
 
 use crate::output::{complete, send_if_full};
 use crate::{DocRow, PutError, Sections};
@@ -30,7 +30,7 @@ pub struct IndexWriter<'a, W, S = Sections> {
 impl<'a, W, S: Drop> Drop for IndexWriter<'a, W, S> {
     /// What was not written yet stays unwritten.
     fn drop(self)
-        ensures { self.exit.0.now ≡ self.entry.out.now }
+        ensures { self.exit.0.now ≡ sink self.entry }
     {
         let IndexWriter {
             out: _,
@@ -51,10 +51,10 @@ impl<'a, W: Write> IndexWriter<'a, W> {
     ) -> IndexWriter<'a, W>
         requires few { length rows.now < 2 ^ 32 }
         requires names { All (λ row. length row.name.now < 2 ^ 32) rows.now }
-        ensures same_writer { result.out.ghost_name ≡ out.entry.ghost_name }
-        ensures nothing_written { result.out.now ≡ out.entry.now }
-        ensures told { result.sections.refusal ≡ None → IsTold (W.contents out.entry.now) (W.contents result.out.now) result.sections (told_first stop.now (map row_of rows.now)) }
-        ensures refused { (error : PutError) → result.sections.refusal ≡ Some error → error ≡ PutError.Memory }
+        ensures same_writer { sink_name result ≡ out.entry.ghost_name }
+        ensures nothing_written { sink result ≡ out.entry.now }
+        ensures told { IsReady result → WasTold W.contents (W.contents out.entry.now) result (told_first stop.now (map document_row rows.now)) }
+        ensures refused { (error : PutError) → Answers result error → error ≡ PutError.Memory }
     {
         let mut sections = Sections::empty(alloc);
         if sections.begin(stop, rows).is_err() {
@@ -69,14 +69,14 @@ impl<'a, W: Write> IndexWriter<'a, W> {
     /// `Memory` where memory is refused. After any refusal the calls that follow answer `Failed`.
     pub fn term(&mut self, term: &str) -> Result<(), PutError>
         requires short { length term.now ≤ 255 }
-        requires may { self.old.sections.refusal ≡ None → CanClose self.old.sections }
-        ensures same_writer { self.new.out.ghost_name ≡ self.old.out.ghost_name }
-        ensures nothing_written { self.new.out.now ≡ self.old.out.now }
-        ensures told { (before : Option (List ℕ)) (told : Told) → IsTold before (W.contents self.old.out.now) self.old.sections told → IsClosable told → OnOk result (IsTold before (W.contents self.new.out.now) self.new.sections (with_term told term.now)) }
-        ensures ready { OnOk result (self.old.sections.refusal ≡ None) }
-        ensures refused { OnErr result (self.new.sections.refusal ≡ Some PutError.Failed) }
-        ensures failed { (error : PutError) → self.old.sections.refusal ≡ Some error → result ≡ Err error }
-        ensures error { self.old.sections.refusal ≡ None → IfErr result (λ error. error ≡ PutError.Memory) }
+        requires may { IsReady self.old → CanEndEntry self.old }
+        ensures same_writer { sink_name self.new ≡ sink_name self.old }
+        ensures nothing_written { sink self.new ≡ sink self.old }
+        ensures told { (before : Option (List ℕ)) (told : Told) → WasTold W.contents before self.old told → IsClosable told → OnOk result (WasTold W.contents before self.new (with_term told term.now)) }
+        ensures ready { OnOk result (IsReady self.old) }
+        ensures refused { OnErr result (Answers self.new PutError.Failed) }
+        ensures failed { (error : PutError) → Answers self.old error → result ≡ Err error }
+        ensures error { IsReady self.old → IfErr result (λ error. error ≡ PutError.Memory) }
     {
         self.sections.take_up()?;
         self.sections.close()?;
@@ -95,15 +95,15 @@ impl<'a, W: Write> IndexWriter<'a, W> {
         requires document { document < 2 ^ 32 - 1 }
         requires some { 0 < length positions.now }
         requires ascending { Ascends 0 (2 ^ 32 - 1) positions.now }
-        requires may { self.old.sections.refusal ≡ None → CanPost self.old.sections document (length positions.now) }
-        ensures same_writer { self.new.out.ghost_name ≡ self.old.out.ghost_name }
-        ensures told { (before : Option (List ℕ)) (told : Told) → IsTold before (W.contents self.old.out.now) self.old.sections told → MayPost told document (length positions.now) → OnOk result (IsTold before (W.contents self.new.out.now) self.new.sections (with_posting told document positions.now)) }
-        ensures front { (before : Option (List ℕ)) (told : Told) → IsTold before (W.contents self.old.out.now) self.old.sections told → MayPost told document (length positions.now) → OnErr result (AppendsFront before (W.contents self.new.out.now) (text_of (with_posting told document positions.now))) }
-        ensures ready { OnOk result (self.old.sections.refusal ≡ None) }
-        ensures refused { OnErr result (self.new.sections.refusal ≡ Some PutError.Failed) }
-        ensures failed { (error : PutError) → self.old.sections.refusal ≡ Some error → (result ≡ Err error) × Keeps (W.contents self.old.out.now) (W.contents self.new.out.now) }
-        ensures error { self.old.sections.refusal ≡ None → IfErr result (λ error. (error ≡ PutError.Write) ⊎ (error ≡ PutError.Memory)) }
-        ensures memory { IfErr result (λ error. error ≡ PutError.Memory → Keeps (W.contents self.old.out.now) (W.contents self.new.out.now)) }
+        requires may { IsReady self.old → TakesPosting self.old document (length positions.now) }
+        ensures same_writer { sink_name self.new ≡ sink_name self.old }
+        ensures told { (before : Option (List ℕ)) (told : Told) → WasTold W.contents before self.old told → MayPost told document (length positions.now) → OnOk result (WasTold W.contents before self.new (with_posting told document positions.now)) }
+        ensures front { (before : Option (List ℕ)) (told : Told) → WasTold W.contents before self.old told → MayPost told document (length positions.now) → OnErr result (AppendsFront before (W.contents (sink self.new)) (settled_front (with_posting told document positions.now))) }
+        ensures ready { OnOk result (IsReady self.old) }
+        ensures refused { OnErr result (Answers self.new PutError.Failed) }
+        ensures failed { (error : PutError) → Answers self.old error → (result ≡ Err error) × Keeps (W.contents (sink self.old)) (W.contents (sink self.new)) }
+        ensures error { IsReady self.old → IfErr result (λ error. (error ≡ PutError.Write) ⊎ (error ≡ PutError.Memory)) }
+        ensures memory { IfErr result (λ error. error ≡ PutError.Memory → Keeps (W.contents (sink self.old)) (W.contents (sink self.new))) }
     {
         self.sections.take_up()?;
         self.sections.stage(document, positions)?;
@@ -118,12 +118,12 @@ impl<'a, W: Write> IndexWriter<'a, W> {
     /// `Memory` where memory is refused and `Write` where a write or the flush is: a front of the text went out.
     /// `Failed` after an earlier refusal.
     pub fn finish(self) -> Result<(), PutError>
-        requires may { self.sections.refusal ≡ None → CanClose self.sections }
-        ensures told { (before : Option (List ℕ)) (told : Told) → IsTold before (W.contents self.entry.out.now) self.entry.sections told → IsClosable told → OnOk result (IsFinished before (W.contents self.exit.0.now) told) }
-        ensures front { (before : Option (List ℕ)) (told : Told) → IsTold before (W.contents self.entry.out.now) self.entry.sections told → IsClosable told → (grams : List GramEntry) → AreGramsOfTerms (terms_of (entries_of told)) grams → OnErr result (AppendsFront before (W.contents self.exit.0.now) (layout FrontCoded (parts_of told) grams)) }
-        ensures index_text { (before : Option (List ℕ)) (told : Told) (collection : Collection) → IsTold before (W.contents self.entry.out.now) self.entry.sections told → IsClosable told → IsLawful collection → ArePartsOf collection (parts_of told) → OnOk result (WritesIndexText before (W.contents self.exit.0.now) collection) }
-        ensures error { self.entry.sections.refusal ≡ None → IfErr result (λ error. (error ≡ PutError.Write) ⊎ (error ≡ PutError.Memory)) }
-        ensures failed { (error : PutError) → self.entry.sections.refusal ≡ Some error → (result ≡ Err error) × Keeps (W.contents self.entry.out.now) (W.contents self.exit.0.now) }
+        requires may { IsReady self → CanEndEntry self }
+        ensures told { (before : Option (List ℕ)) (told : Told) → WasTold W.contents before self.entry told → IsClosable told → OnOk result (IsFinished before (W.contents self.exit.0.now) told) }
+        ensures front { (before : Option (List ℕ)) (told : Told) → WasTold W.contents before self.entry told → IsClosable told → (grams : List GramEntry) → AreGramsOfTerms (terms_of (entries_of told)) grams → OnErr result (AppendsFront before (W.contents self.exit.0.now) (layout FrontCoded (parts_of told) grams)) }
+        ensures index_text { (before : Option (List ℕ)) (told : Told) (collection : Collection) → WasTold W.contents before self.entry told → IsClosable told → IsLawful collection → ArePartsOf collection (parts_of told) → OnOk result (WritesIndexText before (W.contents self.exit.0.now) collection) }
+        ensures error { IsReady self.entry → IfErr result (λ error. (error ≡ PutError.Write) ⊎ (error ≡ PutError.Memory)) }
+        ensures failed { (error : PutError) → Answers self.entry error → (result ≡ Err error) × Keeps (W.contents (sink self.entry)) (W.contents self.exit.0.now) }
     {
         let IndexWriter { out, mut sections } = self;
         complete(out, &mut sections)

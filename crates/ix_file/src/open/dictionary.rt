@@ -5,9 +5,9 @@ ghost use Rattle.ix_vbyte.specs.Texts.{counted};
 ghost use Rattle.ix_text.specs.ByteOrder.{IsAscending};
 ghost use Rattle.ix_text.specs.StopSets.{HasTermSize};
 ghost use Rattle.ix_file.specs.Frames.{version_in};
-ghost use Rattle.ix_file.specs.Listings.{AreLaidOut, AreListings, HasListedCounts, Listing, listing_bytes, listing_in, listings_in, listings_section, sizes_sum, term_bytes};
+ghost use Rattle.ix_file.specs.Listings.{AreLaidOut, AreListings, HasListedCounts, Listing, listing_bytes, listing_in, listings_in, listings_section, sizes_sum, dictionary_term_bytes};
 ghost use Rattle.ix_file.specs.Sections.{front_coded};
-ghost use Rattle.ix_file.specs.TermReading.{IsLongestFront, MayFollow, last_listed, text_of};
+ghost use Rattle.ix_file.specs.TermReading.{IsLongestFront, TermMayFollow, last_listed, text_of};
 ghost use Rattle.ix_file.specs.declared.open_error.OpenError.TheVariants.{Memory};
 
 use crate::open::frame::Version;
@@ -96,11 +96,11 @@ fn read_row<'a>(
     left: &'a [u8],
 ) -> Result<(TermRow, &'a [u8]), OpenError>
     requires { length before.now ≤ MAX_BYTES }
-    ensures term { IfOk result (λ read. MayFollow stop.now before.now (listing_in read.0).term) }
+    ensures term { IfOk result (λ read. TermMayFollow stop.now before.now (listing_in read.0).term) }
     ensures counts { IfOk result (λ read. HasListedCounts (listing_in read.0)) }
     ensures start { IfOk result (λ read. read.0.start ≡ start) }
     ensures found { IfOk result (λ read. left.now ≡ listing_bytes (version_in version) place before.now (listing_in read.0) ++ read.1.now) }
-    ensures refused { IfErr result (λ error. (error ≡ Memory) ⊎ ((listing : Listing) (rest : List ℕ) → MayFollow stop.now before.now listing.term → HasListedCounts listing → left.now ≢ listing_bytes (version_in version) place before.now listing ++ rest)) }
+    ensures refused { IfErr result (λ error. (error ≡ Memory) ⊎ ((listing : Listing) (rest : List ℕ) → TermMayFollow stop.now before.now listing.term → HasListedCounts listing → left.now ≢ listing_bytes (version_in version) place before.now listing ++ rest)) }
 {
     let (term, behind) = read_term(alloc, version, stop, place, before, left)?;
     let (documents, size, rest) = read_counts(behind)?;
@@ -143,9 +143,9 @@ fn read_term<'a>(
     left: &'a [u8],
 ) -> Result<(String, &'a [u8]), OpenError>
     requires { length before.now ≤ MAX_BYTES }
-    ensures term { IfOk result (λ read. MayFollow stop.now before.now (string_bytes read.0)) }
-    ensures found { IfOk result (λ read. left.now ≡ term_bytes (version_in version) place before.now (string_bytes read.0) ++ read.1.now) }
-    ensures refused { IfErr result (λ error. (error ≡ Memory) ⊎ ((term rest : List ℕ) → MayFollow stop.now before.now term → left.now ≢ term_bytes (version_in version) place before.now term ++ rest)) }
+    ensures term { IfOk result (λ read. TermMayFollow stop.now before.now (string_bytes read.0)) }
+    ensures found { IfOk result (λ read. left.now ≡ dictionary_term_bytes (version_in version) place before.now (string_bytes read.0) ++ read.1.now) }
+    ensures refused { IfErr result (λ error. (error ≡ Memory) ⊎ ((term rest : List ℕ) → TermMayFollow stop.now before.now term → left.now ≢ dictionary_term_bytes (version_in version) place before.now term ++ rest)) }
 {
     let cut = cut_term(version, place, before.as_bytes(), left)?;
     let term = joined(alloc, cut.front, cut.own)?;
@@ -192,8 +192,8 @@ fn cut_term<'a, 'b>(
 ) -> Result<TermCut<'a, 'b>, OpenError>
     requires { length before.now ≤ MAX_BYTES }
     ensures size { IfOk result (λ cut. HasTermSize (text_of cut)) }
-    ensures found { IfOk result (λ cut. left.now ≡ term_bytes (version_in version) place before.now (text_of cut) ++ cut.rest.now) }
-    ensures refused { OnErr result ((term rest : List ℕ) → HasTermSize term → IsAscending (before.now ∷ term ∷ []) → left.now ≢ term_bytes (version_in version) place before.now term ++ rest) }
+    ensures found { IfOk result (λ cut. left.now ≡ dictionary_term_bytes (version_in version) place before.now (text_of cut) ++ cut.rest.now) }
+    ensures refused { OnErr result ((term rest : List ℕ) → HasTermSize term → IsAscending (before.now ∷ term ∷ []) → left.now ≢ dictionary_term_bytes (version_in version) place before.now term ++ rest) }
 {
     match version {
         Version::Plain => cut_whole(before, left),

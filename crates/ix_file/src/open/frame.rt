@@ -1,6 +1,6 @@
 //! The frame of an index text: its marks, and the trailer that says how long the sections are.
 ghost use Rattle.std.specs.Prelude.{◌≡◌, ◌≢◌, ◌↔◌, ℕ, ◌+◌, ◌^◌, ◌<◌, ◌≤◌, ◌++◌, List, length, IsTrue, MatchOption, IfOk, IfErr, OnErr};
-ghost use Rattle.ix_file.specs.Frames.{IsCutInto, SectionTexts, counts, eight, framed, joined, lengths, texts_in, version_in};
+ghost use Rattle.ix_file.specs.Frames.{IsCutInto, SectionTexts, counts, eight, framed, joined_sections, lengths, texts_in, version_in};
 ghost use Rattle.ix_file.specs.IndexText.{end_mark, magic};
 ghost use Rattle.ix_file.specs.Sections.{Version as FormatVersion};
 
@@ -130,8 +130,8 @@ fn ends(version: Version, mark: &[u8]) -> bool
 /// Cuts what stands between the marks' first and the trailer by the five lengths.
 fn cut_sections<'a>(body: &'a [u8], sizes: &[u8]) -> Result<SectionBytes<'a>, OpenError>
     requires { length sizes.now ≡ 40 }
-    ensures found { IfOk result (λ sections. (body.now ≡ joined (texts_in sections)) × (sizes.now ≡ lengths (texts_in sections))) }
-    ensures refused { OnErr result ((texts : SectionTexts) → body.now ≡ joined texts → sizes.now ≢ lengths texts) }
+    ensures found { IfOk result (λ sections. (body.now ≡ joined_sections (texts_in sections)) × (sizes.now ≡ lengths (texts_in sections))) }
+    ensures refused { OnErr result ((texts : SectionTexts) → body.now ≡ joined_sections texts → sizes.now ≢ lengths texts) }
 {
     let (postings, body, sizes) = cut_section(body, sizes)?;
     let (stop, body, sizes) = cut_section(body, sizes)?;

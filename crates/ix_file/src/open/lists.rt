@@ -16,7 +16,7 @@ use crate::open::claims::Claims;
 use crate::open::dictionary::TermRow;
 use crate::{OpenError, Section};
 use ix_text::TokenTable;
-use ix_vbyte::{VbError, decode};
+use ix_vbyte::{VbError, decode, short_posting};
 
 /// Checks the list of each term, where it stands in POSTINGS, and that no token is claimed twice.
 ///
@@ -102,20 +102,20 @@ fn check_posting<'a>(
     ensures room { MayClaim tokens.now claims.new }
     ensures refused { IfErr result (λ error. (error ≡ Memory) ⊎ ((rows : List DocumentRow) (posting : Posting) (rest : List ℕ) → HasTokens tokens.now rows → ¬ (IsNextPosting rows next left.now posting rest))) }
 {
-    let Some((gap, position, rest)) = short_posting(left) else {
+    let Some(posting) = short_posting(left) else {
         return check_any_posting(left, next, tokens, claims);
     };
-    let Some(document) = next.checked_add(gap - 1) else {
+    let Some(document) = next.checked_add(posting.gap - 1) else {
         return Err(OpenError::DocRange);
     };
     let Some(span) = tokens.span(document) else {
         return Err(OpenError::DocRange);
     };
-    if position > span.1 {
+    if posting.position > span.1 {
         return Err(OpenError::PositionRange);
     }
-    claims.claim(span.0 + (position - 1))?;
-    Ok((document + 1, rest))
+    claims.claim(span.0 + (posting.position - 1))?;
+    Ok((document + 1, &left[posting.size..]))
 }
 
 /// The same of a posting of any shape.
@@ -170,21 +170,6 @@ fn check_positions<'a>(
         left = rest;
     }
     Ok(left)
-}
-
-/// The posting of one position that the rest of a list begins with, where its codes are short: its gap, its position's
-/// gap, and what follows it.
-#[inline(always)]
-fn short_posting(bytes: &[u8]) -> Option<(u32, u32, &[u8])>
-    ensures { IfSome result (λ read. (0 < read.0) × (0 < read.1) × (bytes.now ≡ code_of read.0 ++ (code_of 1 ++ (code_of read.1 ++ read.2.now)))) }
-{
-    let (gap, behind) = short_gap(bytes)?;
-    let (count, behind) = short_gap(behind)?;
-    if count != 1 {
-        return None;
-    }
-    let (position, rest) = short_gap(behind)?;
-    Some((gap, position, rest))
 }
 
 /// The number above 0 whose code of one or two bytes the rest of a list begins with, and what follows the code.

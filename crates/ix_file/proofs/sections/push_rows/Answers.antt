@@ -1,5 +1,5 @@
 use Rattle.std.proofs.Common.{◌++◌, sym, ap, ◌∙◌, append-nil}
-use Rattle.ix_file.specs.Rows.{row_of}
+use Rattle.ix_file.specs.Rows.{document_row}
 use Rattle.ix_file.proofs.Beginnings.{documents_section-none, documents_section-more, row_appended}
 use Rattle.ix_file.proofs.sections.push_rows.Goals as goal
 
@@ -9,4 +9,4 @@ loop-row-init c = sym (ap (λ bytes. c.args.out.now.items ++ bytes) documents_se
 pub loop-row-preserved : goal.loop-row-preserved
 loop-row-preserved c =
     row_appended _ _ _ _ _ _ _ _ _ c.in_ok-push_counted.ensures.ok c.in_ok-push_code.ensures.ok c.loop-row.invariant c.as_bytes.ensures.value
-    (documents_section-more row_of c.args.rows.now c.loop-row.row-index _ c.loop-row-test.true)
+    (documents_section-more document_row c.args.rows.now c.loop-row.row-index _ c.loop-row-test.true)

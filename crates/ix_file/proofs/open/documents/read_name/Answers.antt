@@ -1,4 +1,4 @@
-use Rattle.std.proofs.Common.{◌≡◌, All, sym, ◌∙◌, subst}
+use Rattle.std.proofs.Common.{All, sym, ◌∙◌, subst}
 use Rattle.ix_text.specs.Collections.{IsNameByte}
 use Rattle.ix_vbyte.proofs.Texts.{counted-apart}
 use Rattle.ix_file.proofs.open.documents.read_name.Goals as goal

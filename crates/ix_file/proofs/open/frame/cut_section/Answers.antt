@@ -1,4 +1,4 @@
-use Rattle.std.proofs.Common.{◌≡◌, ◌<◌, ◌^◌, length, ap, arith, length-append}
+use Rattle.std.proofs.Common.{◌<◌, ◌^◌, length, ap, arith, length-append}
 use Rattle.ix_file.specs.Frames.{eight}
 use Rattle.ix_file.proofs.FrameReading.{section_apart, length-eight}
 use Rattle.ix_file.proofs.open.frame.cut_section.Goals as goal

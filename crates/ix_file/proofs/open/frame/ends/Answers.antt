@@ -1,4 +1,4 @@
-use Rattle.std.proofs.Common.{◌≡◌, ◌∙◌, ap, bytes_eq}
+use Rattle.std.proofs.Common.{◌∙◌, ap, bytes_eq}
 use Rattle.ix_file.specs.IndexText.{end_mark}
 use Rattle.ix_file.specs.Sections.{Plain, FrontCoded}
 use Rattle.ix_file.proofs.FrameReading.{same_mark}

@@ -1,7 +1,7 @@
-use Rattle.std.proofs.Common.{◌≡◌, ◌≤◌, ◌+◌, ◌++◌, [], ap, ◌∙◌, length, length-append, arith}
+use Rattle.std.proofs.Common.{◌≡◌, ◌≤◌, ◌++◌, [], ap, ◌∙◌, length, arith}
 use Rattle.std.proofs.lemmas.List.{nil_from_length, append-nil}
 use Rattle.ix_file.specs.Frames.{four}
-use Rattle.ix_file.proofs.FrameReading.{four_read, length-four, bytes_taken, bytes_dropped}
+use Rattle.ix_file.proofs.FrameReading.{four_read, bytes_taken, bytes_dropped}
 use Rattle.ix_file.proofs.open.frame.read_counts.Goals as goal
 
 pub returns : goal.returns

@@ -1,7 +1,6 @@
-use Rattle.std.proofs.Common.{◌≡◌, ◌<◌, ◌≤◌, length, sym, subst, IsUtf8, ⊎_elim, arith}
+use Rattle.std.proofs.Common.{◌<◌, ◌≤◌, length, sym, subst, IsUtf8, ⊎_elim, arith}
 use Rattle.std.proofs.lemmas.Result.{err_from_is_err_and}
-use Rattle.std.proofs.lemmas.Bool.Decides.{nat_tests}
-use Rattle.ix_file.proofs.FrontLemmas.{no_code, counted_split, cut_text, too_few}
+use Rattle.ix_file.proofs.FrontLemmas.{counted_split, cut_text, too_few}
 use Rattle.ix_file.proofs.open.front.text.Goals as goal
 
 pub returns-then-count-eq0-clause-refused : goal.returns-then-count-eq0-clause-refused

@@ -1,4 +1,4 @@
-use Rattle.std.proofs.Common.{◌≡◌, ap, ◌∙◌, is_lt, string_bytes}
+use Rattle.std.proofs.Common.{ap, ◌∙◌, is_lt, string_bytes}
 use Rattle.std.specs.Cmp.Lexicographic.{slice_cmp}
 use Rattle.std.specs.Ordering.{nat_cmp}
 use Rattle.ix_file.proofs.AscendingLemmas.{pair_test}

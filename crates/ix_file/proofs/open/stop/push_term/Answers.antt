@@ -1,7 +1,6 @@
-use Rattle.std.proofs.Common.{◌≡◌, ◌<◌, ◌^◌, List, ℕ, ◌∷◌, [], ◌++◌, map, length, inr, Global, string_bytes, sym, ap, ◌∙◌, subst, arith}
+use Rattle.std.proofs.Common.{◌≡◌, List, ℕ, ◌∷◌, [], ◌++◌, map, inr, Global, string_bytes, sym, ap, ◌∙◌, subst, arith}
 use Rattle.std.proofs.lemmas.List.{map-append, length-map}
 use Rattle.ix_text.specs.ByteOrder.{IsAscending}
-use Rattle.ix_text.specs.StopSets.{IsStopSet}
 use Rattle.ix_vbyte.proofs.Texts.{counted-apart}
 use Rattle.ix_file.proofs.AscendingLemmas.{follows, followed, from_borrowed, to_borrowed}
 use Rattle.ix_file.proofs.StopReading.{stop_push}

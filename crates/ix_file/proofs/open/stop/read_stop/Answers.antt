@@ -1,8 +1,6 @@
-use Rattle.std.proofs.Common.{◌≡◌, ◌<◌, length, map, inl, inr, string_bytes, ap, ⊎_elim, arith}
+use Rattle.std.proofs.Common.{◌<◌, length, map, inl, inr, string_bytes, ⊎_elim, arith}
 use Rattle.std.proofs.lemmas.Bool.Decides.{nat_tests}
 use Rattle.std.proofs.lemmas.Result.{err_from_is_err_and}
-use Rattle.ix_text.specs.StopSets.{IsStopSet}
-use Rattle.ix_file.specs.Sections.{stop_section}
 use Rattle.ix_file.proofs.StopReading.{no_stop_term, stop_of_none, stop_more, no_stop}
 use Rattle.ix_file.proofs.open.stop.read_stop.Goals as goal
 

@@ -1,7 +1,7 @@
 use Rattle.std.proofs.Common.{◌++◌, map, sym, ap, ◌∙◌, string_bytes}
 use Rattle.std.proofs.lemmas.List.{length-map}
 use Rattle.ix_file.specs.IndexText.{magic}
-use Rattle.ix_file.specs.Rows.{row_of}
+use Rattle.ix_file.specs.Rows.{document_row}
 use Rattle.ix_file.specs.Sections.{FrontCoded, stop_section, documents_section}
 use Rattle.ix_file.proofs.sections.Sections.begin.Goals as goal
 
@@ -19,6 +19,6 @@ returns c empty = record {
   no_previous = empty.no_previous;
   grams = empty.grams;
   stop_terms = c.in_ok-push_stop.ensures ∙ ap (λ bytes. bytes ++ stop_section (map string_bytes c.terms.result.now)) empty.stop ∙ ap stop_section c.terms.ensures.value;
-  documents = c.in_ok-push_rows.ensures ∙ ap (λ bytes. bytes ++ documents_section (map row_of c.args.rows.now)) empty.documents;
-  counted = sym (length-map c.args.rows.now row_of);
+  documents = c.in_ok-push_rows.ensures ∙ ap (λ bytes. bytes ++ documents_section (map document_row c.args.rows.now)) empty.documents;
+  counted = sym (length-map c.args.rows.now document_row);
 }

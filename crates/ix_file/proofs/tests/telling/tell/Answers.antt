@@ -1,4 +1,4 @@
-use Rattle.std.proofs.Common.{◌≡◌, ℕ, ◌+◌, ◌<◌, ◌≤◌, ◌^◌, List, [], ◌∷◌, ◌++◌, length, Option, Some, refl, sym, ap, ◌∙◌, arith}
+use Rattle.std.proofs.Common.{◌≡◌, ℕ, ◌+◌, List, [], ◌∷◌, ◌++◌, length, Option, Some, refl, sym, ap, ◌∙◌, arith}
 use Rattle.std.proofs.lemmas.List.{map-append}
 use Rattle.std.specs.Option.{option_map, option_to_list}
 use Rattle.ix_vbyte.specs.Gaps.{next_after}
@@ -6,25 +6,25 @@ use Rattle.ix_vbyte.specs.Postings.{documents_of}
 use Rattle.ix_vbyte.proofs.Gaps.{next_after-push}
 use Rattle.ix_text.specs.Parts.{DictionaryEntry, Posting}
 use Rattle.ix_file.specs.Telling.{IsTold, MayPost}
-use Rattle.ix_file.specs.Told.{Told, entries_of, with_term, with_posting, posted, position_count}
+use Rattle.ix_file.specs.Told.{Told, entries_of, with_term, with_posting, posted, position_total}
 use Rattle.ix_file.specs.declared.sections.Sections.{Sections}
-use Rattle.ix_file.proofs.TellingLemmas.{position_count-posted, position_count-term}
-use Rattle.ix_file.proofs.tests.telling.tell.Invariants.{IsBetween, IsWithin}
+use Rattle.ix_file.proofs.TellingLemmas.{position_total-posted, position_total-term}
+use Rattle.ix_file.proofs.tests.telling.tell.Invariants.{IsWithin}
 use Rattle.ix_file.proofs.tests.telling.tell.Goals as goal
 
 within_term : (now : Option (List ℕ)) (sections : Sections) (count : ℕ) (before : Option (List ℕ)) (told : Told) (term : List ℕ)
-    → position_count (entries_of told) ≡ count → IsTold before now sections (with_term told term) → IsWithin now sections count 0
+    → position_total (entries_of told) ≡ count → IsTold before now sections (with_term told term) → IsWithin now sections count 0
 within_term now sections count before told term counted is =
     let entry : DictionaryEntry = record { term = term; postings = [] } in
-    record { before = before; told = with_term told term; entry = entry; is = is; at_hand = refl; after = refl; counted = position_count-term (entries_of told) term ∙ counted }
+    record { before = before; told = with_term told term; entry = entry; is = is; at_hand = refl; after = refl; counted = position_total-term (entries_of told) term ∙ counted }
 
 within_posting : (now : Option (List ℕ)) (sections : Sections) (count : ℕ) (before : Option (List ℕ)) (told : Told) (entry : DictionaryEntry) (document : ℕ) (positions : List ℕ)
-    → told.at_hand ≡ Some entry → position_count (entries_of told) ≡ count → IsTold before now sections (with_posting told document positions)
+    → told.at_hand ≡ Some entry → position_total (entries_of told) ≡ count → IsTold before now sections (with_posting told document positions)
     → IsWithin now sections (count + length positions) (document + 1)
 within_posting now sections count before told entry document positions at_hand counted is =
     let hand = ap (option_map (posted document positions)) at_hand in
-    let old : position_count (told.done ++ entry ∷ []) ≡ count = ap (λ (o : Option DictionaryEntry). position_count (told.done ++ option_to_list o)) (sym at_hand) ∙ counted in
-    let new = ap (λ (o : Option DictionaryEntry). position_count (told.done ++ option_to_list o)) hand in
+    let old : position_total (told.done ++ entry ∷ []) ≡ count = ap (λ (o : Option DictionaryEntry). position_total (told.done ++ option_to_list o)) (sym at_hand) ∙ counted in
+    let new = ap (λ (o : Option DictionaryEntry). position_total (told.done ++ option_to_list o)) hand in
     let documents = map-append (λ (p : Posting). p.0) entry.postings ((document, positions) ∷ []) in
     record {
       before = before;
@@ -33,7 +33,7 @@ within_posting now sections count before told entry document positions at_hand c
       is = is;
       at_hand = hand;
       after = ap (next_after 0) documents ∙ next_after-push 0 (documents_of entry.postings) document;
-      counted = omega (arith, new, old, position_count-posted told.done entry document positions);
+      counted = omega (arith, new, old, position_total-posted told.done entry document positions);
     }
 
 pub loop-document-init : goal.loop-document-init

@@ -4,7 +4,7 @@ use Rattle.ix_vbyte.specs.Gaps.{next_after}
 use Rattle.ix_vbyte.specs.Postings.{documents_of}
 use Rattle.ix_text.specs.Parts.{DictionaryEntry}
 use Rattle.ix_file.specs.Telling.{IsTold, IsClosable}
-use Rattle.ix_file.specs.Told.{Told, entries_of, position_count}
+use Rattle.ix_file.specs.Told.{Told, entries_of, position_total}
 use Rattle.ix_file.specs.declared.sections.Sections.{Sections}
 use Rattle.ix_file.proofs.tests.telling.tell.Given as goal
 
@@ -14,7 +14,7 @@ pub record IsBetween (now : Option (List ℕ)) (sections : Sections) (count : �
   pub told : Told
   pub is : IsTold before now sections told
   pub closable : IsClosable told
-  pub counted : position_count (entries_of told) ≡ count
+  pub counted : position_total (entries_of told) ≡ count
 
 -- an entry is at hand whose last document is before `next`
 pub record IsWithin (now : Option (List ℕ)) (sections : Sections) (count next : ℕ) : Type 0 where
@@ -24,7 +24,7 @@ pub record IsWithin (now : Option (List ℕ)) (sections : Sections) (count next 
   pub is : IsTold before now sections told
   pub at_hand : told.at_hand ≡ Some entry
   pub after : next_after 0 (documents_of entry.postings) ≡ next
-  pub counted : position_count (entries_of told) ≡ count
+  pub counted : position_total (entries_of told) ≡ count
 
 abbrev pub invariant-loop-entry : goal.invariant-loop-entry
 invariant-loop-entry g l = l.writer.sections.refusal ≡ None → IsBetween (g.W.Write.contents l.writer.out.now) l.writer.sections l.count
