@@ -1,10 +1,10 @@
 -- How many documents a collection text has, and which numbers a scan gives.
-use Rattle.std.proofs.Common.{◌≡◌, ℕ, suc, ◌+◌, ◌<◌, ◌≤◌, ◌^◌, List, [], ◌∷◌, ◌++◌, map, length, get_or, All, Contains, refl, sym, ap, ◌∙◌, arith, length-append, subst}
+use Rattle.std.proofs.Common.{◌≡◌, ℕ, ◌<◌, ◌≤◌, ◌^◌, List, [], ◌∷◌, ◌++◌, map, length, get_or, All, ap, arith, length-append}
 use Rattle.std.proofs.lemmas.List.{length-map}
 use Rattle.std.proofs.lemmas.List.Elements.{Contains-get_or}
 use Rattle.std.proofs.lemmas.Option.{slice_get_within}
 use Rattle.std.specs.List.{flat_map}
-use Rattle.ix_text.specs.Collections.{Collection, Document, NamedText, collection_of}
+use Rattle.ix_text.specs.Collections.{Document, NamedText, collection_of}
 use Rattle.ix_text.specs.CollectionText.{IsCollectionText, line_of}
 use Rattle.ix_text.specs.TokenLists.{token_list}
 use Rattle.ix_query.specs.declared.query.Query.{Query}

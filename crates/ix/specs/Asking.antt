@@ -11,7 +11,6 @@ use Rattle.ix_query.specs.Scans.{IsScan}
 use Rattle.ix_query.specs.Machine.{query_of}
 use Rattle.ix_text.specs.declared.collection.CollectionError.{CollectionError}
 use Rattle.ix_text.specs.declared.collection.CollectionError.TheVariants as collection
-use Rattle.ix_query.specs.declared.error.QueryError.{QueryError}
 use Rattle.ix_query.specs.QueryErrors.{Fails}
 use Rattle.ix.specs.NameLines.{name_lines}
 use Rattle.ix.specs.declared.ask.AskError.{AskError}

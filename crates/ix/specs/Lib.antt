@@ -5,4 +5,6 @@ pub mod Entered
 pub mod LineErrors
 pub mod Lines
 pub mod NameLines
+pub mod Refusals
+pub mod Statuses
 pub mod WorkedLines

@@ -1,5 +1,9 @@
 //! What the program does for the words of its command line.
-ghost use Rattle.std.specs.Prelude.{◌≤◌};
+ghost use Rattle.std.specs.Prelude.{◌≡◌, ◌≢◌, ◌≤◌, ◌⊎◌, [], None, IfOk};
+ghost use Rattle.std.specs.Io.KnownBytes.{Keeps};
+ghost use Rattle.ix.specs.LineErrors.{IsHelp};
+ghost use Rattle.ix.specs.Lines.{texts_of};
+ghost use Rattle.ix.specs.Statuses.{AreLine, AsksForHelp, FindsNone, FindsSome, IsAnsweredFromFiles};
 
 use crate::ask::ask;
 use crate::command_line::{Line, LineError, read_line};
@@ -32,7 +36,10 @@ pub fn command<R: Files + AllocGlobal, W: Write, E: Write>(
     out: &mut W,
     err: &mut E,
 ) -> u8
-    ensures { result ≤ 2 }
+    ensures status { result ≤ 2 }
+    ensures found { result ≡ 0 → AsksForHelp (texts_of words.now) ⊎ AreLine (texts_of words.now) (λ line. FindsSome line (W.contents out.old) (W.contents out.new)) }
+    ensures nothing { result ≡ 1 → AreLine (texts_of words.now) (λ line. FindsNone line (W.contents out.old) (W.contents out.new)) }
+    ensures quiet { result ≢ 2 → Keeps (E.contents err.old) (E.contents err.new) }
 {
     match read_line(rt.alloc(), words) {
         Ok(line) => answer(rt, line, out, err),
@@ -42,7 +49,9 @@ pub fn command<R: Files + AllocGlobal, W: Write, E: Write>(
 
 /// Prints the help that the words ask for, or refuses them.
 fn answer_without_line<W: Write, E: Write>(error: LineError, out: &mut W, err: &mut E) -> u8
-    ensures { result ≤ 2 }
+    ensures status { (result ≡ 0) ⊎ (result ≡ 2) }
+    ensures help { result ≡ 0 → IsHelp error }
+    ensures quiet { result ≢ 2 → Keeps (E.contents err.old) (E.contents err.new) }
 {
     if let Some(help) = error.help() {
         return match print_help(help, out) {
@@ -68,7 +77,10 @@ fn answer<R: Files + AllocGlobal, W: Write, E: Write>(
     out: &mut W,
     err: &mut E,
 ) -> u8
-    ensures { result ≤ 2 }
+    ensures status { result ≤ 2 }
+    ensures found { result ≡ 0 → FindsSome line.entry (W.contents out.old) (W.contents out.new) }
+    ensures nothing { result ≡ 1 → FindsNone line.entry (W.contents out.old) (W.contents out.new) }
+    ensures quiet { result ≢ 2 → Keeps (E.contents err.old) (E.contents err.new) }
 {
     let Line::Ask {
         stop,
@@ -89,7 +101,9 @@ fn run_ask<'a, R: Files + AllocGlobal, W: Write>(
     collection: &'a str,
     query: &str,
     out: &mut W,
-) -> Result<usize, Refusal<'a>> {
+) -> Result<usize, Refusal<'a>>
+    ensures { IfOk result (IsAnsweredFromFiles stop.entry query.now (W.contents out.old) (W.contents out.new)) }
+{
     let stop = read_stop_list(rt, stop)?;
     let bytes = read_file(rt, collection)?;
     Ok(ask(rt.alloc(), &bytes, &stop, query, out)?)
@@ -99,7 +113,9 @@ fn run_ask<'a, R: Files + AllocGlobal, W: Write>(
 fn read_stop_list<'a, R: Files + AllocGlobal>(
     rt: &R,
     path: Option<&'a str>,
-) -> Result<StopList, Refusal<'a>> {
+) -> Result<StopList, Refusal<'a>>
+    ensures { IfOk result (λ stop. path.entry ≡ None → stop ≡ []) }
+{
     let Some(path) = path else {
         return Ok(StopList::empty(rt.alloc()));
     };
@@ -124,7 +140,7 @@ fn read_file<'a, R: Files + AllocGlobal>(rt: &R, path: &'a str) -> Result<Vec<u8
 
 /// Prints one line on the error output.
 pub fn refuse<E: Write>(err: &mut E, refusal: Refusal<'_>) -> u8
-    ensures { result ≤ 2 }
+    ensures { result ≡ 2 }
 {
     let _ = writeln!(err, "ix: {refusal}");
     let _ = err.flush();

@@ -44,6 +44,10 @@ impl fmt::Display for Refusal<'_> {
 }
 
 impl From<AskError> for Refusal<'_> {
+    ghost use Rattle.ix.specs.Refusals.{Tells};
+
+    ghost from_gives = { Tells };
+
     fn from(error: AskError) -> Self {
         match error {
             AskError::Collection(error) => Refusal::Collection(error),
