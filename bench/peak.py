@@ -1,5 +1,6 @@
 """The most memory of one run of a program."""
 import subprocess
+import sys
 
 
 def peak_of(words):
@@ -15,4 +16,6 @@ def peak_of(words):
                         peak = max(peak, int(line.split()[1]) * 1024)
         except OSError:
             break
+    if run.wait() != 0:
+        sys.exit(f"{' '.join(words)} ended with status {run.returncode}")
     return peak

@@ -1,5 +1,6 @@
 #!/usr/bin/env python3
-"""Measures opening an index and walking its lists, and prints the best of each over the rounds of the bench.
+"""Measures opening an index and walking its lists, and prints the best of each over the rounds of the bench, with the
+limits that are set beside the figures.
 
 usage: measure.py OPEN_BENCH INDEX
 """
@@ -10,6 +11,9 @@ import sys
 sys.path.insert(0, os.path.dirname(os.path.dirname(os.path.abspath(__file__))))
 from peak import peak_of
 
+OPENING = 4  # times a bare pass of decoding
+MEMORY = 1  # times the file
+
 
 def main():
     bench, index = sys.argv[1:]
@@ -17,9 +21,9 @@ def main():
     out = subprocess.run([bench, index], stdout=subprocess.PIPE, check=True).stdout.decode()
     rounds = [[int(n) for n in line.split()] for line in out.splitlines()]
     bare, opened, decoded, walked = (min(column) for column in list(zip(*rounds))[:4])
-    print(f"{size} bytes; a bare pass of decoding {bare} us; opening {opened} us, {opened / bare:.2f} times")
+    print(f"{size} bytes; a bare pass of decoding {bare} us; opening {opened} us, {opened / bare:.2f} times (limit {OPENING})")
     print(f"decoding every code of the lists {decoded} us; walking their documents {walked} us, {decoded / walked:.2f} times as fast")
-    print(f"memory of opening: {peak_of([bench, index, 'once']) / size - 1:.2f} times the file beside it")
+    print(f"memory of opening: {peak_of([bench, index, 'once']) / size - 1:.2f} times the file beside it (limit {MEMORY})")
 
 
 main()
