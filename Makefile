@@ -5,10 +5,10 @@ RT := $(shell command -v rt 2> /dev/null)
 .PHONY: all test toolchain
 
 all: toolchain
-	@echo "proving and building crates/ix (the first time takes some minutes) .."
-	@cd crates/ix && rt run -- --help > out.help || (cat out.help; rm -f out.help; exit 1)
-	@rm -f crates/ix/out.help
-	@mkdir -p build && cp crates/ix/out/ix build/ix
+	@echo "proving and building crates/ix (the first time takes some minutes; build/prove.log tells how it goes) .."
+	@mkdir -p build
+	@cd crates/ix && rt run -- --help > ../../build/prove.log 2>&1 || (cat ../../build/prove.log >&2; exit 1)
+	@cp crates/ix/out/ix build/ix
 	@echo "built build/ix; asking: build/ix ask examples/mail.txt 'contract AND NOT hotel'"
 	@build/ix ask examples/mail.txt 'contract AND NOT hotel'
 
