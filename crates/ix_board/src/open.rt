@@ -70,7 +70,7 @@ fn seat_all<P>(
 }
 
 impl<P> Board<P> {
-    /// A board with places from 0 to `count`, and a desk for each worker. Desk w holds place w already where w is below
+    /// A board with `count` places, numbered from 0, and a desk for each worker. Desk w holds place w already where w is below
     /// `count`, and the other desks hold none. Fails with `Memory` where a growth is refused, for the board, its desks or
     /// the list that `close` gives.
     pub fn open(

@@ -15,7 +15,7 @@ unfoldable pub end_mark : Version → List ℕ
 end_mark Plain = codes "PIIXEND1"
 end_mark FrontCoded = codes "PIIXEND2"
 
--- what a term's postings leave to be written at the end: everything behind POSTINGS
+-- everything behind POSTINGS: the four other sections, and the trailer
 unfoldable pub tail : Version → Parts → List GramEntry → List ℕ
 tail version parts grams =
     let stop = stop_section parts.stop in

@@ -1,4 +1,5 @@
-//! Laws of the index text. The functions do nothing: what they ensure is a fact about the definitions.
+//! Laws of the index text, and of an opened index. The functions change nothing and answer nothing: what they ensure is
+//! a fact.
 ghost use Rattle.ix_text.specs.Parts.{terms_of};
 ghost use Rattle.ix_text.specs.PartsLaws.{AreLawful};
 ghost use Rattle.ix_file.specs.GramLaws.{GramsOfVocabularyAreOfCollection, TermsHaveOneGramList};

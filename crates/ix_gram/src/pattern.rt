@@ -31,7 +31,7 @@ impl Pattern {
     /// Reads a text with a star and something else: its pieces are what stands between its stars, each brought to the
     /// form that terms have.
     ///
-    /// `NoStar`: the text has no star. `BareStar`: it is nothing but stars.
+    /// `NoStar`: the text has no star. `BareStar`: it is nothing but stars. `Memory`: memory is refused.
     pub fn read(alloc: Global, text: &str) -> Result<Pattern, PatternError>
         ensures pieces { IfOk result (λ pattern. pattern ≡ pieces_of text.now) }
         ensures with_star { OnOk result (HasStar text.now) }

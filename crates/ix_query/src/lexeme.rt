@@ -11,7 +11,9 @@ use std::alloc::Global;
 /// A lexeme, and the offset of its first byte in the text.
 #[derive(Clone, Copy, Debug)]
 pub struct Lexeme<'a> {
+    /// In bytes, from 0.
     pub offset: usize,
+    /// What it is.
     pub sign: Sign<'a>,
 }
 

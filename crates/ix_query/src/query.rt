@@ -6,7 +6,8 @@ use crate::tree::{Boxed, Items};
 use ix_gram::Pattern;
 use std::marker::Model;
 
-/// A word as the index has it: folded and normalized, 1 to 255 bytes of UTF-8.
+/// A term that a query asks for. Of a query that was read it is a word as the index has it: folded and normalized, 1 to
+/// 255 bytes of UTF-8.
 #[derive(Debug, Drop)]
 pub struct Term {
     text: String,
@@ -24,7 +25,7 @@ impl Model for Term {
 }
 
 impl Term {
-    /// The term that a text spells.
+    /// The term that a text spells, which is taken as it is.
     pub fn new(text: String) -> Term
         ensures { result ≡ string_bytes text }
     {
@@ -47,8 +48,11 @@ pub enum Query {
     Phrase(Items<Option<Term>>),
     /// The two terms, at positions that differ by 1 to `distance`, either way round.
     Near {
+        /// The term before NEAR.
         first: Term,
+        /// The term behind it.
         second: Term,
+        /// By how many positions they may differ at the most, from 1 to 65535.
         distance: u32,
     },
     /// A token that matches the pattern.
@@ -57,6 +61,6 @@ pub enum Query {
     And(Items<Query>),
     /// One of two or more parts.
     Or(Items<Query>),
-    /// Every document that the part does not ask for.
+    /// What the part asks for is not there.
     Not(Boxed<Query>),
 }

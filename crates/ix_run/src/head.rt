@@ -7,7 +7,7 @@ use ix_text::StopList;
 pub struct RunDoc {
     /// UTF-8 text of 1 to 255 bytes without TAB and LF.
     pub name: String,
-    /// How many words its text has.
+    /// How many entries its token list has, those that are nothing included: at most 2^28, all documents together.
     pub tokens: u32,
 }
 

@@ -1,4 +1,6 @@
-//! Runs: a block of documents inverted and sorted, as a value and as a text that another machine may have written.
+//! Runs: a block of documents inverted and sorted, as a value and as a text, which another machine may have written and
+//! this one reads. A function without arguments is a law: it does nothing, and what it ensures is a fact about the
+//! definitions.
 #![tactic(auto)]
 
 mod coded_term;
