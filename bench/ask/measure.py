@@ -11,7 +11,7 @@ import sys
 import time
 
 sys.path.insert(0, os.path.dirname(os.path.dirname(os.path.abspath(__file__))))
-from peak import peak_of
+from measuring import peak_of
 
 
 def words_of(path):

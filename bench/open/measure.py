@@ -5,11 +5,10 @@ limits that are set beside the figures.
 usage: measure.py OPEN_BENCH INDEX
 """
 import os
-import subprocess
 import sys
 
 sys.path.insert(0, os.path.dirname(os.path.dirname(os.path.abspath(__file__))))
-from peak import peak_of
+from measuring import peak_of, rounds_of
 
 OPENING = 4  # times a bare pass of decoding
 MEMORY = 1  # times the file
@@ -18,8 +17,7 @@ MEMORY = 1  # times the file
 def main():
     bench, index = sys.argv[1:]
     size = os.path.getsize(index)
-    out = subprocess.run([bench, index], stdout=subprocess.PIPE, check=True).stdout.decode()
-    rounds = [[int(n) for n in line.split()] for line in out.splitlines()]
+    rounds = rounds_of([bench, index])
     bare, opened, decoded, walked = (min(column) for column in list(zip(*rounds))[:4])
     print(f"{size} bytes; a bare pass of decoding {bare} us; opening {opened} us, {opened / bare:.2f} times (limit {OPENING})")
     print(f"decoding every code of the lists {decoded} us; walking their documents {walked} us, {decoded / walked:.2f} times as fast")

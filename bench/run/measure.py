@@ -5,11 +5,10 @@ limits that are set beside the figures.
 usage: measure.py RUN_BENCH TEXT
 """
 import os
-import subprocess
 import sys
 
 sys.path.insert(0, os.path.dirname(os.path.dirname(os.path.abspath(__file__))))
-from peak import peak_of
+from measuring import peak_of, rounds_of
 
 INVERTING = 1.8  # times making the token lists
 COPY = 10  # times a plain copy of the file, to write it and to read it
@@ -19,8 +18,7 @@ MEMORY = 1.5  # times the text
 def main():
     bench, text = sys.argv[1:]
     size = os.path.getsize(text)
-    out = subprocess.run([bench, text], stdout=subprocess.PIPE, check=True).stdout.decode()
-    rounds = [[int(n) for n in line.split()] for line in out.splitlines()]
+    rounds = rounds_of([bench, text])
     lists, inverted, written, pieces, copied, read = (min(column) for column in list(zip(*rounds))[:6])
     run_size, positions = rounds[0][6:]
     print(f"{size} bytes of text; token lists {lists} us; inverting {inverted} us, {inverted / lists:.2f} times (limit {INVERTING})")

@@ -1,9 +1,9 @@
 //! What the program does for the words of its command line.
-ghost use Rattle.std.specs.Prelude.{◌≡◌, ◌≢◌, ◌≤◌, ◌⊎◌, [], None, IfOk};
+ghost use Rattle.std.specs.Prelude.{◌≡◌, ◌≢◌, ◌≤◌, ◌⊎◌, [], None, IfOk, OnErr};
 ghost use Rattle.std.specs.Io.KnownBytes.{Keeps};
 ghost use Rattle.ix.specs.LineErrors.{IsHelp};
 ghost use Rattle.ix.specs.Lines.{texts_of};
-ghost use Rattle.ix.specs.Statuses.{AreLine, AsksForHelp, FindsNone, FindsSome, IsAnsweredFromFiles};
+ghost use Rattle.ix.specs.Statuses.{AreLine, AsksForHelp, FindsNone, FindsSome, IsAnsweredFromFiles, IsCutShortFromFiles, IsLineCutShort, RefusalLeaves};
 
 use crate::ask::ask;
 use crate::command_line::{Line, LineError, read_line};
@@ -29,7 +29,8 @@ const REFUSED: u8 = 2;
 /// 0 where something was found, 1 where nothing was, 2 where it was refused.
 ///
 /// What was found goes to `out`, and so does help; a refusal is one line on `err`, and whether that line could be
-/// written is not answered.
+/// written is not answered. A refusal leaves `out` as it was, but where a write was refused: a beginning of the names, or
+/// of the help that was asked for, is out then.
 pub fn command<R: Files + AllocGlobal, W: Write, E: Write>(
     rt: &R,
     words: &[&str],
@@ -40,6 +41,7 @@ pub fn command<R: Files + AllocGlobal, W: Write, E: Write>(
     ensures found { result ≡ 0 → AsksForHelp (texts_of words.now) ⊎ AreLine (texts_of words.now) (λ line. FindsSome line (W.contents out.old) (W.contents out.new)) }
     ensures nothing { result ≡ 1 → AreLine (texts_of words.now) (λ line. FindsNone line (W.contents out.old) (W.contents out.new)) }
     ensures quiet { result ≢ 2 → Keeps (E.contents err.old) (E.contents err.new) }
+    ensures refused { result ≡ 2 → RefusalLeaves (texts_of words.now) (W.contents out.old) (W.contents out.new) }
 {
     match read_line(rt.alloc(), words) {
         Ok(line) => answer(rt, line, out, err),
@@ -52,6 +54,7 @@ fn answer_without_line<W: Write, E: Write>(error: LineError, out: &mut W, err: &
     ensures status { (result ≡ 0) ⊎ (result ≡ 2) }
     ensures help { result ≡ 0 → IsHelp error }
     ensures quiet { result ≢ 2 → Keeps (E.contents err.old) (E.contents err.new) }
+    ensures refused { IsHelp error ⊎ Keeps (W.contents out.old) (W.contents out.new) }
 {
     if let Some(help) = error.help() {
         return match print_help(help, out) {
@@ -81,6 +84,7 @@ fn answer<R: Files + AllocGlobal, W: Write, E: Write>(
     ensures found { result ≡ 0 → FindsSome line.entry (W.contents out.old) (W.contents out.new) }
     ensures nothing { result ≡ 1 → FindsNone line.entry (W.contents out.old) (W.contents out.new) }
     ensures quiet { result ≢ 2 → Keeps (E.contents err.old) (E.contents err.new) }
+    ensures refused { result ≡ 2 → Keeps (W.contents out.old) (W.contents out.new) ⊎ IsLineCutShort line.entry (W.contents out.old) (W.contents out.new) }
 {
     let Line::Ask {
         stop,
@@ -102,7 +106,8 @@ fn run_ask<'a, R: Files + AllocGlobal, W: Write>(
     query: &str,
     out: &mut W,
 ) -> Result<usize, Refusal<'a>>
-    ensures { IfOk result (IsAnsweredFromFiles stop.entry query.now (W.contents out.old) (W.contents out.new)) }
+    ensures answered { IfOk result (IsAnsweredFromFiles stop.entry query.now (W.contents out.old) (W.contents out.new)) }
+    ensures refused { OnErr result (Keeps (W.contents out.old) (W.contents out.new) ⊎ IsCutShortFromFiles stop.entry query.now (W.contents out.old) (W.contents out.new)) }
 {
     let stop = read_stop_list(rt, stop)?;
     let bytes = read_file(rt, collection)?;

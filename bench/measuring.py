@@ -1,4 +1,4 @@
-"""The most memory of one run of a program."""
+"""What the measuring scripts share: the rounds that a bench prints, and the most memory of one run of a program."""
 import subprocess
 import sys
 
@@ -19,3 +19,9 @@ def peak_of(words):
     if run.wait() != 0:
         sys.exit(f"{' '.join(words)} ended with status {run.returncode}")
     return peak
+
+
+def rounds_of(words):
+    """The numbers that a bench prints, a list a round."""
+    out = subprocess.run(words, stdout=subprocess.PIPE, check=True).stdout.decode()
+    return [[int(number) for number in line.split()] for line in out.splitlines()]
