@@ -1,13 +1,12 @@
 -- Terms are text, token lists are lawful, and so is the collection of a collection text under a stop set.
-use Rattle.std.proofs.Common.{◌≡◌, ℕ, ◌+◌, ◌≤◌, inl, inr, Bool, true, false, cond, ◌&&◌, Some, List, [], ◌∷◌, ◌++◌, map, length, flat_map, chars, encode_utf8_all, IsUtf8, All, refl, sym, ap, subst, ◌∙◌, arith, lit<, append_assoc, length-append}
+use Rattle.std.proofs.Common.{◌≡◌, ℕ, inl, inr, Bool, true, false, cond, ◌&&◌, Some, List, [], ◌∷◌, ◌++◌, length, flat_map, chars, encode_utf8_all, IsUtf8, All, refl, sym, ap, subst, ◌∙◌, arith, lit<, append_assoc}
 use lib.Utf8.{scalar, scalars, low_scalar}
 use Rattle.std.proofs.lemmas.Bool.{cases_Bool, and_parts, and_from, ltb-true, leb-true}
 use Rattle.std.proofs.lemmas.Bool.Decides.{not_from_Decides}
 use Rattle.std.proofs.lemmas.List.{length-map}
 use Rattle.std.proofs.lemmas.List.Elements.{All-nil, All-cons, All-head, All-tail, All-map, All-weaker, All-filter}
-use Rattle.std.proofs.lemmas.List.Sums.{sum_by-cons}
 use Rattle.std.proofs.lemmas.Str.{scalars-chars}
-use Rattle.std.specs.List.{list_all, sum_by}
+use Rattle.std.specs.List.{list_all}
 use Rattle.ucd_case.specs.CaseFolding.{full_folding, full_fold, or_itself as or_unfolded}
 use Rattle.ucd_normal.specs.Decomposition.{or_itself, canonical_decomposition}
 use Rattle.ucd_normal.proofs.CompositionLemmas.{is_empty}
@@ -22,9 +21,8 @@ use Rattle.unicode_normalization.proofs.KeptLemmas.{list_all-normalize}
 use Rattle.caseless.specs.Caseless.{default_case_fold}
 use Rattle.caseless.proofs.CaselessLemmas.{default_case_fold-nil, default_case_fold-cons}
 use Rattle.unicode_segmentation.specs.Segments.{Rule, prepend, cut, segments, has_alphanumeric}
-use Rattle.unicode_segmentation.specs.Word.{is_word_break, word_bounds, words}
-use Rattle.unicode_segmentation.proofs.SegmentsLemmas.{length-segments, length-filter-le}
-use Rattle.ix_text.specs.Collections.{NamedText, Document, collection_of, IsName, IsLawfulEntry, IsLawful}
+use Rattle.unicode_segmentation.specs.Word.{is_word_break, words}
+use Rattle.ix_text.specs.Collections.{NamedText, collection_of, IsName, IsLawfulEntry, IsLawful}
 use Rattle.ix_text.specs.CollectionText.{line_of, IsCollectionText}
 use Rattle.ix_text.specs.StopSets.{IsStopSet}
 use Rattle.ix_text.specs.Terms.{folded, term_of_word}
@@ -32,6 +30,7 @@ use Rattle.ix_text.specs.TokenLists.{entry_of_term, is_stop_term, is_term_size, 
 use Rattle.ix_text.proofs.CollectionLemmas.{cut_texts}
 use Rattle.ix_text.proofs.FoldLemmas.{is_jamo, is_jamo-below, parts, parts_jamos, parts-other}
 use Rattle.ix_text.proofs.FoldTables.{folding_scalars, parts_scalars, mapped_scalar}
+use Rattle.ix_text.proofs.SizeLemmas.{document_of, tokens_few, lines_hold}
 use Rattle.ix_text.proofs.TokenLemmas.{entry_of_term-kept, entry_of_term-stopped, entry_of_term-wrong_size, is_stop_term-Decides}
 
 -- ---- a folded text has scalar values alone
@@ -161,21 +160,9 @@ lawful_token_list stop text utf8 =
     All-map (IsLawfulEntry stop) (λ word. entry_of_term stop (term_of_word word)) (words text)
     (All-weaker IsUtf8 (λ word. IsLawfulEntry stop (entry_of_term stop (term_of_word word))) (λ word u. lawful_entry stop (term_of_word word) (term_text word u)) (words text) (words_text text utf8))
 
-pub token_list_short : (stop : List (List ℕ)) (text : List ℕ) → IsUtf8 text → length (token_list stop text) ≤ length text
-unfolding token_list
-token_list_short stop text utf8 =
-    omega (arith, length-map (words text) (λ word. entry_of_term stop (term_of_word word)), length-filter-le has_alphanumeric (word_bounds text), length-segments is_word_break text utf8)
-
 -- ---- collections
 
-document_of : List (List ℕ) → NamedText → Document
-document_of stop d = record { name = d.name; tokens = token_list stop d.text }
-
--- the lines of documents hold their texts
-record HoldsTexts (bytes : List ℕ) (texts : List NamedText) : Type 0 where
-  characters : All (λ d. IsUtf8 d.text) texts
-  few : length texts ≤ length bytes
-
+-- the lines of documents are text, and so are their texts
 rest_text : (d : NamedText) (rest : List ℕ) → IsUtf8 (line_of d ++ rest) → IsUtf8 d.text × IsUtf8 rest
 rest_text d rest utf8 =
     let first : line_of d ++ rest ≡ d.name ++ 9 ∷ (d.text ++ 10 ∷ rest) = simp append_assoc in
@@ -188,37 +175,18 @@ texts_held (d ∷ ds) utf8 =
     let parts = rest_text d (flat_map line_of ds) utf8 in
     All-cons (λ e. IsUtf8 e.text) d ds parts.0 (texts_held ds parts.1)
 
-length-line : (d : NamedText) (rest : List ℕ) → length d.text + 2 + length rest ≤ length (line_of d ++ rest)
-length-line d rest = simp length-append (omega arith)
-
-few_texts : (texts : List NamedText) → length texts ≤ length (flat_map line_of texts)
-few_texts [] = omega arith
-few_texts (d ∷ ds) = omega (arith, few_texts ds, length-line d (flat_map line_of ds))
-
-few_tokens : (stop : List (List ℕ)) (texts : List NamedText) → All (λ d. IsUtf8 d.text) texts → sum_by (λ d. length d.tokens) (map (document_of stop) texts) ≤ length (flat_map line_of texts)
-unfolding document_of
-few_tokens stop [] all = omega arith
-few_tokens stop (d ∷ ds) all =
-    let step : sum_by (λ e. length e.tokens) (map (document_of stop) (d ∷ ds)) ≡ length (token_list stop d.text) + sum_by (λ e. length e.tokens) (map (document_of stop) ds) = sum_by-cons (λ e. length e.tokens) (document_of stop d) (map (document_of stop) ds) in
-    omega (
-      arith,
-      step,
-      token_list_short stop d.text (All-head (λ e. IsUtf8 e.text) d ds all),
-      few_tokens stop ds (All-tail (λ e. IsUtf8 e.text) d ds all),
-      length-line d (flat_map line_of ds),
-    )
-
 pub lawful_collection : (stop : List (List ℕ)) (bytes : List ℕ) (texts : List NamedText) → IsStopSet stop → IsCollectionText bytes texts → IsLawful (collection_of stop texts)
 unfolding collection_of document_of
 lawful_collection stop bytes texts lawful text =
     let all = texts_held texts (subst IsUtf8 text.lines text.characters) in
     let whole = ap length text.lines in
+    let held = lines_hold texts in
     record {
       names = All-map (λ d. IsName d.name) (document_of stop) texts text.names;
       stop_terms = lawful.terms;
       stop_ascending = lawful.ascending;
       entries = All-map (λ d. All (IsLawfulEntry stop) d.tokens) (document_of stop) texts (All-weaker (λ d. IsUtf8 d.text) (λ d. All (IsLawfulEntry stop) (token_list stop d.text)) (λ d utf8. lawful_token_list stop d.text utf8) texts all);
       few_stop_terms = lawful.few;
-      few_documents = omega (arith, length-map texts (document_of stop), few_texts texts, whole, text.size);
-      few_tokens = omega (arith, few_tokens stop texts all, whole, text.size);
+      few_documents = omega (arith, length-map texts (document_of stop), held.0, whole, text.size);
+      few_tokens = omega (arith, tokens_few stop texts, held.1, whole, text.size);
     }

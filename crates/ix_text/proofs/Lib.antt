@@ -11,7 +11,9 @@ pub mod PartsCounted
 pub mod PartsLawful
 pub mod PartsLemmas
 pub mod SinkLemmas
+pub mod SizeLemmas
 pub mod StopSetLemmas
+pub mod StopSlotLemmas
 pub mod StopTextLaws
 pub mod StopTextLemmas
 pub mod TermLemmas

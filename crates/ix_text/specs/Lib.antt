@@ -9,10 +9,12 @@ pub mod IotaSubscript
 pub mod Parts
 pub mod PartsLaws
 pub mod Sinks
+pub mod Sizes
 pub mod StopErrors
 pub mod StopFaults
 pub mod StopLaws
 pub mod StopSets
+pub mod StopSlots
 pub mod StopText
 pub mod Terms
 pub mod TokenLaws

@@ -4,13 +4,14 @@ ghost use Rattle.std.proofs.Props.{props};
 ghost use Rattle.ix_text.specs.CollectionFaults.{IsCutAtFirst};
 ghost use Rattle.ix_text.specs.CollectionLaws.{FaultsExcludeDocuments, HasDocumentsOrFault, HasOneFault, HasOneListOfDocuments};
 ghost use Rattle.ix_text.specs.Collections.{NamedText, IsName};
+ghost use Rattle.ix_text.specs.Sizes.{AreSmall};
 ghost use Rattle.ix_text.specs.declared.collection.CollectionError.{CollectionError};
 
 use memchr::memchr;
 use simdutf8::compat::from_utf8;
 use std::alloc::{AllocError, AllocFailed, Global};
 use std::marker::Model;
-use thiserror::Error;
+use std::{error, fmt};
 
 /// The most bytes that a collection text may have.
 const MAX_BYTES: usize = 1 << 28;
@@ -38,7 +39,8 @@ impl<'a> Doc<'a> {
     /// The document of the first line of what is left of a text, and what follows the line. The line has this number.
     fn read_line(left: &'a str, number: usize) -> Result<(Doc<'a>, &'a str), CollectionError>
         requires { 0 < length left.now }
-        ensures document { IfOk result (λ read. left.now ≡ line_of (named_text read.0) ++ read.1.now) }
+        ensures document { IfOk result
+            (λ read. left.now ≡ line_of (named_text read.0) ++ read.1.now) }
         ensures fault { IfErr result (λ error. IsLineFault left.now number error) }
     {
         let (line, next) = first_line(left);
@@ -55,10 +57,13 @@ impl<'a> Doc<'a> {
     }
 }
 
-/// The documents of a collection text, in order. A document's number is its place here, from 0.
+/// The documents of a collection text, in order. A document's number is its place here, from 0. There are at most 2^28
+/// of them, and their texts have at most 2^28 bytes together.
 #[derive(Debug, Drop)]
 pub struct Collection<'a> {
     docs: Vec<Doc<'a>>,
+    ghost small: { AreSmall
+        (map (λ doc. record { name = doc.name.now; text = doc.text.now }) docs.items) },
 }
 
 impl<'a> Model for Collection<'a> {
@@ -85,7 +90,8 @@ impl<'a> Collection<'a> {
     /// for `NoTab`, `Name` and `NoLineEnd`. The first fault is the error, or `Memory` where memory is refused.
     pub fn read(alloc: Global, bytes: &'a [u8]) -> Result<Collection<'a>, CollectionError>
         ensures documents { IfOk result (λ documents. IsCollectionText bytes.now documents) }
-        ensures fault { IfErr result (λ error. (error ≡ CollectionError.Memory) ⊎ IsCollectionFault bytes.now error) }
+        ensures fault { IfErr result
+            (λ error. (error ≡ CollectionError.Memory) ⊎ IsCollectionFault bytes.now error) }
         ensures accepted { (documents : List NamedText) → IsCollectionText bytes.now documents
             → (result ≡ Ok documents) ⊎ (result ≡ Err CollectionError.Memory) }
     {
@@ -103,34 +109,29 @@ impl<'a> Collection<'a> {
         Ok(Collection { docs })
     }
 
-    /// The documents, in order.
+    /// The documents, in order: at most 2^28, with at most 2^28 bytes of text together.
     pub fn docs(&self) -> &[Doc<'a>]
-        ensures { map named_text result.now ≡ self.now }
+        ensures documents { map named_text result.now ≡ self.now }
+        ensures small { AreSmall self.now }
     {
         self.docs.as_slice()
     }
 }
 
 /// Why a text is no collection text, or `Memory`. Lines are numbered from 1.
-#[derive(Clone, Copy, Debug, PartialEq, Eq, Error)]
+#[derive(Clone, Copy, Debug, PartialEq, Eq)]
 pub enum CollectionError {
     /// The text has more than 2^28 bytes.
-    #[error("TooLarge")]
     TooLarge,
     /// The text is not UTF-8: the length in bytes of its longest front that is.
-    #[error("NotUtf8({0})")]
     NotUtf8(usize),
     /// The line has no TAB.
-    #[error("NoTab({0})")]
     NoTab(usize),
     /// The name before the line's first TAB has not 1 to 255 bytes.
-    #[error("Name({0})")]
     Name(usize),
     /// The last line has no LF at its end.
-    #[error("NoLineEnd({0})")]
     NoLineEnd(usize),
     /// Memory was refused.
-    #[error("Memory")]
     Memory,
 }
 
@@ -151,6 +152,26 @@ impl CollectionError {
         }
     }
 }
+
+impl fmt::Display for CollectionError {
+    ghost use Rattle.std.specs.Prelude.{Some};
+    ghost use Rattle.ix_text.specs.CollectionErrors.{collection_error_name};
+
+    ghost output = { λ error. Some (collection_error_name error) };
+
+    fn fmt<W: fmt::Write>(&self, f: &mut fmt::Formatter<W>) -> fmt::Result {
+        match self {
+            CollectionError::TooLarge => f.write_str("TooLarge"),
+            CollectionError::NotUtf8(length) => write!(f, "NotUtf8({length})"),
+            CollectionError::NoTab(line) => write!(f, "NoTab({line})"),
+            CollectionError::Name(line) => write!(f, "Name({line})"),
+            CollectionError::NoLineEnd(line) => write!(f, "NoLineEnd({line})"),
+            CollectionError::Memory => f.write_str("Memory"),
+        }
+    }
+}
+
+impl error::Error for CollectionError {}
 
 impl<T: Drop> From<AllocFailed<T>> for CollectionError {
     ghost use Rattle.std.specs.Prelude.{◌≡◌};
@@ -176,7 +197,9 @@ impl From<AllocError> for CollectionError {
 
 /// The first line of a text, without its LF, and what follows the LF, if it has one.
 fn first_line(text: &str) -> (&str, Option<&str>)
-    ensures { MatchOption result.1 ((text.now ≡ result.0.now) × ¬ (Contains text.now 10)) (λ next. IsCutAtFirst text.now 10 result.0.now next.now) }
+    ensures { MatchOption result.1
+        ((text.now ≡ result.0.now) × ¬ (Contains text.now 10))
+        (λ next. IsCutAtFirst text.now 10 result.0.now next.now) }
 {
     match cut_at(text, b'\n') {
         Some((line, next)) => (line, Some(next)),

@@ -17,7 +17,8 @@ pub struct WriteRefused;
 /// `WriteRefused` then too, though the writer refused nothing.
 pub fn put_all<W: Write>(out: &mut W, bytes: &[u8]) -> Result<(), WriteRefused>
     ensures whole { OnOk result (Appends (W.contents out.old) (W.contents out.new) bytes.now) }
-    ensures front { OnErr result (AppendsFront (W.contents out.old) (W.contents out.new) bytes.now) }
+    ensures front { OnErr result
+        (AppendsFront (W.contents out.old) (W.contents out.new) bytes.now) }
 {
     let mut written = 0;
     for _ in 0..u64::MAX {
@@ -32,7 +33,8 @@ pub fn put_all<W: Write>(out: &mut W, bytes: &[u8]) -> Result<(), WriteRefused>
 /// Makes one write, and answers how many bytes it took: none where it was interrupted.
 fn put_some<W: Write>(out: &mut W, bytes: &[u8]) -> Result<usize, WriteRefused>
     ensures within { IfOk result (λ count. count ≤ length bytes.now) }
-    ensures part { IfOk result (λ count. Appends (W.contents out.old) (W.contents out.new) (take count bytes.now)) }
+    ensures part { IfOk result
+        (λ count. Appends (W.contents out.old) (W.contents out.new) (take count bytes.now)) }
     ensures kept { OnErr result (Keeps (W.contents out.old) (W.contents out.new)) }
 {
     match out.write(bytes) {

@@ -1,4 +1,4 @@
-ghost use Rattle.std.specs.Prelude.{◌≡◌, ◌≢◌, ◌↔◌, ℕ, ◌^◌, ◌≤◌, ◌⊎◌, List, [], ◌∷◌, ◌++◌, map, length, All, Contains, IsTrue, IfOk, IfErr, OnOk, MatchOption, string_bytes};
+ghost use Rattle.std.specs.Prelude.{◌≡◌, ◌≢◌, ◌↔◌, ℕ, ◌^◌, ◌≤◌, ◌⊎◌, List, [], ◌∷◌, ◌++◌, map, length, All, Contains, IsTrue, IfOk, IfErr, OnOk, MatchOption, Some, slice_get, string_bytes};
 ghost use Rattle.unicode_segmentation.specs.Word.{words};
 ghost use Rattle.ix_text.specs.ByteOrder.{IsAscending};
 ghost use Rattle.ix_text.specs.StopSets.{IsStopSet, HasTermSize};
@@ -6,11 +6,12 @@ ghost use Rattle.ix_text.specs.StopText.{IsStopText, stop_terms_of};
 ghost use Rattle.ix_text.specs.StopFaults.{IsStopLine, IsStopLineFault, IsStopFault};
 ghost use Rattle.ix_text.specs.StopLaws.{FaultsExcludeStopSet, HasOneStopFault, HasOneStopSet, HasStopSetOrFault};
 
+use crate::stop_slots::{SLOTS, Slot, slot_of, slots_of};
 use crate::term_of;
 use crate::token::has_term_size;
 use std::alloc::{AllocError, AllocFailed, Global};
 use std::marker::Model;
-use thiserror::Error;
+use std::{error, fmt};
 use unicode_segmentation::UnicodeSegmentation;
 
 /// The most bytes that a stop text may have.
@@ -20,17 +21,18 @@ const MAX_BYTES: usize = 1 << 28;
 #[derive(Drop)]
 pub struct StopList {
     terms: Vec<String>,
+    slots: [Slot; SLOTS],
 }
 
 impl Model for StopList {
     ghost use Rattle.std.specs.Prelude.{ℕ, List, map, string_bytes};
-    ghost use Rattle.ix_text.specs.StopSets.{IsStopSet};
+    ghost use Rattle.ix_text.specs.StopSlots.{IsSlotted};
 
     ghost Value = { List (List ℕ) };
 
     ghost view = { λ list. map string_bytes list.terms.items };
 
-    ghost invariant = { λ list. IsStopSet (map string_bytes list.terms.items) };
+    ghost invariant = { λ list. IsSlotted (map string_bytes list.terms.items) list.slots };
 }
 
 impl StopList {
@@ -40,6 +42,7 @@ impl StopList {
     {
         StopList {
             terms: Vec::new(alloc),
+            slots: [Slot::Empty; SLOTS],
         }
     }
 
@@ -51,7 +54,8 @@ impl StopList {
         requires sizes { All HasTermSize (map string_bytes terms.items) }
         ensures { result ≡ map string_bytes terms.items }
     {
-        StopList { terms }
+        let slots = slots_of(&terms);
+        StopList { terms, slots }
     }
 
     /// Reads a stop text of at most 2^28 bytes: cut at every LF, each line that is not empty holds exactly one word
@@ -61,8 +65,10 @@ impl StopList {
     /// first fault is the error, or `Memory` where memory is refused.
     pub fn read(alloc: Global, text: &str) -> Result<StopList, StopError>
         ensures terms { IfOk result (λ stop. IsStopText text.now stop) }
-        ensures fault { IfErr result (λ error. (error ≡ StopError.Memory) ⊎ IsStopFault text.now error) }
-        ensures accepted { (stop : List (List ℕ)) → IsStopText text.now stop → (result ≡ Ok stop) ⊎ (result ≡ Err StopError.Memory) }
+        ensures fault { IfErr result
+            (λ error. (error ≡ StopError.Memory) ⊎ IsStopFault text.now error) }
+        ensures accepted { (stop : List (List ℕ)) → IsStopText text.now stop
+            → (result ≡ Ok stop) ⊎ (result ≡ Err StopError.Memory) }
     {
         if text.len() > MAX_BYTES {
             return Err(StopError::TooLarge);
@@ -88,14 +94,40 @@ impl StopList {
         self.terms.as_slice()
     }
 
-    /// Whether the term is one of them. Takes no memory.
+    /// Whether the term is one of them. Takes no memory. Most terms that are none are told by their length and some of
+    /// their bytes, and most that are one at the first look.
     pub fn contains(&self, term: &str) -> bool
         ensures { IsTrue result ↔ Contains self.now term.now }
     {
-        self.terms
-            .binary_search_by(|held| held.as_str().cmp(&term))
-            .is_ok()
+        match self.slots[slot_of(term)] {
+            Slot::Empty => false,
+            Slot::One(place) => is_at(self.terms(), place, term),
+            Slot::Several => is_among(self.terms(), term),
+        }
     }
+}
+
+/// Whether the term is the one at a place.
+#[inline]
+fn is_at(terms: &[String], place: u16, term: &str) -> bool
+    ensures { IsTrue result ↔ (slice_get (map string_bytes terms.now) place ≡ Some term.now) }
+{
+    let place = usize::from(place);
+    if place < terms.len() {
+        terms[place].as_str() == term
+    } else {
+        false
+    }
+}
+
+/// Whether the term is one of these, which ascend.
+fn is_among(terms: &[String], term: &str) -> bool
+    requires { IsAscending (map string_bytes terms.now) }
+    ensures { IsTrue result ↔ Contains (map string_bytes terms.now) term.now }
+{
+    terms
+        .binary_search_by(|held| held.as_str().cmp(&term))
+        .is_ok()
 }
 
 /// Adds the term of the one word of a line, if the line is not empty. The line has this number.
@@ -105,9 +137,11 @@ fn read_line(
     line: &str,
     number: usize,
 ) -> Result<(), StopError>
-    ensures terms { OnOk result (map string_bytes terms.new.items ≡ map string_bytes terms.old.items ++ stop_terms_of (line.now ∷ [])) }
+    ensures terms { OnOk result (map string_bytes terms.new.items
+        ≡ map string_bytes terms.old.items ++ stop_terms_of (line.now ∷ [])) }
     ensures line { OnOk result (IsStopLine line.now) }
-    ensures fault { IfErr result (λ error. (error ≡ StopError.Memory) ⊎ IsStopLineFault line.now number error) }
+    ensures fault { IfErr result
+        (λ error. (error ≡ StopError.Memory) ⊎ IsStopLineFault line.now number error) }
 {
     if line.is_empty() {
         return Ok(());
@@ -125,7 +159,9 @@ fn read_line(
 
 /// The word of a line that holds exactly one.
 fn only_word(line: &str) -> Option<&str>
-    ensures { MatchOption result (length (words line.now) ≢ 1) (λ word. words line.now ≡ word.now ∷ []) }
+    ensures { MatchOption result
+        (length (words line.now) ≢ 1)
+        (λ word. words line.now ≡ word.now ∷ []) }
 {
     let mut words = line.unicode_words();
     let word = words.next()?;
@@ -138,7 +174,8 @@ fn only_word(line: &str) -> Option<&str>
 /// Puts the terms in the order of their bytes, and each that stands more than once but once.
 fn sort(terms: &mut Vec<String>)
     ensures ascending { IsAscending (map string_bytes terms.new.items) }
-    ensures same { (term : List ℕ) → Contains (map string_bytes terms.new.items) term ↔ Contains (map string_bytes terms.old.items) term }
+    ensures same { (term : List ℕ) → Contains (map string_bytes terms.new.items) term
+        ↔ Contains (map string_bytes terms.old.items) term }
     ensures fewer { length terms.new.items ≤ length terms.old.items }
 {
     terms.sort_unstable();
@@ -154,19 +191,15 @@ pub fn has_stop_set_or_a_fault()
 {}
 
 /// Why a text is no stop text. Lines are counted from 1.
-#[derive(Debug, PartialEq, Eq, Drop, Error)]
+#[derive(Debug, PartialEq, Eq, Drop)]
 pub enum StopError {
     /// The line holds something, but not exactly one word.
-    #[error("NotOneWord({0})")]
     NotOneWord(usize),
     /// The term of the line's word has not 1 to 255 bytes.
-    #[error("LongWord({0})")]
     LongWord(usize),
     /// Memory was refused.
-    #[error("Memory")]
     Memory,
     /// The text has more than 2^28 bytes.
-    #[error("TooLarge")]
     TooLarge,
 }
 
@@ -185,6 +218,24 @@ impl StopError {
         }
     }
 }
+
+impl fmt::Display for StopError {
+    ghost use Rattle.std.specs.Prelude.{Some};
+    ghost use Rattle.ix_text.specs.StopErrors.{stop_error_name};
+
+    ghost output = { λ error. Some (stop_error_name error) };
+
+    fn fmt<W: fmt::Write>(&self, f: &mut fmt::Formatter<W>) -> fmt::Result {
+        match self {
+            StopError::NotOneWord(line) => write!(f, "NotOneWord({line})"),
+            StopError::LongWord(line) => write!(f, "LongWord({line})"),
+            StopError::Memory => f.write_str("Memory"),
+            StopError::TooLarge => f.write_str("TooLarge"),
+        }
+    }
+}
+
+impl error::Error for StopError {}
 
 impl<T: Drop> From<AllocFailed<T>> for StopError {
     ghost use Rattle.std.specs.Prelude.{◌≡◌};

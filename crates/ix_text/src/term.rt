@@ -76,7 +76,8 @@ fn may_hold_iota(c: char) -> bool
 
 /// NFC of the full case folding of the text.
 fn fold(alloc: Global, text: &str) -> Result<String, Memory>
-    ensures { IfOk result (λ term. string_bytes term ≡ encode_utf8_all (nfc (default_case_fold (chars text.now)))) }
+    ensures { IfOk result
+        (λ term. string_bytes term ≡ encode_utf8_all (nfc (default_case_fold (chars text.now)))) }
 {
     let folded = default_case_fold_str(alloc, text)?;
     match is_nfc_quick(folded.as_str().chars()) {
@@ -88,7 +89,8 @@ fn fold(alloc: Global, text: &str) -> Result<String, Memory>
 /// A law: two words have equal terms exactly where they match canonically without case (The Unicode Standard, D145).
 pub fn equal_terms_match()
     ensures characters { (a b : List ℕ) → (folded a ≡ folded b) ↔ IsCanonicalMatch a b }
-    ensures words { (a b : List ℕ) → (term_of_word a ≡ term_of_word b) ↔ IsCanonicalMatch (chars a) (chars b) }
+    ensures words { (a b : List ℕ) → (term_of_word a ≡ term_of_word b)
+        ↔ IsCanonicalMatch (chars a) (chars b) }
 {}
 
 #[cfg(test)]

@@ -1,12 +1,13 @@
 ghost use Rattle.std.specs.Prelude.{◌≡◌, ℕ, ◌+◌, ◌<◌, ◌≤◌, ◌&&◌, not, List, [], ◌∷◌, ◌++◌, All, map, take, length, option_map, string_bytes, vec_len, IsUtf8, IfOk, OnOk};
 ghost use Rattle.ix_text.specs.CollectionText.{IsCollectionText};
 ghost use Rattle.ix_text.specs.Collections.{NamedText, collection_of, IsLawful, IsLawfulEntry};
+ghost use Rattle.ix_text.specs.Sizes.{SlicesAreSmall, TokensAreNoMoreThanBytes};
 ghost use Rattle.ix_text.specs.StopSets.{IsStopSet};
 ghost use Rattle.ix_text.specs.Terms.{term_of_word};
 ghost use Rattle.ix_text.specs.TokenLists.{entry_of_term, is_stop_term, is_term_size, token_list};
 
 use crate::term::write_term;
-use crate::{Memory, StopList, term_of};
+use crate::{Memory, StopList};
 use std::alloc::Global;
 use unicode_segmentation::UnicodeSegmentation;
 
@@ -14,7 +15,8 @@ use unicode_segmentation::UnicodeSegmentation;
 /// stop terms or is empty or longer than 255 bytes. An entry's place, from 0, is its position (IIR 2.4.2). Fails where
 /// memory is refused.
 pub fn tokens(alloc: Global, text: &str, stop: &StopList) -> Result<Vec<Option<String>>, Memory>
-    ensures { IfOk result (λ list. map (option_map string_bytes) list.items ≡ token_list stop.now text.now) }
+    ensures { IfOk result
+        (λ list. map (option_map string_bytes) list.items ≡ token_list stop.now text.now) }
 {
     let mut list = Vec::new(alloc);
     let count = write_tokens(alloc, &mut list, text, stop)?;
@@ -32,20 +34,23 @@ pub fn write_tokens(
     stop: &StopList,
 ) -> Result<usize, Memory>
     ensures within { IfOk result (λ count. count ≤ vec_len list.new) }
-    ensures front { IfOk result (λ count. map (option_map string_bytes) (take count list.new.items) ≡ token_list stop.now text.now) }
+    ensures front { IfOk result (λ count.
+        map (option_map string_bytes) (take count list.new.items) ≡ token_list stop.now text.now) }
 {
+    let mut spare = Vec::new(alloc);
     let mut count = 0;
     for word in text.unicode_words() {
-        write_entry_at(alloc, list, count, word, stop)?;
+        write_entry_at(alloc, list, &mut spare, count, word, stop)?;
         count += 1;
     }
     Ok(count)
 }
 
-/// Makes the entry at the place, or behind the last one, that of the word.
+/// Makes the entry at the place, or behind the last one, that of the word. The spare strings are as in `write_entry`.
 fn write_entry_at(
     alloc: Global,
     list: &mut Vec<Option<String>>,
+    spare: &mut Vec<String>,
     place: usize,
     word: &str,
     stop: &StopList,
@@ -53,44 +58,65 @@ fn write_entry_at(
     requires { place ≤ vec_len list.old }
     ensures within { OnOk result (place < vec_len list.new) }
     ensures entry { OnOk result (map (option_map string_bytes) (take (place + 1) list.new.items)
-        ≡ map (option_map string_bytes) (take place list.old.items) ++ entry_of_term stop.now (term_of_word word.now) ∷ []) }
+        ≡ map (option_map string_bytes) (take place list.old.items)
+        ++ entry_of_term stop.now (term_of_word word.now) ∷ []) }
 {
     if place == list.len() {
-        list.push(entry_of(alloc, word, stop)?)?;
+        list.push(entry_of(alloc, spare, word, stop)?)?;
         return Ok(());
     }
-    write_entry(alloc, &mut list[place], word, stop)
+    write_entry(alloc, &mut list[place], spare, word, stop)
 }
 
-/// Makes the entry that of the word.
+/// Makes the entry that of the word. Where that is nothing, the string that it had becomes a spare one.
 fn write_entry(
     alloc: Global,
     entry: &mut Option<String>,
+    spare: &mut Vec<String>,
     word: &str,
     stop: &StopList,
 ) -> Result<(), Memory>
-    ensures { OnOk result (option_map string_bytes entry.new ≡ entry_of_term stop.now (term_of_word word.now)) }
+    ensures { OnOk result
+        (option_map string_bytes entry.new ≡ entry_of_term stop.now (term_of_word word.now)) }
 {
     let Some(term) = entry else {
-        *entry = entry_of(alloc, word, stop)?;
+        *entry = entry_of(alloc, spare, word, stop)?;
         return Ok(());
     };
     write_term(alloc, term, word)?;
-    if !is_kept(term, stop) {
-        *entry = None;
+    if is_kept(term, stop) {
+        return Ok(());
+    }
+    keep(spare, entry.take())?;
+    Ok(())
+}
+
+/// Adds the string of an entry to the spare ones.
+fn keep(spare: &mut Vec<String>, entry: Option<String>) -> Result<(), Memory> {
+    if let Some(term) = entry {
+        spare.push(term)?;
     }
     Ok(())
 }
 
-fn entry_of(alloc: Global, word: &str, stop: &StopList) -> Result<Option<String>, Memory>
-    ensures { IfOk result (λ entry. option_map string_bytes entry ≡ entry_of_term stop.now (term_of_word word.now)) }
+/// The entry of the word. Its string is a spare one where there is one, and where the term is not kept it stays spare:
+/// so a stop word costs no allocation.
+fn entry_of(
+    alloc: Global,
+    spare: &mut Vec<String>,
+    word: &str,
+    stop: &StopList,
+) -> Result<Option<String>, Memory>
+    ensures { IfOk result (λ entry.
+        option_map string_bytes entry ≡ entry_of_term stop.now (term_of_word word.now)) }
 {
-    let term = term_of(alloc, word)?;
+    let mut term = spare.pop().unwrap_or(String::new(alloc));
+    write_term(alloc, &mut term, word)?;
     if is_kept(&term, stop) {
-        Ok(Some(term))
-    } else {
-        Ok(None)
+        return Ok(Some(term));
     }
+    spare.push(term)?;
+    Ok(None)
 }
 
 /// Whether a token list keeps the term.
@@ -110,9 +136,18 @@ pub(crate) fn has_term_size(term: &str) -> bool
 /// A law: what a token list holds may stand in a lawful collection; it has at most as many entries as its text has
 /// bytes; and the collection of a collection text under a stop set is lawful.
 pub fn lawful_collection()
-    ensures entries { (stop : List (List ℕ)) (text : List ℕ) → IsUtf8 text → All (IsLawfulEntry stop) (token_list stop text) }
-    ensures short { (stop : List (List ℕ)) (text : List ℕ) → IsUtf8 text → length (token_list stop text) ≤ length text }
-    ensures collection { (stop : List (List ℕ)) (bytes : List ℕ) (texts : List NamedText) → IsStopSet stop → IsCollectionText bytes texts → IsLawful (collection_of stop texts) }
+    ensures entries { (stop : List (List ℕ)) (text : List ℕ) → IsUtf8 text
+        → All (IsLawfulEntry stop) (token_list stop text) }
+    ensures short { (stop : List (List ℕ)) (text : List ℕ) → IsUtf8 text
+        → length (token_list stop text) ≤ length text }
+    ensures collection { (stop : List (List ℕ)) (bytes : List ℕ) (texts : List NamedText)
+        → IsStopSet stop → IsCollectionText bytes texts → IsLawful (collection_of stop texts) }
+{}
+
+/// A law: under each stop set, named texts have at most as many tokens as bytes; and some of small texts are small.
+pub fn tokens_are_no_more_than_bytes()
+    ensures tokens { TokensAreNoMoreThanBytes }
+    ensures slices { SlicesAreSmall }
 {}
 
 #[cfg(test)]
@@ -177,6 +212,7 @@ mod tests {
         assert!(rt; dropped[1].is_none());
         assert!(rt; dropped[2].is_some());
         lawful_collection();
+        tokens_are_no_more_than_bytes();
         Ok(())
     }
 }

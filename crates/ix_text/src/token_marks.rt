@@ -10,13 +10,14 @@ pub struct TokenMarks {
 }
 
 impl TokenMarks {
-    ghost use Rattle.std.specs.Prelude.{◌≡◌, ◌<◌, ◌≤◌, ◌++◌, ◌∷◌, ◌↔◌, ℕ, [], List, IfOk, IsTrue, Contains};
+    ghost use Rattle.std.specs.Prelude.{◌≡◌, ◌+◌, ◌<◌, ◌≤◌, ◌++◌, ◌∷◌, ◌↔◌, ℕ, [], List, IfOk, IsTrue, Contains};
     ghost use Rattle.ix_text.specs.TokenMarks.{HoldsNumbers, room};
 
-    /// Marks for the numbers below `count`, none of them set: a bit each. Fails where memory is refused.
+    /// Marks for the numbers below `count`, none of them set: a bit each, in whole words of eight bytes. Fails where memory is refused.
     pub fn new(alloc: Global, count: u32) -> Result<TokenMarks, AllocError>
         ensures none { IfOk result (λ marks. HoldsNumbers marks []) }
         ensures room { IfOk result (λ marks. count ≤ room marks) }
+        ensures narrow { IfOk result (λ marks. room marks < count + 64) }
     {
         Ok(TokenMarks {
             words: vec![in alloc; 0; (count as usize).div_ceil(64)]?,
@@ -28,8 +29,10 @@ impl TokenMarks {
     pub fn mark(&mut self, number: u32) -> bool
         requires { number < room self.old }
         ensures room { room self.new ≡ room self.old }
-        ensures free { (numbers : List ℕ) → HoldsNumbers self.old numbers → IsTrue result ↔ ¬ (Contains numbers number) }
-        ensures marked { (numbers : List ℕ) → HoldsNumbers self.old numbers → HoldsNumbers self.new (numbers ++ number ∷ []) }
+        ensures free { (numbers : List ℕ) → HoldsNumbers self.old numbers
+            → IsTrue result ↔ ¬ (Contains numbers number) }
+        ensures marked { (numbers : List ℕ) → HoldsNumbers self.old numbers
+            → HoldsNumbers self.new (numbers ++ number ∷ []) }
     {
         let word = &mut self.words[number as usize / 64];
         let bit = 1 << (number % 64);

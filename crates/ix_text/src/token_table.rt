@@ -30,9 +30,11 @@ impl TokenTable {
     /// refused, and then nothing has changed.
     pub fn push(&mut self, tokens: u32) -> Result<(), AllocError>
         requires { HasRoomFor self.old tokens }
-        ensures ok { (rows : List DocumentRow) (row : DocumentRow) → HasTokens self.old rows → row.tokens ≡ tokens
+        ensures ok { (rows : List DocumentRow) (row : DocumentRow)
+            → HasTokens self.old rows → row.tokens ≡ tokens
             → OnOk result (HasTokens self.new (rows ++ row ∷ [])) }
-        ensures refused { (rows : List DocumentRow) → HasTokens self.old rows → OnErr result (HasTokens self.new rows) }
+        ensures refused { (rows : List DocumentRow) → HasTokens self.old rows
+            → OnErr result (HasTokens self.new rows) }
     {
         let before = self.starts[self.starts.len() - 1];
         self.starts.push(before + tokens)?;

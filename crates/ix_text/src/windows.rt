@@ -52,7 +52,8 @@ impl<'a> Iterator for TrigramWindows<'a> {
 /// The first window of a text, and the text from its second character on.
 fn first_window(text: &str) -> Option<(&str, &str)>
     ensures none { IfNone result (trigram_list text.now ≡ []) }
-    ensures first { IfSome result (λ found. trigram_list text.now ≡ found.0.now ∷ trigram_list found.1.now) }
+    ensures first { IfSome result
+        (λ found. trigram_list text.now ≡ found.0.now ∷ trigram_list found.1.now) }
 {
     let mut chars = text.chars();
     chars.next()?;

@@ -5,6 +5,7 @@ use Rattle.std.proofs.lemmas.Result.{err_from_is_err_and}
 use Rattle.ix_text.specs.Docs.{named_text}
 use Rattle.ix_text.proofs.CollectionLaws.{one_list, refused}
 use Rattle.ix_text.proofs.CollectionLemmas.{fault_from_line, read_all, next_text, read_line_more}
+use Rattle.ix_text.proofs.SizeLemmas.{AreSmall-from_lines}
 use Rattle.ix_text.proofs.collection.Collection.read.Goals as goal
 
 pub returns-in_err-doc-clause-fault : goal.returns-in_err-doc-clause-fault
@@ -40,3 +41,8 @@ loop-left-preserved c =
       characters = c.loop-left.invariant.characters;
       read = rw (items, c.in_ok-push.ensures.len) (read_line_more _ _ _ _ (named_text c.in_ok-doc.doc) _ c.loop-left.invariant.read h c.in_ok-doc.doc.lawful_name c.in_ok-doc.doc.one_line);
     }
+
+pub invariant_of-result : goal.invariant_of-result
+invariant_of-result c =
+    let small : length c.args.bytes.now ≤ 2 ^ 28 = c.if-bytes-gt-MAX_BYTES.false in
+    (AreSmall-from_lines c.args.bytes.now _ _ c.loop-left.left.now small c.loop-left.invariant.read, tt)

@@ -15,3 +15,9 @@ unfolding room
 returns-clause-room c =
     let long = div_ceil_times c.args.count 64 (omega arith) in
     omega (arith, c.in_ok-vec.ensures.len, c.div_ceil.ensures, long.0)
+
+pub returns-clause-narrow : goal.returns-clause-narrow
+unfolding room
+returns-clause-narrow c =
+    let long = div_ceil_times c.args.count 64 (omega arith) in
+    omega (arith, c.in_ok-vec.ensures.len, c.div_ceil.ensures, long.1)
