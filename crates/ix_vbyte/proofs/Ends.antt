@@ -1,4 +1,4 @@
--- Where codes end, byte by byte and a vector at a time.
+-- Where codes end, byte by byte and several bytes at a time.
 use Rattle.std.proofs.Common.{◌≡◌, ℕ, zero, suc, ◌+◌, ◌-◌, ◌/◌, ◌%◌, ◌^◌, ◌<◌, ◌≤◌, cond, ltb, leb, List, [], ◌∷◌, ◌++◌, length, take, drop, get_or, map, replicate, count_by, slice_get, Some, refl, sym, ap, ap₂, ◌∙◌, ⊎_elim, arith, take-append-drop, w8}
 use Rattle.std.specs.Int.Digits.{digits_of}
 use Rattle.std.specs.Simd.Lanes.{zip2, mask_l, top}
@@ -58,11 +58,11 @@ marked_more bytes place (suc left) within some high =
 pub passed_all : (bytes : List ℕ) (place left : ℕ) → length bytes ≤ place → end_of left (drop place bytes) ≡ 0
 passed_all bytes place left end = ap (λ xs. end_of left xs) (drop_all place bytes end) ∙ end_of-nil left
 
--- ---- a vector at a time
-first_marks : (byte : ℕ) (bytes : List ℕ) → 128 ≤ byte → marks_in (byte ∷ bytes) ≡ suc (marks_in bytes)
+-- ---- several bytes at a time
+pub first_marks : (byte : ℕ) (bytes : List ℕ) → 128 ≤ byte → marks_in (byte ∷ bytes) ≡ suc (marks_in bytes)
 first_marks byte bytes high = let one : cond {A = ℕ} (leb 128 byte) 1 0 ≡ 1 = ap (λ b. cond b 1 0) (le-leb 128 byte high) in omega (arith, sum_by-cons (λ b. cond {A = ℕ} (leb 128 b) 1 0) byte bytes)
 
-first_marks_not : (byte : ℕ) (bytes : List ℕ) → byte < 128 → marks_in (byte ∷ bytes) ≡ marks_in bytes
+pub first_marks_not : (byte : ℕ) (bytes : List ℕ) → byte < 128 → marks_in (byte ∷ bytes) ≡ marks_in bytes
 first_marks_not byte bytes low = let none : cond {A = ℕ} (leb 128 byte) 1 0 ≡ 0 = ap (λ b. cond b 1 0) (lt-leb 128 byte low) in omega (arith, sum_by-cons (λ b. cond {A = ℕ} (leb 128 b) 1 0) byte bytes)
 
 -- fewer codes than are sought end in the first bytes
@@ -89,12 +89,12 @@ end_of-append (suc count) (x ∷ xs) ys fewer =
     omega arith)
     (cases_lt x 128)
 
-pub vector_more : (rest vector behind : List ℕ) (left ends : ℕ) → 16 ≤ length rest → vector ≡ take 16 rest → behind ≡ drop 16 rest → ends ≡ marks_in vector → ends < left → end_of left rest ≡ 16 + end_of (left - ends) behind
-vector_more rest vector behind left ends room first others counted fewer =
-    let long : length vector ≡ 16 = ap length first ∙ length-take-le 16 rest room in
-    let fewer' : marks_in vector < left = omega arith in
-    let whole : rest ≡ vector ++ behind = sym (take-append-drop 16 rest) ∙ ap₂ (λ xs ys. xs ++ ys) (sym first) (sym others) in
-    ap (λ xs. end_of left xs) whole ∙ end_of-append left vector behind fewer'
+pub front_more : (size : ℕ) (rest front behind : List ℕ) (left ends : ℕ) → size ≤ length rest → front ≡ take size rest → behind ≡ drop size rest → ends ≡ marks_in front → ends < left → end_of left rest ≡ size + end_of (left - ends) behind
+front_more size rest front behind left ends room first others counted fewer =
+    let long : length front ≡ size = ap length first ∙ length-take-le size rest room in
+    let fewer' : marks_in front < left = omega arith in
+    let whole : rest ≡ front ++ behind = sym (take-append-drop size rest) ∙ ap₂ (λ xs ys. xs ++ ys) (sym first) (sym others) in
+    ap (λ xs. end_of left xs) whole ∙ end_of-append left front behind fewer'
     ∙ ap₂ (λ n m. n + end_of (left - m) behind) long (sym counted)
 
 -- the top bits of a vector

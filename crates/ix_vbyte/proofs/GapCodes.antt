@@ -38,6 +38,16 @@ pushed_bounds top old now next after numbers i p within =
     let r = subst Q (drop_more numbers i 0 within) p.ascending in
     (r.0, r.1)
 
+-- the next code is one of those that belong there
+pub pushed_fits : (top : ℕ) (old now : List ℕ) (next after : ℕ) (numbers : List ℕ) (i : ℕ) → HasPushed top old now next after numbers (drop i numbers) → i < length numbers
+    → length now + length (code_of (get_or numbers i 0 + 1 - after)) ≤ length old + length (codes_of (gaps_from next numbers))
+pushed_fits top old now next after numbers i p within =
+    let Q : List ℕ → Type 0 = λ rest. HasPushed top old now next after numbers rest in
+    let code = code_of (get_or numbers i 0 + 1 - after) in
+    let others = codes_of (gaps_from (get_or numbers i 0 + 1) (drop (i + 1) numbers)) in
+    let same = ap length (subst Q (drop_more numbers i 0 within) p).spelled in
+    omega (arith, same, length-append now (code ++ others), length-append code others, length-append old (codes_of (gaps_from next numbers)))
+
 -- all of them
 pub pushed_all : (top : ℕ) (old now : List ℕ) (next after : ℕ) (numbers : List ℕ) (i : ℕ) → HasPushed top old now next after numbers (drop i numbers) → length numbers ≤ i → now ≡ old ++ codes_of (gaps_from next numbers)
 pushed_all top old now next after numbers i p done =
@@ -54,3 +64,8 @@ on_err_begun (Ok value) old more middle new e begun = tt
 on_err_begun (Err error) old more middle new e begun =
     let P : List ℕ → Type 0 = λ xs. take (length xs) new ≡ xs in
     begun_front old more new (subst P e begun)
+
+-- what holds anyway holds of a refusal
+pub on_err_of : {T E P : Type 0} (result : Result T E) → P → OnErr result P
+on_err_of (Ok value) holds = tt
+on_err_of (Err error) holds = holds

@@ -1,4 +1,5 @@
 pub mod Ends
+pub mod EndsByByte
 pub mod Fronts
 pub mod GapCodes
 pub mod Gaps
@@ -6,6 +7,7 @@ pub mod Marks
 pub mod OnePosition
 pub mod Pieces
 pub mod Postings
+pub mod Shifting
 pub mod ShortPostings
 pub mod Sizes
 pub mod Texts

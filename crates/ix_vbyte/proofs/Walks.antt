@@ -319,8 +319,11 @@ gap_first next bytes b = record {
   coded = b.coded ∙ regroup (code_of (b.posting.0 + 1 - next)) (code_of (length b.posting.1)) (codes_of (gaps_of b.posting.1)) b.rest;
 }
 
+pub begins_with_gap_of_posting : (next count : ℕ) (bytes : List ℕ) → ArePostingsFrom next count bytes → 0 < length bytes → BeginsWithNumber bytes
+begins_with_gap_of_posting next count bytes are some = gap_first next bytes (begins_with_posting next count bytes are some)
+
 -- the gap was read
-gap_read : (next : ℕ) (bytes : List ℕ) (gap : ℕ) (rest : List ℕ) (posting : Posting) (others : List ℕ) → ReadsNumber bytes gap rest → MayFollow next posting → bytes ≡ posting_bytes (posting.0 + 1 - next) posting ++ others
+pub gap_read : (next : ℕ) (bytes : List ℕ) (gap : ℕ) (rest : List ℕ) (posting : Posting) (others : List ℕ) → ReadsNumber bytes gap rest → MayFollow next posting → bytes ≡ posting_bytes (posting.0 + 1 - next) posting ++ others
     → (gap ≡ posting.0 + 1 - next) × (rest ≡ code_of (length posting.1) ++ (codes_of (gaps_of posting.1) ++ others))
 gap_read next bytes gap rest posting others reads may coded =
     reads (posting.0 + 1 - next) (code_of (length posting.1) ++ (codes_of (gaps_of posting.1) ++ others)) (posting_fits next posting may).0

@@ -1,5 +1,5 @@
 -- Where codes end: at the bytes that have the top bit.
-use Rattle.std.specs.Prelude.{ℕ, zero, suc, ◌+◌, ◌-◌, ◌*◌, ◌^◌, List, [], ◌∷◌, nat_lt, if◌then◌else◌, bit_and}
+use Rattle.std.specs.Prelude.{ℕ, zero, suc, ◌+◌, ◌*◌, ◌^◌, List, [], ◌∷◌, nat_lt, if◌then◌else◌}
 
 -- How many bytes the first `count` codes take, and all of them where fewer codes end.
 unfoldable pub end_of : ℕ → List ℕ → ℕ
@@ -12,11 +12,9 @@ unfoldable pub marks_of : ℕ → ℕ → List ℕ → ℕ
 marks_of width mark [] = 0
 marks_of width mark (byte ∷ bytes) = marks_of width mark bytes * 2 ^ width + (if nat_lt byte 128 then 0 else mark)
 
--- A number without its lowest bit.
-abbrev pub without_lowest : ℕ → ℕ
-without_lowest marks = bit_and marks (marks - 1)
-
--- A number without its lowest `count` bits.
-unfoldable pub without_lowest_of : ℕ → ℕ → ℕ
-without_lowest_of zero marks = marks
-without_lowest_of (suc count) marks = without_lowest_of count (without_lowest marks)
+-- How many codes end up to each byte, in a number with a group of eight bits for each, the first byte's lowest, where
+-- `before` end before them.
+unfoldable pub ends_by_byte : ℕ → List ℕ → ℕ
+ends_by_byte before [] = 0
+ends_by_byte before (byte ∷ bytes) =
+    let now = before + (if nat_lt byte 128 then 0 else 1) in now + 256 * ends_by_byte now bytes

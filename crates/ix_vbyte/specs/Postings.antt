@@ -40,3 +40,11 @@ list_bytes_from next (posting ∷ postings) = posting_bytes (posting.0 + 1 - nex
 -- The coded list of a term's postings.
 abbrev pub list_bytes : List Posting → List ℕ
 list_bytes postings = list_bytes_from 0 postings
+
+-- a posting whose document's number is raised
+abbrev pub shifted_posting : ℕ → Posting → Posting
+shifted_posting first posting = (first + posting.0, posting.1)
+
+-- postings whose documents were counted from 0, and are counted from this number
+abbrev pub shifted : ℕ → List Posting → List Posting
+shifted first postings = map (shifted_posting first) postings

@@ -1,10 +1,12 @@
 //! Walking a coded list of postings without decoding positions that nobody asks for.
 ghost use Rattle.std.specs.Prelude.{◌≡◌, ◌^◌, ◌-◌, ℕ, List, [], ◌∷◌, length, IfNone, IfSome, OnOk};
+ghost use Rattle.std.specs.Prelude.{◌+◌, ◌<◌, ◌≤◌, ◌++◌, OnErr, vec_capacity, vec_len};
 ghost use Rattle.std.specs.Iterator.{YieldsFirstBy, item_count};
 ghost use Rattle.ix_vbyte.specs.OnePosition.{ReadsSingle};
-ghost use Rattle.ix_vbyte.specs.Postings.{ArePostings, list_bytes};
+ghost use Rattle.ix_vbyte.specs.Postings.{ArePostings, list_bytes, list_bytes_from, shifted};
 ghost use Rattle.ix_vbyte.specs.Walking.{IsCodedList, BeginsWithPosting, ReadsPosting, from_document};
 
+use crate::appending::push_code_and;
 use crate::decoding::first_number;
 pub use crate::positions::Positions;
 use crate::singles::{Single, WORD, single_posting};
@@ -29,9 +31,12 @@ impl<'a> Posting<'a> {
         self.positions.again()
     }
 
-    /// Puts the positions, and nothing else, into a vector. Where memory is refused, the vector holds anything.
+    /// Puts the positions, and nothing else, into a vector. Where memory is refused, which it is only where they find
+    /// no room, the vector holds anything.
     pub fn read_positions(&self, positions: &mut Vec<u32>) -> Result<(), AllocError>
-        ensures { OnOk result (positions.new.items ≡ self.now.positions) }
+        ensures ok { OnOk result (positions.new.items ≡ self.now.positions) }
+        ensures full { OnErr result (vec_capacity positions.old < length self.now.positions) }
+        ensures capacity { vec_capacity positions.old ≤ vec_capacity positions.new }
     {
         positions.clear();
         for position in self.positions() {
@@ -42,7 +47,7 @@ impl<'a> Posting<'a> {
 }
 
 /// The posting whose bytes stand at the front, and what follows them.
-#[inline]
+#[inline(always)]
 fn first_posting(bytes: &[u8], next: u32) -> (Posting<'_>, &[u8])
     requires { BeginsWithPosting next bytes.now }
     ensures { ReadsPosting next bytes.now result.0.document result.0.positions result.1.now }
@@ -72,7 +77,7 @@ fn split_single<'a>(bytes: &'a [u8], next: u32, single: &Single) -> (Posting<'a>
 }
 
 /// The same of a posting of any shape.
-#[inline]
+#[inline(always)]
 fn any_posting(bytes: &[u8], next: u32) -> (Posting<'_>, &[u8])
     requires { BeginsWithPosting next bytes.now }
     ensures { ReadsPosting next bytes.now result.0.document result.0.positions result.1.now }
@@ -115,7 +120,8 @@ impl<'a> Postings<'a> {
     #[inline]
     pub fn new(bytes: &'a [u8], count: u32) -> Postings<'a>
         requires { IsCodedList count bytes.now }
-        ensures { (postings : List (ℕ × List ℕ)) → ArePostings 0 (2 ^ 32 - 1) postings → length postings ≡ count → bytes.now ≡ list_bytes postings → result ≡ postings }
+        ensures { (postings : List (ℕ × List ℕ)) → ArePostings 0 (2 ^ 32 - 1) postings
+            → length postings ≡ count → bytes.now ≡ list_bytes postings → result ≡ postings }
     {
         Postings {
             bytes,
@@ -147,8 +153,10 @@ impl<'a> Postings<'a> {
 
     /// The first posting that is left whose document is not below the one named, or none where there is no such.
     /// The postings up to it are passed, and it is passed too. It takes no memory.
+    #[inline(always)]
     pub fn seek(&mut self, document: u32) -> Option<Posting<'a>>
-        ensures found { IfSome result (λ posting. from_document document self.old ≡ (posting.document, posting.positions) ∷ self.new) }
+        ensures found { IfSome result (λ posting.
+            from_document document self.old ≡ (posting.document, posting.positions) ∷ self.new) }
         ensures none { IfNone result ((from_document document self.old ≡ []) × (self.new ≡ [])) }
     {
         while let Some(posting) = self.next() {
@@ -157,6 +165,27 @@ impl<'a> Postings<'a> {
             }
         }
         None
+    }
+
+    /// Appends the bytes of the postings that are left, each document's number raised by `first`, where `next` is one
+    /// above the document before them, or 0. Gaps do not change by that, so only the first is coded anew, and the
+    /// other bytes are copied as they are.
+    ///
+    /// Where memory is refused, which it is only where they find no room, nothing was appended.
+    pub fn push_shifted(&self, out: &mut Vec<u8>, first: u32, next: u32) -> Result<(), AllocError>
+        requires { ArePostings next (2 ^ 32 - 1) (shifted first self.now) }
+        ensures ok { OnOk result
+            (out.new.items ≡ out.old.items ++ list_bytes_from next (shifted first self.now)) }
+        ensures err { OnErr result (out.new.items ≡ out.old.items) }
+        ensures full { OnErr result (vec_capacity out.old
+            < vec_len out.old + length (list_bytes_from next (shifted first self.now))) }
+        ensures capacity { vec_capacity out.old ≤ vec_capacity out.new }
+    {
+        if self.bytes.is_empty() {
+            return Ok(());
+        }
+        let (gap, rest) = first_number(self.bytes);
+        push_code_and(out, first + self.next + gap - next, rest)
     }
 }
 
@@ -167,7 +196,7 @@ impl<'a> Iterator for Postings<'a> {
 
     ghost remaining = { item_count (λ postings. postings) };
 
-    #[inline]
+    #[inline(always)]
     fn next(&mut self) -> Option<Posting<'a>> {
         if self.bytes.is_empty() {
             return None;

@@ -24,13 +24,14 @@ pub fn decode(bytes: &[u8]) -> Result<(u32, usize), VbError>
     ensures front { IfOk result (λ r. bytes.now ≡ code_of r.0 ++ drop r.1 bytes.now) }
     ensures count { IfOk result (λ r. r.1 ≡ length (code_of r.0)) }
     ensures size { IfOk result (λ r. (0 < r.1) × (r.1 ≤ 5) × (r.1 ≤ length bytes.now)) }
-    ensures written { (n : ℕ) (rest : List ℕ) → n < 2 ^ 32 → bytes.now ≡ code_of n ++ rest → result ≡ Ok (n, length (code_of n)) }
+    ensures written { (n : ℕ) (rest : List ℕ) → n < 2 ^ 32 → bytes.now ≡ code_of n ++ rest
+        → result ≡ Ok (n, length (code_of n)) }
 {
     read(bytes)
 }
 
 /// The number whose code the bytes begin with, and what follows the code. Codes of one and two bytes take no loop.
-#[inline]
+#[inline(always)]
 pub(crate) fn first_number(bytes: &[u8]) -> (u32, &[u8])
     requires { BeginsWithNumber bytes.now }
     ensures { ReadsNumber bytes.now result.0 result.1.now }
@@ -53,6 +54,8 @@ pub(crate) fn first_number(bytes: &[u8]) -> (u32, &[u8])
 }
 
 /// The same of a code of any length.
+#[cold]
+#[inline(never)]
 fn long_number(bytes: &[u8]) -> (u32, &[u8])
     requires { BeginsWithNumber bytes.now }
     ensures { ReadsNumber bytes.now result.0 result.1.now }

@@ -72,7 +72,7 @@ impl<'a> Iterator for Positions<'a> {
 
     ghost remaining = { item_count (λ positions. positions) };
 
-    #[inline]
+    #[inline(always)]
     fn next(&mut self) -> Option<u32> {
         if self.bytes.is_empty() {
             return None;

@@ -14,7 +14,7 @@ pub struct ShortPosting {
     /// The gap of its document.
     pub gap: u32,
     /// The gap of its position, which is one above it.
-    pub position: u32,
+    pub position_gap: u32,
     /// How many bytes it takes.
     pub size: usize,
 }
@@ -26,8 +26,10 @@ pub struct ShortPosting {
 /// positions' gaps as many have one byte as two, so nothing branches on that.
 #[inline(always)]
 pub fn short_posting(bytes: &[u8]) -> Option<ShortPosting>
-    ensures found { IfSome result (λ posting. BeginsWithSingle bytes.now posting.gap posting.position posting.size) }
-    ensures none { IfNone result ((gap position : ℕ) (rest : List ℕ) → 5 ≤ length bytes.now → 0 < gap → gap < 2 ^ 14 → 0 < position → position < 2 ^ 14
+    ensures found { IfSome result (λ posting.
+        BeginsWithSingle bytes.now posting.gap posting.position_gap posting.size) }
+    ensures none { IfNone result ((gap position : ℕ) (rest : List ℕ) → 5 ≤ length bytes.now
+        → 0 < gap → gap < 2 ^ 14 → 0 < position → position < 2 ^ 14
         → bytes.now ≢ single_bytes gap position ++ rest) }
 {
     if bytes.len() < SHORT {
@@ -39,24 +41,24 @@ pub fn short_posting(bytes: &[u8]) -> Option<ShortPosting>
         if second != ONE {
             return None;
         }
-        let Some((position, size)) = short_code(bytes[2], bytes[3]) else {
+        let Some((position_gap, size)) = short_code(bytes[2], bytes[3]) else {
             return None;
         };
         return Some(ShortPosting {
             gap: u32::from(first - 128),
-            position,
+            position_gap,
             size: 2 + size,
         });
     }
     if first == 0 || first == 128 || second < 128 || bytes[2] != ONE {
         return None;
     }
-    let Some((position, size)) = short_code(bytes[3], bytes[4]) else {
+    let Some((position_gap, size)) = short_code(bytes[3], bytes[4]) else {
         return None;
     };
     Some(ShortPosting {
         gap: u32::from(first) * 128 + u32::from(second - 128),
-        position,
+        position_gap,
         size: 3 + size,
     })
 }
@@ -65,7 +67,8 @@ pub fn short_posting(bytes: &[u8]) -> Option<ShortPosting>
 #[inline(always)]
 fn short_code(first: u8, second: u8) -> Option<(u32, usize)>
     ensures found { IfSome result (λ code. IsShortCode first second code.0 code.1) }
-    ensures none { IfNone result ((first ≡ 0) ⊎ ((first ≡ 128) ⊎ ((first < 128) × (second < 128)))) }
+    ensures none { IfNone result ((first ≡ 0)
+        ⊎ ((first ≡ 128) ⊎ ((first < 128) × (second < 128)))) }
 {
     let high = u32::from(first % 128);
     let low = u32::from(second % 128);

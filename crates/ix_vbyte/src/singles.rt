@@ -21,7 +21,8 @@ pub(crate) struct Single {
 /// posting's bytes are asked for before these are there.
 #[inline(always)]
 pub(crate) fn single_posting(word: &[u8; WORD]) -> Option<Single>
-    ensures { IfSome result (λ single. (behind : List ℕ) → ReadsSingle (word.now ++ behind) single.gap single.start single.end) }
+    ensures { IfSome result (λ single. (behind : List ℕ)
+        → ReadsSingle (word.now ++ behind) single.gap single.start single.end) }
 {
     let bytes = u64::from_le_bytes(*word);
     let four = (bytes % (1 << 32)) as u32;

@@ -62,7 +62,7 @@ fn short_postings_are_found(rt: HostRuntime) {
         match short_posting(bytes) {
             Some(found) => {
                 assert_eq!(rt; found.gap, gap);
-                assert_eq!(rt; found.position, position);
+                assert_eq!(rt; found.position_gap, position);
                 assert_eq!(rt; found.size, size);
             }
             None => assert!(rt; false, "{bytes:?}"),

@@ -1,5 +1,5 @@
 //! Coded lists walked, and codes of each width passed over.
-ghost use Rattle.std.specs.Prelude.{IfOk};
+ghost use Rattle.std.specs.Prelude.{◌≡◌, [], ◌∷◌, IfOk};
 ghost use Rattle.ix_vbyte.specs.Walking.{IsCodedList};
 
 use crate::cursor::Postings;
@@ -8,7 +8,9 @@ use std::alloc::{AllocError, Global};
 use std::test::Fail;
 
 /// Documents 0, 1 and 3, with the positions 1; 0; 0 and 2.
-fn three_documents() -> Postings<'static> {
+fn three_documents() -> Postings<'static>
+    ensures { result ≡ (0, 1 ∷ []) ∷ (1, 0 ∷ []) ∷ (3, 0 ∷ 2 ∷ []) ∷ [] }
+{
     Postings::new(b"\x81\x81\x82\x81\x81\x81\x82\x82\x81\x82", 3)
 }
 
@@ -29,6 +31,23 @@ fn each_posting_in_order(rt: HostRuntime) -> Result<(), Fail> {
     assert!(rt; postings.next().is_none());
     assert!(rt; postings.next().is_none(), "the end stays the end");
     assert_eq!(rt; postings.len(), 0);
+    Ok(())
+}
+
+#[test]
+fn postings_counted_from_elsewhere(rt: HostRuntime) -> Result<(), Fail> {
+    let mut out = b"x".to_vec(rt.alloc())?;
+    three_documents().push_shifted(&mut out, 0, 0)?;
+    assert_eq!(rt;
+        &out[1..],
+        b"\x81\x81\x82\x81\x81\x81\x82\x82\x81\x82".as_slice()
+    );
+    out.clear();
+    three_documents().push_shifted(&mut out, 200, 5)?;
+    assert_eq!(rt;
+        out.as_slice(),
+        b"\x01\xc4\x81\x82\x81\x81\x81\x82\x82\x81\x82".as_slice()
+    );
     Ok(())
 }
 

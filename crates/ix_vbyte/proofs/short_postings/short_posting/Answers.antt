@@ -19,7 +19,7 @@ returns-in_default-clause-none c gap position rest long gap_some gap_fits positi
 pub returns-then-first-gt128-clause-found : goal.returns-then-first-gt128-clause-found
 returns-then-first-gt128-clause-found c =
     let bytes = c.args.bytes.now in
-    found_behind_one c.from.result c.in-Some.position c.in-Some.size bytes (omega (arith, c.if-bytes-lt-SHORT.false)) c.if-first-gt128.true (c.type_inv.bytes 0).fits (omega (arith, c.if-second.false)) (c.type_inv.bytes 2).fits (c.type_inv.bytes 3).fits
+    found_behind_one c.from.result c.in-Some.position_gap c.in-Some.size bytes (omega (arith, c.if-bytes-lt-SHORT.false)) c.if-first-gt128.true (c.type_inv.bytes 0).fits (omega (arith, c.if-second.false)) (c.type_inv.bytes 2).fits (c.type_inv.bytes 3).fits
     (omega (arith, c.from.ensures)) c.in-Some.ensures.found
 
 pub returns-then-first-eq0-clause-none : goal.returns-then-first-eq0-clause-none
@@ -42,5 +42,5 @@ returns-in_default-short_code-clause-none c gap position rest long gap_some gap_
 pub returns-clause-found : goal.returns-clause-found
 returns-clause-found c =
     let bytes = c.args.bytes.now in
-    found_behind_two _ c.in-Some-short_code.position c.in-Some-short_code.size bytes (omega (arith, c.if-bytes-lt-SHORT.false)) (omega (arith, c.if-first-eq0.false)) (omega (arith, c.if-first.false, c.if-first-gt128.false))
+    found_behind_two _ c.in-Some-short_code.position_gap c.in-Some-short_code.size bytes (omega (arith, c.if-bytes-lt-SHORT.false)) (omega (arith, c.if-first-eq0.false)) (omega (arith, c.if-first.false, c.if-first-gt128.false))
     (omega (arith, c.if-second-lt128.false)) (c.type_inv.bytes 1).fits (omega (arith, c.if-bytes.false)) (c.type_inv.bytes 3).fits (c.type_inv.bytes 4).fits (omega (arith, c.from-2.ensures, c.from-3.ensures)) c.in-Some-short_code.ensures.found
