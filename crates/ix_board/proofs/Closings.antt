@@ -30,7 +30,7 @@ use Rattle.ix_board.proofs.BoardLaws.{done_as_delivered}
 use Rattle.ix_board.proofs.DeskSteps.{held_after-append}
 use Rattle.ix_board.proofs.Endings.{ends, get-map}
 
-got-map : {A B : Type 0} (f : A → B) (xs : List A) (i : ℕ) (y : B) → slice_get (map f xs) i ≡ Some y → (x : A) × (slice_get xs i ≡ Some x) × (f x ≡ y)
+pub got-map : {A B : Type 0} (f : A → B) (xs : List A) (i : ℕ) (y : B) → slice_get (map f xs) i ≡ Some y → (x : A) × (slice_get xs i ≡ Some x) × (f x ≡ y)
 got-map f [] i y e = absurd (none-some y e)
 got-map f (x ∷ xs) zero y e = (x, refl, same_Some (f x) y e)
 got-map f (x ∷ xs) (suc i) y e = got-map f xs i y e
@@ -71,7 +71,7 @@ module _ {P : Type 0} where
       ends P b.count b.workers id u.members words slots len idle (subst U is (subst W same final))
 
   -- a desk that was handed back holds none
-  settled_holds_none : (d : DeskView P) → held_after (first_held d.board.count d.board.workers d.number) (settled d) ≡ None
+  pub settled_holds_none : (d : DeskView P) → held_after (first_held d.board.count d.board.workers d.number) (settled d) ≡ None
   settled_holds_none d = held_after-append (first_held d.board.count d.board.workers d.number) d.steps (last_steps (place_held d)) ∙ last_leaves P (place_held d)
 
   pub settled_are_idle : (b : BoardView) (desks : List (DeskView P)) → All (λ (d : DeskView P). d.board ≡ b) desks → AreIdle b (map settled_member desks)

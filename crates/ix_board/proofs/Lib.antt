@@ -3,6 +3,7 @@ pub mod BoardCalls
 pub mod BoardLaws
 pub mod Closings
 pub mod Counting
+pub mod DeskEnds
 pub mod DeskPlays
 pub mod DeskSteps
 pub mod Endings

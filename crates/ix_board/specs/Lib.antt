@@ -1,6 +1,7 @@
 pub mod Attempts
 pub mod Crews
 pub mod DeskFields
+pub mod DeskLaws
 pub mod Desks
 pub mod Ends
 pub mod Kept

@@ -63,7 +63,8 @@ impl<P> Board<P> {
         requires dealer { IsDealer self.now number dealer.old }
         requires number { number < self.now.workers }
         ensures dealer { IsDealer self.now (number + 1) dealer.new }
-        ensures seat { IsDeskSeat self.now (first_held self.now.count self.now.workers number) result }
+        ensures seat { IsDeskSeat self.now (first_held self.now.count self.now.workers number)
+            result }
         ensures worker { (number_in result.me.0 ≡ number) × (steps_in result.me.0 ≡ []) }
     {
         let mut seat = self.table.shared.split_seat::<Dealing>(dealer);
@@ -79,7 +80,8 @@ impl<P> Board<P> {
         requires free { held_in self.now seat.old.me.0 ≡ None }
         requires place { place < self.now.count }
         ensures table { seat.new.table_id ≡ seat.old.table_id }
-        ensures tried { seat.new.me ≡ after_try self.now.count self.now.workers (number_in seat.old.me.0) (steps_in seat.old.me.0) place result }
+        ensures tried { seat.new.me ≡ after_try self.now.count self.now.workers
+            (number_in seat.old.me.0) (steps_in seat.old.me.0) place result }
     {
         let found = self
             .table
@@ -94,7 +96,11 @@ impl<P> Board<P> {
         requires held { held_in self.now seat.old.me.0 ≡ Some place }
         requires place { place < self.now.count }
         ensures table { seat.new.table_id ≡ seat.old.table_id }
-        ensures done { seat.new.me ≡ (desk_crew self.now.count self.now.workers (number_in seat.old.me.0) (steps_in seat.old.me.0 ++ Deliver place piece ∷ []), []) }
+        ensures done { seat.new.me ≡ (
+          desk_crew self.now.count self.now.workers
+              (number_in seat.old.me.0) (steps_in seat.old.me.0 ++ Deliver place piece ∷ []),
+          [],
+        ) }
     {
         let before = self.table.shared.exchange(seat, place, Some(piece));
         let None = before else { unreachable!() };
@@ -109,7 +115,11 @@ impl<P> Board<P> {
         requires held { held_in self.now seat.old.me.0 ≡ Some place }
         requires place { place < self.now.count }
         ensures table { seat.new.table_id ≡ seat.old.table_id }
-        ensures left { seat.new.me ≡ (desk_crew self.now.count self.now.workers (number_in seat.old.me.0) (steps_in seat.old.me.0 ++ GiveUp place ∷ []), []) }
+        ensures left { seat.new.me ≡ (
+          desk_crew self.now.count self.now.workers
+              (number_in seat.old.me.0) (steps_in seat.old.me.0 ++ GiveUp place ∷ []),
+          [],
+        ) }
     {
         self.table
             .shared
@@ -131,7 +141,8 @@ impl<P> Board<P> {
         requires all { length seat.me.0.members ≡ self.workers }
         requires idle { AreIdle self seat.me.0.members }
         ensures slots { (slots_len result.slots ≡ self.count) × IsFull result.slots }
-        ensures ends { EndsWith self.count self.workers seat.me.0.members (slots_items result.slots) }
+        ensures ends { EndsWith self.count self.workers seat.me.0.members
+            (slots_items result.slots) }
         ensures workers { 0 < self.workers }
     {
         let Board { table } = self;

@@ -74,7 +74,8 @@ impl<P> Board<P> {
     pub fn close(self, desks: Vec<Desk<P>>) -> Vec<Option<P>>
         requires own { All (λ d. d.board ≡ self) desks.items }
         requires all { vec_len desks ≡ self.workers }
-        ensures { ClosesWith self desks.items result.items }
+        ensures closed { ClosesWith self desks.items result.items }
+        ensures as_many { vec_len result ≡ self.count }
     {
         let (seat, room) = gather(&self, desks);
         let closed = self.into_closed(seat);

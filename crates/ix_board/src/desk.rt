@@ -56,7 +56,8 @@ impl<P> Desk<P> {
     ) -> Desk<P>
         requires workers { workers ≡ board.now.workers }
         requires number { number < workers }
-        requires seat { IsDeskSeat board.now (first_held board.now.count board.now.workers number) seat }
+        requires seat { IsDeskSeat board.now (first_held board.now.count board.now.workers number)
+            seat }
         requires worker { (number_in seat.me.0 ≡ number) × (steps_in seat.me.0 ≡ []) }
         requires empty { room.items ≡ [] }
         requires room { number ≡ 0 → HasRoom board.now.count room }
@@ -72,9 +73,10 @@ impl<P> Desk<P> {
         }
     }
 
-    /// The place that the desk holds.
+    /// The place that the desk holds, which is one of its board.
     pub fn held(&self) -> Option<usize>
-        ensures { result ≡ place_held self.now }
+        ensures held { result ≡ place_held self.now }
+        ensures place { IfSome result (λ k. k < self.now.board.count) }
     {
         self.held
     }
@@ -102,7 +104,8 @@ impl<P> Desk<P> {
     pub fn claim(&mut self, board: &Board<P>) -> Option<usize>
         requires board { self.old.board ≡ board.now }
         requires free { place_held self.old ≡ None }
-        ensures some { IfSome result (λ k. (k < board.now.count) × LooksThenClaims self.old self.new k) }
+        ensures some { IfSome result (λ k. (k < board.now.count) × LooksThenClaims self.old self.new
+            k) }
         ensures none { IfNone result (LooksOnly self.old self.new × HasSeenAll self.new) }
         ensures held { place_held self.new ≡ result }
         ensures same { IsSameDesk self.old self.new }
@@ -122,7 +125,8 @@ impl<P> Desk<P> {
     pub fn deliver(&mut self, board: &Board<P>, piece: P)
         requires board { self.old.board ≡ board.now }
         requires held { IsSome (place_held self.old) }
-        ensures delivered { IfSome (place_held self.old) (λ k. self.new ≡ with_steps self.old (Deliver k piece ∷ [])) }
+        ensures delivered { IfSome (place_held self.old)
+            (λ k. self.new ≡ with_steps self.old (Deliver k piece ∷ [])) }
         ensures free { place_held self.new ≡ None }
         ensures same { IsSameDesk self.old self.new }
     {
@@ -137,7 +141,8 @@ impl<P> Desk<P> {
     pub fn give_up(&mut self, board: &Board<P>)
         requires board { self.old.board ≡ board.now }
         requires held { IsSome (place_held self.old) }
-        ensures given_up { IfSome (place_held self.old) (λ k. self.new ≡ with_steps self.old (GiveUp k ∷ [])) }
+        ensures given_up { IfSome (place_held self.old)
+            (λ k. self.new ≡ with_steps self.old (GiveUp k ∷ [])) }
         ensures free { place_held self.new ≡ None }
         ensures same { IsSameDesk self.old self.new }
     {

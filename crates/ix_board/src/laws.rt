@@ -1,5 +1,6 @@
 //! The laws of the machine, over every possible run. The functions do nothing: what they ensure is a fact about the definitions.
 ghost use Rattle.ix_board.specs.Laws.{HeldAsOwnStepsTell, HeldByOne, NeverOpenAgain, DoneKeepsItsPiece, ClaimedOnce, FinishedOnce, DoneAsDelivered, SeenIsNotOpen};
+ghost use Rattle.ix_board.specs.DeskLaws.{FinishedByDesks, NoneHeldAtTheEnd};
 
 /// What a worker holds follows from its own steps, and no place is ever held by two workers.
 pub fn held_by_one<P>()
@@ -31,4 +32,11 @@ pub fn finished_once<P>()
 /// What a worker has seen is not open: the places that it looked at, claimed or held first.
 pub fn seen_is_not_open<P>()
     ensures { SeenIsNotOpen P }
+{}
+
+/// Once all desks were handed back, no place is held, and over all desks together each place was delivered or given up
+/// once where it is done or given up, and never where it is open.
+pub fn finished_by_desks<P>()
+    ensures none_held { NoneHeldAtTheEnd P }
+    ensures finished { FinishedByDesks P }
 {}

@@ -18,8 +18,8 @@ mod tour;
 pub use board::Board;
 pub use desk::Desk;
 pub use laws::{
-    claimed_once, done_keeps_its_piece, finished_once, held_by_one, never_open_again,
-    seen_is_not_open,
+    claimed_once, done_keeps_its_piece, finished_by_desks, finished_once, held_by_one,
+    never_open_again, seen_is_not_open,
 };
 pub use memory::Memory;
 pub use step::Step;

@@ -19,7 +19,8 @@ impl Tour {
     /// there are workers.
     pub fn of_worker(count: usize, workers: usize, number: usize) -> Tour
         requires { number < workers }
-        ensures { (result.count ≡ count) × (result.left ≡ count) × (result.next ≤ count) × (result.own ≡ number) }
+        ensures { (result.count ≡ count) × (result.left ≡ count) × (result.next ≤ count)
+            × (result.own ≡ number) }
     {
         let section = count / workers;
         Tour {
@@ -32,9 +33,12 @@ impl Tour {
 
     // The next place of the circle, or none where each was passed.
     fn pass(&mut self) -> Option<usize>
-        ensures same { (self.new.count ≡ self.old.count) × (self.new.own ≡ self.old.own) × (self.new.left ≤ self.old.left) }
-        ensures some { IfSome result (λ k. (k < self.old.count) × (self.new.left + 1 ≡ self.old.left)) }
-        ensures passes { (j : ℕ) → j < self.old.count → HasPassed self.new j → (result ≡ Some j) ⊎ HasPassed self.old j }
+        ensures same { (self.new.count ≡ self.old.count) × (self.new.own ≡ self.old.own)
+            × (self.new.left ≤ self.old.left) }
+        ensures some { IfSome result (λ k. (k < self.old.count)
+            × (self.new.left + 1 ≡ self.old.left)) }
+        ensures passes { (j : ℕ) → j < self.old.count → HasPassed self.new j → (result ≡ Some j)
+            ⊎ HasPassed self.old j }
         ensures none { IfNone result ((j : ℕ) → j < self.old.count → HasPassed self.new j) }
     {
         if self.left == 0 {
@@ -52,9 +56,12 @@ impl Tour {
 
     /// The next place that is not its own, or none where each was passed.
     pub fn next_place(&mut self) -> Option<usize>
-        ensures same { (self.new.count ≡ self.old.count) × (self.new.own ≡ self.old.own) × (self.new.left ≤ self.old.left) }
-        ensures some { IfSome result (λ k. (k < self.old.count) × (self.new.left + 1 ≤ self.old.left)) }
-        ensures passes { (j : ℕ) → j < self.old.count → HasPassed self.new j → (result ≡ Some j) ⊎ (j ≡ self.old.own) ⊎ HasPassed self.old j }
+        ensures same { (self.new.count ≡ self.old.count) × (self.new.own ≡ self.old.own)
+            × (self.new.left ≤ self.old.left) }
+        ensures some { IfSome result (λ k. (k < self.old.count)
+            × (self.new.left + 1 ≤ self.old.left)) }
+        ensures passes { (j : ℕ) → j < self.old.count → HasPassed self.new j → (result ≡ Some j)
+            ⊎ (j ≡ self.old.own) ⊎ HasPassed self.old j }
         ensures none { IfNone result ((j : ℕ) → j < self.old.count → HasPassed self.new j) }
     {
         let Some(place) = self.pass() else {

@@ -1,4 +1,4 @@
-use Rattle.std.proofs.Common.{◌≡◌, List, length, sym, subst, arith}
+use Rattle.std.proofs.Common.{◌≡◌, List, length, sym, ap, subst, arith}
 use Rattle.std.specs.Prelude.{Option, Vec}
 use Rattle.ix_board.specs.declared.rule.Member.{Member}
 use Rattle.ix_board.specs.Desks.{ClosesWith}
@@ -22,9 +22,14 @@ unreachable-requires g c =
     let R : Option (Vec (Option g.row.P.Denot) _) → Type 0 = λ o. RoomAmong c.args.self.count c.args.desks.items o in
     no_room_missing c.args.self c.args.desks.items _ ended len c.into_closed-closed.ensures.workers (subst R c.in_default.is c.gather-seat.ensures.room)
 
-pub returns : goal.returns
-returns g c =
+pub returns-clause-closed : goal.returns-clause-closed
+returns-clause-closed g c =
     let E : List (Member g.row.P.Denot) → Type 0 = λ ms. EndsWith c.args.self.count c.args.self.workers ms (slots_items c.into_closed-closed.result.slots) in
     let ended = subst E (λ i. (c.gather-seat.ensures.seat.1 i).0.members) c.into_closed-closed.ensures.ends in
     let len : length c.args.desks.items ≡ c.args.self.workers = omega (arith, c.args.desks.ok.0, c.requires.all) in
     subst (ClosesWith c.args.self c.args.desks.items) (sym c.take_pieces.ensures) (closes c.args.self c.args.desks.items _ ended len)
+
+pub returns-clause-as_many : goal.returns-clause-as_many
+returns-clause-as_many g c =
+    let items : length c.take_pieces.result.items ≡ length (slots_items c.into_closed-closed.result.slots) = ap length c.take_pieces.ensures in
+    omega (arith, c.take_pieces.result.ok.0, c.into_closed-closed.ensures.slots.0)
