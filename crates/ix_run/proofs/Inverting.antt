@@ -96,4 +96,4 @@ terms_shown occurrences (term ∷ terms) each =
     (terms_shown occurrences terms (All-tail (λ c. IsCoded c (postings_of (string_bytes c.term) occurrences)) term terms each))
   where
     same : IsCoded term (postings_of (string_bytes term.term) occurrences) → term_shown term ≡ coded (entry_of occurrences term)
-    same is = λ i. record { term = string_bytes term.term; documents = is.documents i; list = is.list i }
+    same is = λ i. record { term = string_bytes term.term; documents = is.documents i; last = is.last i; list = is.list i }

@@ -6,6 +6,7 @@ pub mod Fronts
 pub mod HeadLemmas
 pub mod InputLemmas
 pub mod Inverting
+pub mod ListSteps
 pub mod OrderLemmas
 pub mod PieceLemmas
 pub mod PositionLemmas
@@ -28,4 +29,5 @@ pub mod SpelledLemmas
 pub mod StopTermLemmas
 pub mod TermLemmas
 pub mod TextLaws
+pub mod WholeLists
 pub mod Writing

@@ -26,7 +26,7 @@ use Rattle.ix_run.specs.Sources.{AreWhole, closed, entry_with, extended}
 use Rattle.ix_run.proofs.Fronts.{whole_front}
 use Rattle.ix_run.proofs.OrderLemmas.{stands_above}
 use Rattle.ix_run.proofs.ReadFronts.{AreRising, numbers_more, rising_next, rising_of}
-use Rattle.ix_run.proofs.RunSources.{codable}
+use Rattle.ix_run.proofs.WholeLists.{codable}
 
 -- ---- the same whole, one step on
 

@@ -18,12 +18,12 @@ use Rattle.ix_run.specs.Reading.{BeginsFirst, Faces, GivesFirst, HasRead, IsDrai
 use Rattle.ix_run.specs.RunFiles.{GivesTerm, HasBegun, ReadsAll}
 use Rattle.ix_run.specs.RunSources.{heading_shown}
 use Rattle.ix_run.specs.RunText.{IsRunText, run_layout}
-use Rattle.ix_run.specs.Runs.{IsRun, IsRunOf, RunValue, TermValue, coded, run_bytes, run_value}
+use Rattle.ix_run.specs.Runs.{IsRun, IsRunOf, RunValue, TermValue, coded, last_document, run_bytes, run_value}
 use Rattle.ix_run.specs.Sources.{AreWhole, BeginsTerm, EndsPostings, EndsTerms, GivesPosting, closed, entry_with, extended}
 use Rattle.ix_run.specs.declared.run_reader.RunReader.{RunReader}
 use Rattle.ix_run.proofs.ReadFronts.{extended-nil}
 use Rattle.ix_run.proofs.RunSizes.{spelled}
-use Rattle.ix_run.proofs.RunSources.{codable}
+use Rattle.ix_run.proofs.WholeLists.{codable}
 
 -- What a loop over the postings of a term keeps: those that were given, coded.
 pub record TakesList {R : Type 0} (remaining : R → Option (List ℕ)) (old now : RunReader R) (next documents : ℕ) (list : List ℕ) : Type 0 where
@@ -111,15 +111,17 @@ module _ {R : Type 0} (remaining : R → Option (List ℕ)) where
     }
 
   -- the list is at its end
-  pub list_all : (old now new : RunReader R) (next documents : ℕ) (list term : List ℕ) → TakesList remaining old now next documents list → term_of old ≡ Some term → IsDrained new
+  pub list_all : (old now new : RunReader R) (next documents last : ℕ) (list term : List ℕ) → TakesList remaining old now next documents list → last ≡ next - 1 → term_of old ≡ Some term → IsDrained new
       → EndsPostings (MayYield remaining) HasRead now new
       → ((postings : List Posting) (entries : List DictionaryEntry) → Faces remaining now postings entries → (postings ≡ []) × Faces remaining new [] entries)
-      → GivesTerm remaining old new (record { term = term; documents = documents; list = list })
-  list_all old now new next documents list term takes at_hand drained ends accepted = record {
+      → GivesTerm remaining old new (record { term = term; documents = documents; last = last; list = list })
+  list_all old now new next documents last list term takes is_last at_hand drained ends accepted = record {
     term = term;
     postings = takes.told;
     at_hand = at_hand;
-    shown = ap₂ (λ (d : ℕ) (bytes : List ℕ). let value : TermValue = record { term = term; documents = d; list = bytes } in value) takes.counted takes.coded;
+    shown =
+        ap (λ (n : ℕ). let value : TermValue = record { term = term; documents = documents; last = n; list = list } in value) (is_last ∙ ap (λ (n : ℕ). n - 1) takes.near)
+        ∙ ap₂ (λ (d : ℕ) (bytes : List ℕ). let value : TermValue = record { term = term; documents = d; last = last_document takes.told; list = bytes } in value) takes.counted takes.coded;
     drained = drained;
     yielded = λ entries may.
         subst (λ (ps : List Posting). MayYield remaining old ps entries) (append-nil takes.told) (takes.yielded [] entries (ends.yielded [] entries may).1);

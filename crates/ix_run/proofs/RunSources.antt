@@ -1,30 +1,22 @@
 -- A run in memory as a source, step by step.
-use Rattle.std.proofs.Common.{◌≡◌, ◌≢◌, ℕ, ◌-◌, ◌^◌, ◌<◌, List, [], ◌∷◌, ◌++◌, length, map, get_or, All, Option, Some, None, IsSome, option_map, refl, sym, ap, ap₂, subst, ◌∙◌, arith, length-append}
-use Rattle.std.proofs.lemmas.List.{append_assoc, length-map}
-use Rattle.std.proofs.lemmas.List.Elements.{All-contains, All-head, All-tail, All-weaker, Contains-append_left, Contains-push}
+use Rattle.std.proofs.Common.{◌≡◌, ◌≢◌, ℕ, ◌+◌, ◌-◌, ◌^◌, ◌<◌, ◌≤◌, List, [], ◌∷◌, ◌++◌, length, map, Option, Some, None, IsSome, option_map, refl, sym, ap, ap₂, subst, ◌∙◌, arith, length-append}
+use Rattle.std.proofs.lemmas.List.{append_assoc, append-nil, length-map}
+use Rattle.std.proofs.lemmas.List.Elements.{All-contains, All-head, All-tail, Contains-append_left, Contains-push}
 use Rattle.ix_text.specs.Collections.{Collection}
 use Rattle.ix_text.specs.Parts.{DictionaryEntry, Posting, ArePartsOf, row_of}
-use Rattle.ix_text.specs.PartsLaws.{IsLawfulTerm, LiesBelow}
-use Rattle.ix_text.proofs.PartsLawful.{lawful_parts, postings_below}
+use Rattle.ix_text.specs.PartsLaws.{IsLawfulTerm}
+use Rattle.ix_text.proofs.PartsLawful.{lawful_parts}
 use Rattle.ix_text.proofs.PartsLemmas.{same_entry_fields}
-use Rattle.ix_vbyte.specs.Postings.{ArePostings, list_bytes}
+use Rattle.ix_vbyte.specs.Gaps.{next_after}
+use Rattle.ix_vbyte.specs.Postings.{ArePostings, documents_of, list_bytes, list_bytes_from, shifted}
 use Rattle.ix_vbyte.specs.Walking.{IsCodedList}
-use Rattle.ix_vbyte.proofs.Sizes.{postings_from}
+use Rattle.ix_vbyte.proofs.Gaps.{length-Ascends, next_after-le}
 use Rattle.ix_run.specs.Heads.{Heading, parts_with}
-use Rattle.ix_run.specs.Runs.{IsRunOf, RunValue, TermValue, coded, run_value}
-use Rattle.ix_run.specs.RunSources.{AreCoded, HasGiven, HasLeft, IsAtEndOfTerm, IsAtPlace, SourceValue, heading_shown, unread}
-use Rattle.ix_run.specs.Sources.{AreWhole, BeginsTerm, EndsPostings, EndsTerms, GivesPosting, closed, entry_with, extended}
+use Rattle.ix_run.specs.Runs.{IsRunOf, RunValue, TermValue, coded, last_document, run_value}
+use Rattle.ix_run.specs.RunSources.{AreCoded, EndsAt, HasGiven, HasLeft, IsAtEndOfTerm, IsAtPlace, SourceValue, heading_shown, unread}
+use Rattle.ix_run.specs.Sources.{AreWhole, BeginsTerm, EndsPostings, EndsTerms, GivesList, GivesPosting, closed, entry_with, extended}
 use Rattle.ix_run.proofs.Fronts.{front_lawful}
-
--- the lists of a lawful dictionary can be coded
-pub codable : (heading : Heading) (entries : List DictionaryEntry) → AreWhole heading entries → All (λ entry. ArePostings 0 (2 ^ 32 - 1) entry.postings) entries
-codable heading entries whole k d within =
-    let entry = get_or entries k d in
-    let is : IsLawfulTerm (parts_with heading entries) entry = whole.lawful.terms k d within in
-    let below = postings_below (parts_with heading entries) whole.lawful k d within in
-    postings_from (2 ^ 32 - 1) entry.postings is.ordered.ascending is.ordered.each
-    (All-weaker (LiesBelow (2 ^ 28)) (LiesBelow (2 ^ 32 - 1))
-    (λ posting low. (let d = low.0 in omega arith, All-weaker (λ p. p < 2 ^ 28) (λ p. p < 2 ^ 32 - 1) (λ p l. omega arith) posting.1 low.1)) entry.postings below)
+use Rattle.ix_run.proofs.WholeLists.{codable, list_below, postings_behind, shift_after, shift_postings}
 
 -- what is none is nothing
 some_none : {A : Type 0} {P : Type 0} (o : Option A) (x : A) → o ≡ Some x → o ≡ None → P
@@ -273,7 +265,7 @@ module _ (heading : Heading) (all : List TermValue) (term : Option (List ℕ)) (
         subst Q (sym same) (placed_begun heading value values term left postings told (subst P is at))
 
 -- the coded list of no posting tells none
-pub no_postings : (postings : List Posting) → ToldBy (record { term = []; documents = 0; list = [] }) postings → postings ≡ []
+pub no_postings : (postings : List Posting) → ToldBy (record { term = []; documents = 0; last = 0; list = [] }) postings → postings ≡ []
 no_postings postings told = told [] (record { documents = tt; each = λ k d within. absurd (omega arith) }) refl refl
 
 -- of which nothing was asked yet
@@ -298,3 +290,120 @@ module _ (heading : Heading) (terms : List TermValue) (term : Option (List ℕ))
       by : (t : Option (List ℕ)) → term ≡ t → IsSome term → IsAtPlace (record { heading = heading; terms = terms; term = term; postings = posting ∷ left }) → IsAtPlace (record { heading = heading; terms = terms; term = term; postings = left })
       by None none some at = absurd (none_is_some term none some)
       by (Some text) same some at = placed_next heading terms term posting left text same at
+
+-- ---- the last document of what is left
+after_some : (next : ℕ) (xs : List ℕ) → 0 < next → 0 < next_after next xs
+after_some next [] some = some
+after_some next (x ∷ xs) some = after_some (x + 1) xs (omega arith)
+
+last_of_all : (postings : List Posting) → EndsAt (last_document postings) postings
+last_of_all [] some = absurd (omega arith)
+last_of_all (p ∷ ps) some = let above = after_some (p.0 + 1) (documents_of ps) (omega arith) in omega (arith, above)
+
+pub ends_none : (last : ℕ) (postings : List Posting) → postings ≡ [] → EndsAt last postings
+ends_none last postings none some = absurd (let e = ap length none in omega (arith, e, some))
+
+pub ends_begun : (all : List TermValue) (value : TermValue) (values : List TermValue) (rest : List DictionaryEntry) (postings : List Posting) (last : ℕ) → all ≡ value ∷ values → AreCoded all rest
+    → ToldBy value postings → last ≡ value.last → EndsAt last postings
+ends_begun all value values rest postings last is left told same =
+    let P : List TermValue → Type 0 = λ values. AreCoded values rest in
+    let first = first_entry value values rest (subst P is left) in
+    let listed : postings ≡ first.entry.postings = told_postings value postings first.entry told first.is first.are in
+    let at : last_document postings ≡ last = ap last_document listed ∙ sym (ap (λ (v : TermValue). v.last) first.is) ∙ sym same in
+    subst (λ (n : ℕ). EndsAt n postings) at (last_of_all postings)
+
+pub ends_next : (last : ℕ) (postings left : List Posting) (posting : Posting) → postings ≡ posting ∷ left → EndsAt last postings → EndsAt last left
+ends_next last postings left posting is at = by left (subst (EndsAt last) is at)
+  where
+    by : (ps : List Posting) → EndsAt last (posting ∷ ps) → EndsAt last ps
+    by [] at some = absurd (omega arith)
+    by (q ∷ qs) at some = at (omega arith)
+
+-- ---- all that is left of a list
+-- what is known of the postings that are left, so that they can be counted from elsewhere
+pub record CanShift (first next last : ℕ) (postings : List Posting) : Type 0 where
+  pub are : ArePostings next (2 ^ 32 - 1) (shifted first postings)
+  pub fits : 0 < length postings → first + last + 1 < 2 ^ 32
+  pub after : 0 < length postings → next_after next (documents_of (shifted first postings)) ≡ first + last + 1
+  pub few : length postings < 2 ^ 32
+
+pub can_shift : (source now : SourceValue) (last next : ℕ) → source ≡ now → IsAtPlace source → EndsAt last source.postings → IsSome now.term → next ≤ now.heading.first
+    → CanShift source.heading.first next last source.postings
+can_shift source now last next same at ends some low = by at.at_hand at.given
+  where
+    here : next ≤ source.heading.first
+    here = subst (λ (s : SourceValue). next ≤ s.heading.first) (sym same) low
+
+    from_entry : (entry : DictionaryEntry) → HasGiven source at.finished (Some entry) → CanShift source.heading.first next last source.postings
+    from_entry entry given =
+        let above : next ≤ source.heading.first = here in
+        let within : source.heading.first + length source.heading.rows ≤ 2 ^ 28 = given.whole.within in
+        let whole = list_below source.heading at.finished (extended entry source.postings) given.rest given.whole in
+        let left = postings_behind 0 (2 ^ 28) entry.postings source.postings whole in
+        let count = length-Ascends 0 (2 ^ 28) (documents_of source.postings) (omega arith) left.documents in
+        let below = next_after-le 0 (2 ^ 28) (documents_of source.postings) (omega arith) left.documents in
+        record {
+          are = shift_postings source.heading.first 0 (2 ^ 28) next (2 ^ 32 - 1) source.postings (omega arith) (omega arith) left;
+          fits = λ any. let e = ends any in omega (arith, e, below, within);
+          after = λ any. let e = ends any in let f = shift_after source.heading.first next 0 source.postings any in omega (arith, e, f);
+          few = omega (arith, count, length-map source.postings (λ (p : Posting). p.0));
+        }
+
+    by : (at_hand : Option DictionaryEntry) → HasGiven source at.finished at_hand → CanShift source.heading.first next last source.postings
+    by None given = absurd (none_is_some source.term (sym given.of_term) (subst (λ (s : SourceValue). IsSome s.term) (sym same) some))
+    by (Some entry) given = from_entry entry given
+
+module _ (heading : Heading) (terms : List TermValue) (term : Option (List ℕ)) (postings : List Posting) where
+  abbrev listing : SourceValue
+  listing = record { heading = heading; terms = terms; term = term; postings = postings }
+
+  given_listed : (finished : List DictionaryEntry) (entry : DictionaryEntry) → HasGiven listing finished (Some entry) → HasGiven (drained heading terms term) finished (Some (extended entry postings))
+  given_listed finished entry given =
+      has_given (drained heading terms term) finished (Some (extended entry postings)) given.rest
+      (subst (AreWhole heading) (ap (λ ps. (finished ++ entry_with entry.term ps ∷ []) ++ given.rest) (sym (append-nil (entry.postings ++ postings)))) given.whole)
+      given.left given.of_term
+
+  step_listed : (first from documents to : ℕ) (bytes more : List ℕ) → documents ≡ length postings → to ≡ next_after from (documents_of (shifted first postings))
+      → more ≡ bytes ++ list_bytes_from from (shifted first postings) → GivesList HasLeft HasGiven listing (drained heading terms term) first from documents to bytes more
+  step_listed first from documents to bytes more count last coded = record {
+    postings = postings;
+    yielded = λ ps entries has. (has.of_term, record { of_term = refl; behind = has.behind });
+    given = λ finished entry given. let now = given_listed finished entry given in (now, some_given heading terms term finished (extended entry postings) now);
+    count = count;
+    last = last;
+    coded = coded;
+  }
+
+  place_listed : IsSome term → IsAtPlace listing → IsAtPlace (drained heading terms term)
+  place_listed some at = by at.at_hand at.given
+    where
+      by : (at_hand : Option DictionaryEntry) → HasGiven listing at.finished at_hand → IsAtPlace (drained heading terms term)
+      by None given = absurd (none_is_some term (sym given.of_term) some)
+      by (Some entry) given = record { finished = at.finished; at_hand = Some (extended entry postings); given = given_listed at.finished entry given; none = λ e. refl }
+
+  module _ (now : SourceValue) (same : listing ≡ now) (left : List Posting) (none : left ≡ []) where
+    abbrev behind_list : SourceValue
+    behind_list = record { heading = heading; terms = terms; term = term; postings = left }
+
+    -- to the end of the list
+    pub step_list : (from documents to : ℕ) (bytes more : List ℕ) → documents ≡ length postings → to ≡ next_after from (documents_of (shifted heading.first postings))
+        → more ≡ bytes ++ list_bytes_from from (shifted heading.first postings) → GivesList HasLeft HasGiven now behind_list now.heading.first from documents to bytes more
+    step_list from documents to bytes more count last coded =
+        let P : SourceValue → Type 0 = λ old. GivesList HasLeft HasGiven old behind_list old.heading.first from documents to bytes more in
+        let Q : List Posting → Type 0 = λ ps. GivesList HasLeft HasGiven listing (record { heading = heading; terms = terms; term = term; postings = ps }) heading.first from documents to bytes more in
+        subst P same (subst Q (sym none) (step_listed heading.first from documents to bytes more count last coded))
+
+    pub place_list : IsSome now.term → IsAtPlace listing → IsAtPlace behind_list
+    place_list some at =
+        let Q : List Posting → Type 0 = λ ps. IsAtPlace (record { heading = heading; terms = terms; term = term; postings = ps }) in
+        let at_hand : IsSome term = subst (λ (s : SourceValue). IsSome s.term) (sym same) some in
+        subst Q (sym none) (place_listed at_hand at)
+
+-- of a list of which nothing is left nothing is given
+pub step_no_list : (heading : Heading) (terms : List TermValue) (term : Option (List ℕ)) (postings : List Posting) (now : SourceValue)
+    → record { heading = heading; terms = terms; term = term; postings = postings } ≡ now → (from : ℕ) (bytes : List ℕ) → length postings ≡ 0
+    → GivesList HasLeft HasGiven now now now.heading.first from 0 from bytes bytes
+step_no_list heading terms term (p ∷ ps) now same from bytes none = absurd (omega arith)
+step_no_list heading terms term [] now same from bytes none =
+    let P : SourceValue → Type 0 = λ s. GivesList HasLeft HasGiven s s s.heading.first from 0 from bytes bytes in
+    subst P same (step_listed heading terms term [] heading.first from 0 from bytes bytes refl refl (sym (append-nil bytes)))

@@ -1,7 +1,8 @@
 -- A run in memory as a source of its postings: what is left of it.
-use Rattle.std.specs.Prelude.{◌≡◌, ◌≢◌, ℕ, ◌-◌, ◌^◌, List, [], ◌++◌, map, All, Option, None, option_map}
+use Rattle.std.specs.Prelude.{◌≡◌, ◌≢◌, ℕ, ◌+◌, ◌-◌, ◌^◌, ◌<◌, List, [], ◌∷◌, ◌++◌, map, length, All, Option, None, option_map}
 use Rattle.ix_text.specs.Parts.{DictionaryEntry, Posting}
-use Rattle.ix_vbyte.specs.Postings.{ArePostings}
+use Rattle.ix_vbyte.specs.Gaps.{next_after}
+use Rattle.ix_vbyte.specs.Postings.{ArePostings, documents_of}
 use Rattle.ix_run.specs.Heads.{Heading}
 use Rattle.ix_run.specs.Runs.{RunValue, TermValue, coded}
 use Rattle.ix_run.specs.Sources.{AreWhole, IsLawfulFront, closed}
@@ -47,6 +48,17 @@ IsAtEndOfTerm source = source.term ≢ None → source.postings ≡ []
 -- no term is left, and none is at hand
 abbrev pub IsAtEnd : SourceValue → Type 0
 IsAtEnd source = (source.terms ≡ []) × (source.term ≡ None)
+
+-- The first of the postings has more positions than this.
+pub record FirstExceeds (room : ℕ) (postings : List Posting) : Type 0 where
+  pub posting : Posting
+  pub others : List Posting
+  pub parts : postings ≡ posting ∷ others
+  pub more : room < length posting.1
+
+-- the last of the postings that are left, where one is, is of this document
+abbrev pub EndsAt : ℕ → List Posting → Type 0
+EndsAt last postings = 0 < length postings → next_after 0 (documents_of postings) ≡ last + 1
 
 -- What a run in memory is at any time: at some place of a lawful dictionary.
 pub record IsAtPlace (source : SourceValue) : Type 0 where

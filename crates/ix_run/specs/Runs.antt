@@ -1,20 +1,22 @@
 -- What a run is of a collection: its head, and each term's list coded as the run text has it.
-use Rattle.std.specs.Prelude.{◌≡◌, ℕ, ◌+◌, ◌^◌, ◌≤◌, ◌<◌, ◌⊎◌, List, [], ◌∷◌, ◌++◌, map, length, flat_map, codes, string_bytes}
+use Rattle.std.specs.Prelude.{◌≡◌, ℕ, ◌+◌, ◌-◌, ◌^◌, ◌≤◌, ◌<◌, ◌⊎◌, List, [], ◌∷◌, ◌++◌, map, length, flat_map, codes, string_bytes}
 use Rattle.std.specs.Int.{to_le_bytes, w32}
 use Rattle.ix_text.specs.Collections.{Collection, IsLawful, token_count}
-use Rattle.ix_text.specs.Parts.{Parts, DictionaryEntry, DocumentRow, ArePartsOf}
+use Rattle.ix_text.specs.Parts.{Parts, DictionaryEntry, DocumentRow, Posting, ArePartsOf}
 use Rattle.ix_vbyte.specs.Code.{code_of}
-use Rattle.ix_vbyte.specs.Postings.{list_bytes}
+use Rattle.ix_vbyte.specs.Gaps.{next_after}
+use Rattle.ix_vbyte.specs.Postings.{documents_of, list_bytes}
 use Rattle.ix_vbyte.specs.Texts.{counted}
 use Rattle.ix_run.specs.Heads.{row_of_doc}
 use Rattle.ix_run.specs.RunText.{row_bytes}
 use Rattle.ix_run.specs.declared.head.RunHead.{RunHead}
 use Rattle.ix_run.specs.declared.coded_term.CodedTerm.{CodedTerm}
 
--- a term, the number of its documents, and the bytes of its list
+-- a term, the number of its documents, the last of them, and the bytes of its list
 pub record TermValue : Type 0 where
   pub term : List ℕ
   pub documents : ℕ
+  pub last : ℕ
   pub list : List ℕ
 
 -- the first document's number, the stop terms, the rows of the documents, and the terms
@@ -26,15 +28,19 @@ pub record RunValue : Type 0 where
 
 -- a term of a run as its value
 abbrev pub term_shown : CodedTerm → TermValue
-term_shown coded = record { term = string_bytes coded.term; documents = coded.documents; list = coded.list.items }
+term_shown coded = record { term = string_bytes coded.term; documents = coded.documents; last = coded.last; list = coded.list.items }
 
 -- a run of this head and these terms
 abbrev pub head_value : RunHead → List CodedTerm → RunValue
 head_value head terms = record { first = head.first; stop = head.stop; rows = map row_of_doc head.docs.items; terms = map term_shown terms }
 
+-- the last document of some postings, and 0 where there is none
+abbrev pub last_document : List Posting → ℕ
+last_document postings = next_after 0 (documents_of postings) - 1
+
 -- a dictionary entry with its list coded
 abbrev pub coded : DictionaryEntry → TermValue
-coded entry = record { term = entry.term; documents = length entry.postings; list = list_bytes entry.postings }
+coded entry = record { term = entry.term; documents = length entry.postings; last = last_document entry.postings; list = list_bytes entry.postings }
 
 -- the run of these parts
 abbrev pub run_value : ℕ → Parts → RunValue

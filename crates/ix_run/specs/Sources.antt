@@ -4,6 +4,8 @@ use Rattle.ix_text.specs.ByteOrder.{IsAscending}
 use Rattle.ix_text.specs.Parts.{DictionaryEntry, Posting, terms_of}
 use Rattle.ix_text.specs.PartsLaws.{AreLawful}
 use Rattle.ix_text.specs.Terms.{IsTerm}
+use Rattle.ix_vbyte.specs.Gaps.{next_after}
+use Rattle.ix_vbyte.specs.Postings.{documents_of, list_bytes_from, shifted}
 use Rattle.ix_run.specs.Heads.{Heading, parts_with}
 
 -- a term with these postings
@@ -83,3 +85,17 @@ pub record EndsPostings {Source : Type 0} (yields : Yielding Source) (gives : Gi
       → (postings ≡ []) × yields old [] entries
   pub given : (finished : List DictionaryEntry) (entry : DictionaryEntry) → gives old finished (Some entry)
       → gives new finished (Some entry) × (0 < length entry.postings)
+
+-- From the old state to the new one a source gave all postings of the term at hand that were left, coded behind the
+-- bytes `before`: their documents counted from `first` on, the first gap taken from `from`, which is one above the
+-- document before them, and `to` one above the last of them, or `from` where there was none.
+pub record GivesList {Source : Type 0} (yields : Yielding Source) (gives : Giving Source) (old new : Source)
+    (first from documents to : ℕ) (before after : List ℕ) : Type 0 where
+  pub postings : List Posting
+  pub yielded : (rest : List Posting) (entries : List DictionaryEntry) → yields new rest entries
+      → (rest ≡ []) × yields old postings entries
+  pub given : (finished : List DictionaryEntry) (entry : DictionaryEntry) → gives old finished (Some entry)
+      → gives new finished (Some (extended entry postings)) × (0 < length (entry.postings ++ postings))
+  pub count : documents ≡ length postings
+  pub last : to ≡ next_after from (documents_of (shifted first postings))
+  pub coded : after ≡ before ++ list_bytes_from from (shifted first postings)

@@ -7,6 +7,8 @@ pub(crate) struct CodedTerm {
     pub(crate) term: String,
     /// How many documents have it.
     pub(crate) documents: u32,
+    /// The last of these documents.
+    pub(crate) last: u32,
     /// Its postings, as the run text has them, documents counted from 0 within the run.
     pub(crate) list: Vec<u8>,
 }

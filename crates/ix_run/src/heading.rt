@@ -36,11 +36,14 @@ pub(crate) fn read_head<R: Read>(
     alloc: Global,
     input: &mut Input<R>,
 ) -> Result<RunHead, RunTextError>
-    ensures taken { IfOk result (λ head. Consumes (known_left R.remaining input.old) (known_left R.remaining input.new) (heading_bytes (heading_of head))) }
+    ensures taken { IfOk result (λ head.
+        Consumes (known_left R.remaining input.old) (known_left R.remaining input.new)
+        (heading_bytes (heading_of head))) }
     ensures lawful { IfOk result (λ head. IsLawfulHeading (heading_of head)) }
     ensures accepted { (heading : Heading) (rest : List ℕ) → IsLawfulHeading heading
         → known_left R.remaining input.old ≡ Some (heading_bytes heading ++ rest)
-        → MatchResult result (λ head. (heading_of head ≡ heading) × (known_left R.remaining input.new ≡ Some rest)) IsRefusal }
+        → MatchResult result (λ head. (heading_of head ≡ heading)
+        × (known_left R.remaining input.new ≡ Some rest)) IsRefusal }
 {
     read_magic(alloc, input)?;
     let first = fixed(alloc, input)?;
@@ -55,8 +58,10 @@ pub(crate) fn read_head<R: Read>(
 
 /// Takes the first eight bytes.
 fn read_magic<R: Read>(alloc: Global, input: &mut Input<R>) -> Result<(), RunTextError>
-    ensures taken { OnOk result (Consumes (known_left R.remaining input.old) (known_left R.remaining input.new) (codes "PIIXRUN1")) }
-    ensures accepted { (rest : List ℕ) → known_left R.remaining input.old ≡ Some (codes "PIIXRUN1" ++ rest)
+    ensures taken { OnOk result (Consumes (known_left R.remaining input.old)
+        (known_left R.remaining input.new) (codes "PIIXRUN1")) }
+    ensures accepted { (rest : List ℕ) → known_left R.remaining input.old
+        ≡ Some (codes "PIIXRUN1" ++ rest)
         → MatchResult result (λ _. known_left R.remaining input.new ≡ Some rest) IsRefusal }
 {
     let mut bytes = Vec::new(alloc);
@@ -73,9 +78,13 @@ fn read_magic<R: Read>(alloc: Global, input: &mut Input<R>) -> Result<(), RunTex
 
 /// Takes a number of four bytes, the least significant first.
 fn fixed<R: Read>(alloc: Global, input: &mut Input<R>) -> Result<u32, RunTextError>
-    ensures taken { IfOk result (λ number. Consumes (known_left R.remaining input.old) (known_left R.remaining input.new) (to_le_bytes w32 number)) }
-    ensures accepted { (number : ℕ) (rest : List ℕ) → number < 2 ^ 32 → known_left R.remaining input.old ≡ Some (to_le_bytes w32 number ++ rest)
-        → MatchResult result (λ read. (read ≡ number) × (known_left R.remaining input.new ≡ Some rest)) IsRefusal }
+    ensures taken { IfOk result (λ number.
+        Consumes (known_left R.remaining input.old) (known_left R.remaining input.new)
+        (to_le_bytes w32 number)) }
+    ensures accepted { (number : ℕ) (rest : List ℕ) → number < 2 ^ 32
+        → known_left R.remaining input.old ≡ Some (to_le_bytes w32 number ++ rest)
+        → MatchResult result (λ read. (read ≡ number)
+        × (known_left R.remaining input.new ≡ Some rest)) IsRefusal }
 {
     let mut bytes = Vec::new(alloc);
     input.take(4, &mut bytes)?;
@@ -90,10 +99,14 @@ pub(crate) fn counted_text<R: Read>(
     input: &mut Input<R>,
     size_fault: RunTextError,
 ) -> Result<String, RunTextError>
-    ensures taken { IfOk result (λ text. Consumes (known_left R.remaining input.old) (known_left R.remaining input.new) (counted (string_bytes text))) }
+    ensures taken { IfOk result (λ text.
+        Consumes (known_left R.remaining input.old) (known_left R.remaining input.new)
+        (counted (string_bytes text))) }
     ensures term { IfOk result (λ text. IsTerm (string_bytes text)) }
-    ensures accepted { (text rest : List ℕ) → IsTerm text → known_left R.remaining input.old ≡ Some (counted text ++ rest)
-        → MatchResult result (λ read. (string_bytes read ≡ text) × (known_left R.remaining input.new ≡ Some rest)) IsRefusal }
+    ensures accepted { (text rest : List ℕ) → IsTerm text
+        → known_left R.remaining input.old ≡ Some (counted text ++ rest)
+        → MatchResult result (λ read. (string_bytes read ≡ text)
+        × (known_left R.remaining input.new ≡ Some rest)) IsRefusal }
 {
     let (length, _) = input.code(CODE_LIMIT)?;
     if length == 0 || length > MAX_TEXT_BYTES {

@@ -47,8 +47,11 @@ impl<R: Read> Input<R> {
 
     /// Whether a byte is left. Where none is buffered, it reads on.
     fn has_byte(&mut self) -> Result<bool, RunTextError>
-        ensures kept { OnOk result (Keeps (known_left R.remaining self.old) (known_left R.remaining self.new)) }
-        ensures has { IfOk result (λ has. MatchBool has (self.new.start < self.new.end) (IsAtEnd (known_left R.remaining self.new))) }
+        ensures kept { OnOk result (Keeps (known_left R.remaining self.old)
+            (known_left R.remaining self.new)) }
+        ensures has { IfOk result (λ has.
+            MatchBool has (self.new.start < self.new.end)
+            (IsAtEnd (known_left R.remaining self.new))) }
         ensures refused { IfErr result (λ error. error ≡ ReadRefused) }
     {
         if self.start < self.end {
@@ -62,8 +65,11 @@ impl<R: Read> Input<R> {
 
     /// Takes the next byte. None: the input is at its end.
     pub(crate) fn byte(&mut self) -> Result<Option<u8>, RunTextError>
-        ensures taken { IfOk result (λ byte. Consumes (known_left R.remaining self.old) (known_left R.remaining self.new) (option_to_list byte)) }
-        ensures end { IfOk result (λ byte. IfNone byte (IsAtEnd (known_left R.remaining self.new))) }
+        ensures taken { IfOk result (λ byte.
+            Consumes (known_left R.remaining self.old) (known_left R.remaining self.new)
+            (option_to_list byte)) }
+        ensures end { IfOk result (λ byte.
+            IfNone byte (IsAtEnd (known_left R.remaining self.new))) }
         ensures refused { IfErr result (λ error. error ≡ ReadRefused) }
     {
         if !self.has_byte()? {
@@ -81,9 +87,12 @@ impl<R: Read> Input<R> {
     /// without a `Result`.
     #[inline(always)]
     pub(crate) fn short_gap(&mut self, limit: usize) -> u32
-        ensures taken { 0 < result → Consumes (known_left R.remaining self.old) (known_left R.remaining self.new) (code_of result) }
+        ensures taken { 0 < result
+            → Consumes (known_left R.remaining self.old) (known_left R.remaining self.new)
+            (code_of result) }
         ensures size { 0 < result → (length (code_of result) ≡ 1) × (0 < limit) }
-        ensures kept { result ≡ 0 → known_left R.remaining self.new ≡ known_left R.remaining self.old }
+        ensures kept { result ≡ 0 → known_left R.remaining self.new
+            ≡ known_left R.remaining self.old }
     {
         let start = self.start;
         if start < self.end && 0 < limit {
@@ -103,9 +112,12 @@ impl<R: Read> Input<R> {
     /// Of the gaps between positions as many have one byte as two: so nothing branches on which of them it is.
     #[inline(always)]
     pub(crate) fn short_number(&mut self, limit: usize) -> (u32, usize)
-        ensures taken { 0 < result.0 → Consumes (known_left R.remaining self.old) (known_left R.remaining self.new) (code_of result.0) }
+        ensures taken { 0 < result.0
+            → Consumes (known_left R.remaining self.old) (known_left R.remaining self.new)
+            (code_of result.0) }
         ensures size { 0 < result.0 → (result.1 ≡ length (code_of result.0)) × (result.1 ≤ limit) }
-        ensures kept { result.0 ≡ 0 → known_left R.remaining self.new ≡ known_left R.remaining self.old }
+        ensures kept { result.0 ≡ 0 → known_left R.remaining self.new
+            ≡ known_left R.remaining self.old }
     {
         let start = self.start;
         if start + 1 < self.end {
@@ -126,10 +138,15 @@ impl<R: Read> Input<R> {
     /// Four postings of five are such: they are read in the caller, and what is left is set once.
     #[inline(always)]
     pub(crate) fn short_posting(&mut self, limit: usize) -> Option<ShortPosting>
-        ensures taken { IfSome result (λ posting. Consumes (known_left R.remaining self.old) (known_left R.remaining self.new) (single_bytes posting.gap posting.position)) }
-        ensures size { IfSome result (λ posting. (posting.size ≡ length (single_bytes posting.gap posting.position)) × (posting.size ≤ limit)) }
-        ensures some { IfSome result (λ posting. (0 < posting.gap) × (0 < posting.position)) }
-        ensures kept { IfNone result (known_left R.remaining self.new ≡ known_left R.remaining self.old) }
+        ensures taken { IfSome result (λ posting.
+            Consumes (known_left R.remaining self.old) (known_left R.remaining self.new)
+            (single_bytes posting.gap posting.position_gap)) }
+        ensures size { IfSome result (λ posting.
+            (posting.size ≡ length (single_bytes posting.gap posting.position_gap))
+            × (posting.size ≤ limit)) }
+        ensures some { IfSome result (λ posting. (0 < posting.gap) × (0 < posting.position_gap)) }
+        ensures kept { IfNone result (known_left R.remaining self.new
+            ≡ known_left R.remaining self.old) }
     {
         match short_posting(&self.buffer[self.start..self.end]) {
             Some(posting) if posting.size <= limit => {
@@ -147,9 +164,13 @@ impl<R: Read> Input<R> {
     /// Almost all codes have one or two bytes that are buffered: those are read in the caller, without a call.
     #[inline(always)]
     pub(crate) fn code(&mut self, limit: usize) -> Result<(u32, usize), RunTextError>
-        ensures taken { IfOk result (λ found. Consumes (known_left R.remaining self.old) (known_left R.remaining self.new) (code_of found.0)) }
-        ensures size { IfOk result (λ found. (found.1 ≡ length (code_of found.0)) × (found.1 ≤ limit)) }
-        ensures fault { IfErr result (λ error. IfSome (known_left R.remaining self.old) (λ bytes. IsCodeFault limit bytes error)) }
+        ensures taken { IfOk result (λ found.
+            Consumes (known_left R.remaining self.old) (known_left R.remaining self.new)
+            (code_of found.0)) }
+        ensures size { IfOk result (λ found. (found.1 ≡ length (code_of found.0))
+            × (found.1 ≤ limit)) }
+        ensures fault { IfErr result (λ error.
+            IfSome (known_left R.remaining self.old) (λ bytes. IsCodeFault limit bytes error)) }
     {
         let start = self.start;
         if start < self.end && 0 < limit {
@@ -173,9 +194,13 @@ impl<R: Read> Input<R> {
     #[cold]
     #[inline(never)]
     fn code_by_decode(&mut self, limit: usize) -> Result<(u32, usize), RunTextError>
-        ensures taken { IfOk result (λ found. Consumes (known_left R.remaining self.old) (known_left R.remaining self.new) (code_of found.0)) }
-        ensures size { IfOk result (λ found. (found.1 ≡ length (code_of found.0)) × (found.1 ≤ limit)) }
-        ensures fault { IfErr result (λ error. IfSome (known_left R.remaining self.old) (λ bytes. IsCodeFault limit bytes error)) }
+        ensures taken { IfOk result (λ found.
+            Consumes (known_left R.remaining self.old) (known_left R.remaining self.new)
+            (code_of found.0)) }
+        ensures size { IfOk result (λ found. (found.1 ≡ length (code_of found.0))
+            × (found.1 ≤ limit)) }
+        ensures fault { IfErr result (λ error.
+            IfSome (known_left R.remaining self.old) (λ bytes. IsCodeFault limit bytes error)) }
     {
         match decode(&self.buffer[self.start..self.end]) {
             Ok((number, count)) if count <= limit => {
@@ -189,9 +214,13 @@ impl<R: Read> Input<R> {
     /// The same, where the code is not whole in the buffer, or is faulty: a fault is found at its byte, so before a
     /// read behind it.
     fn code_by_bytes(&mut self, limit: usize) -> Result<(u32, usize), RunTextError>
-        ensures taken { IfOk result (λ found. Consumes (known_left R.remaining self.old) (known_left R.remaining self.new) (code_of found.0)) }
-        ensures size { IfOk result (λ found. (found.1 ≡ length (code_of found.0)) × (found.1 ≤ limit)) }
-        ensures fault { IfErr result (λ error. IfSome (known_left R.remaining self.old) (λ bytes. IsCodeFault limit bytes error)) }
+        ensures taken { IfOk result (λ found.
+            Consumes (known_left R.remaining self.old) (known_left R.remaining self.new)
+            (code_of found.0)) }
+        ensures size { IfOk result (λ found. (found.1 ≡ length (code_of found.0))
+            × (found.1 ≤ limit)) }
+        ensures fault { IfErr result (λ error.
+            IfSome (known_left R.remaining self.old) (λ bytes. IsCodeFault limit bytes error)) }
     {
         let mut seen = [0; 6];
         for place in 0..6 {
@@ -216,9 +245,11 @@ impl<R: Read> Input<R> {
     ///
     /// `Number(Cut)` where the input ends before.
     pub(crate) fn take(&mut self, count: usize, out: &mut Vec<u8>) -> Result<(), RunTextError>
-        ensures taken { OnOk result (Consumes (known_left R.remaining self.old) (known_left R.remaining self.new) out.new.items) }
+        ensures taken { OnOk result (Consumes (known_left R.remaining self.old)
+            (known_left R.remaining self.new) out.new.items) }
         ensures size { OnOk result (length out.new.items ≡ count) }
-        ensures fault { IfErr result (λ error. IfSome (known_left R.remaining self.old) (λ bytes. IsTextFault count bytes error)) }
+        ensures fault { IfErr result (λ error.
+            IfSome (known_left R.remaining self.old) (λ bytes. IsTextFault count bytes error)) }
     {
         out.clear();
         while out.len() < count {
@@ -230,9 +261,11 @@ impl<R: Read> Input<R> {
     /// Takes some bytes, at least one and at most so many, and appends them.
     fn take_some(&mut self, most: usize, out: &mut Vec<u8>) -> Result<(), RunTextError>
         requires { 0 < most }
-        ensures some { OnOk result ((some : List ℕ) × (0 < length some) × (length some ≤ most) × (out.new.items ≡ out.old.items ++ some)
+        ensures some { OnOk result ((some : List ℕ) × (0 < length some) × (length some ≤ most)
+            × (out.new.items ≡ out.old.items ++ some)
             × Consumes (known_left R.remaining self.old) (known_left R.remaining self.new) some) }
-        ensures fault { IfErr result (λ error. IfSome (known_left R.remaining self.old) (λ bytes. IsTextFault most bytes error)) }
+        ensures fault { IfErr result (λ error.
+            IfSome (known_left R.remaining self.old) (λ bytes. IsTextFault most bytes error)) }
     {
         if !self.has_byte()? {
             return Err(RunTextError::Number(VbError::Cut));
@@ -262,8 +295,10 @@ fn short_code(first: u8, second: u8) -> (u32, usize)
 /// Makes one read, and makes it again where it was interrupted.
 fn read_some<R: Read>(reader: &mut R, buffer: &mut [u8]) -> Result<usize, RunTextError>
     ensures within { ReadsAtMost result buffer.new }
-    ensures taken { IfOk result (λ count. Consumes (R.remaining reader.old) (R.remaining reader.new) (take count buffer.new)) }
-    ensures end { IfOk result (λ count. count ≡ 0 → 0 < length buffer.old → IsAtEnd (R.remaining reader.new)) }
+    ensures taken { IfOk result (λ count.
+        Consumes (R.remaining reader.old) (R.remaining reader.new) (take count buffer.new)) }
+    ensures end { IfOk result (λ count. count ≡ 0 → 0 < length buffer.old
+        → IsAtEnd (R.remaining reader.new)) }
     ensures refused { IfErr result (λ error. error ≡ ReadRefused) }
 {
     for _ in 0..u64::MAX {
@@ -274,4 +309,41 @@ fn read_some<R: Read>(reader: &mut R, buffer: &mut [u8]) -> Result<usize, RunTex
         }
     }
     Err(RunTextError::Read)
+}
+
+#[cfg(test)]
+mod tests {
+    use super::*;
+    use std::io;
+    use std::test::Fail;
+
+    /// A reader that is interrupted, and then says that it gave so many bytes.
+    #[derive(Drop)]
+    struct Sized {
+        bytes: usize,
+        interrupted: bool,
+    }
+
+    impl Read for Sized {
+        fn read(&mut self, buf: &mut [u8]) -> io::Result<usize> {
+            self.interrupted = !self.interrupted;
+            if self.interrupted {
+                return Err(io::Error::from(ErrorKind::Interrupted));
+            }
+            Ok(self.bytes.min(buf.len()))
+        }
+    }
+
+    #[test]
+    fn reads_of_each_size(rt: HostRuntime) -> Result<(), Fail> {
+        let mut buffer = vec![in rt.alloc(); 0; BUFFER_BYTES]?;
+        for bytes in 0..BUFFER_BYTES + 1 {
+            let mut reader = Sized {
+                bytes,
+                interrupted: false,
+            };
+            assert_eq!(rt; read_some(&mut reader, &mut buffer), Ok(bytes));
+        }
+        Ok(())
+    }
 }

@@ -29,9 +29,12 @@ const MAX_COUNT: usize = 1 << 28;
 /// Each document's token list is made once, and one is kept at a time. `TooLarge` where the numbers of the documents
 /// go beyond 2^28, which is tested first, or there are more than 2^28 tokens; or `Memory`.
 pub fn invert(alloc: Global, docs: &[Doc<'_>], stop: &StopList, first: u32) -> Result<Run, RunError>
-    ensures run { IfOk result (λ run. IsRunOf run first (collection_of stop.now (map named_text docs.now))) }
-    ensures too_large { result ≡ Err RunError.TooLarge → IsTooLarge first (collection_of stop.now (map named_text docs.now)) }
-    ensures refused { IsTooLarge first (collection_of stop.now (map named_text docs.now)) → IsErr result }
+    ensures run { IfOk result (λ run.
+        IsRunOf run first (collection_of stop.now (map named_text docs.now))) }
+    ensures too_large { result ≡ Err RunError.TooLarge
+        → IsTooLarge first (collection_of stop.now (map named_text docs.now)) }
+    ensures refused { IsTooLarge first (collection_of stop.now (map named_text docs.now))
+        → IsErr result }
     ensures numbers { 2 ^ 28 < first + length docs.now → result ≡ Err RunError.TooLarge }
 {
     if docs.len() > MAX_COUNT || first as usize > MAX_COUNT - docs.len() {
@@ -71,11 +74,16 @@ fn add_documents(
 ) -> Result<Vec<RunDoc>, RunError>
     requires few { length docs.now ≤ 2 ^ 28 }
     requires empty { IsEmpty dictionary.old }
-    ensures rows { IfOk result (λ rows. map row_of_doc rows.items ≡ map row_of (documents_of stop.now (map named_text docs.now))) }
-    ensures held { OnOk result (HoldsOccurrences dictionary.new (occurrences_of 0 (documents_of stop.now (map named_text docs.now)))) }
-    ensures few { OnOk result (tokens_of (documents_of stop.now (map named_text docs.now)) ≤ 2 ^ 28) }
-    ensures lawful { OnOk result (All (IsLawfulDocument stop.now) (documents_of stop.now (map named_text docs.now))) }
-    ensures many { IfErr result (λ error. error ≡ RunError.TooLarge → 2 ^ 28 < tokens_of (documents_of stop.now (map named_text docs.now))) }
+    ensures rows { IfOk result (λ rows. map row_of_doc rows.items
+        ≡ map row_of (documents_of stop.now (map named_text docs.now))) }
+    ensures held { OnOk result (HoldsOccurrences dictionary.new
+        (occurrences_of 0 (documents_of stop.now (map named_text docs.now)))) }
+    ensures few { OnOk result (tokens_of (documents_of stop.now (map named_text docs.now))
+        ≤ 2 ^ 28) }
+    ensures lawful { OnOk result (All (IsLawfulDocument stop.now)
+        (documents_of stop.now (map named_text docs.now))) }
+    ensures many { IfErr result (λ error. error ≡ RunError.TooLarge
+        → 2 ^ 28 < tokens_of (documents_of stop.now (map named_text docs.now))) }
 {
     let mut rows = Vec::new(alloc);
     let mut list = Vec::new(alloc);
@@ -98,7 +106,8 @@ fn write_list(
     stop: &StopList,
 ) -> Result<usize, Memory>
     ensures within { IfOk result (λ count. count ≤ vec_len list.new) }
-    ensures front { IfOk result (λ count. map (option_map string_bytes) (take count list.new.items) ≡ token_list stop.now text.now) }
+    ensures front { IfOk result (λ count. map (option_map string_bytes) (take count list.new.items)
+        ≡ token_list stop.now text.now) }
     ensures lawful { All (IsLawfulEntry stop.now) (token_list stop.now text.now) }
 {
     write_tokens(alloc, list, text, stop)
@@ -116,9 +125,13 @@ fn add_document(
     requires numbered { number < 2 ^ 28 }
     requires low { left ≤ 2 ^ 28 }
     requires behind { AreBefore dictionary.old number 0 }
-    ensures row { IfOk result (λ row. row_of_doc row ≡ record { name = name.now; tokens = length list.now }) }
+    ensures row { IfOk result (λ row. row_of_doc row
+        ≡ record { name = name.now; tokens = length list.now }) }
     ensures few { OnOk result (length list.now ≤ left) }
-    ensures held { OnOk result ((occurrences : List Occurrence) → HoldsOccurrences dictionary.old occurrences → HoldsOccurrences dictionary.new (occurrences ++ occurrences_in number 0 (map (option_map string_bytes) list.now))) }
+    ensures held { OnOk result ((occurrences : List Occurrence)
+        → HoldsOccurrences dictionary.old occurrences
+        → HoldsOccurrences dictionary.new (occurrences
+        ++ occurrences_in number 0 (map (option_map string_bytes) list.now))) }
     ensures before { OnOk result (AreBefore dictionary.new (number + 1) 0) }
     ensures many { IfErr result (λ error. error ≡ RunError.TooLarge → left < length list.now) }
 {

@@ -12,6 +12,7 @@ mod input;
 mod inversion;
 mod laws;
 mod list;
+mod listed;
 mod rows;
 mod run;
 mod run_file;
@@ -33,6 +34,7 @@ pub use inversion::invert;
 pub use laws::{
     no_run_text_begins_another, run_text_has_eighteen_bytes, run_text_tells_collection,
 };
+pub use listed::{ListError, Listed};
 pub use run::Run;
 pub use run_reader::RunReader;
 pub use run_source::RunSource;

@@ -24,9 +24,12 @@ pub(crate) fn rows<R: Read>(
     input: &mut Input<R>,
     count: u32,
 ) -> Result<Vec<RunDoc>, RunTextError>
-    ensures read { IfOk result (λ docs. ArePiecesRead row_bytes RowFits (known_left R.remaining input.old) (known_left R.remaining input.new) (map row_of_doc docs.items) count) }
+    ensures read { IfOk result (λ docs.
+        ArePiecesRead row_bytes RowFits (known_left R.remaining input.old)
+        (known_left R.remaining input.new) (map row_of_doc docs.items) count) }
     ensures all { IfOk result (λ docs. length docs.items ≡ count) }
-    ensures refused { IfErr result (λ error. (rows : List DocumentRow) (rest : List ℕ) → length rows ≡ count → EachFits RowFits rows
+    ensures refused { IfErr result (λ error. (rows : List DocumentRow) (rest : List ℕ)
+        → length rows ≡ count → EachFits RowFits rows
         → known_left R.remaining input.old ≡ Some (flat_map row_bytes rows ++ rest) → IsRefusal error) }
 {
     let mut docs = Vec::new(alloc);
@@ -44,12 +47,16 @@ pub(crate) fn rows<R: Read>(
 /// `Name` where its name has not 1 to 255 bytes, or holds a TAB or an LF; `TooLarge` where its tokens are too many.
 fn row<R: Read>(alloc: Global, input: &mut Input<R>, before: u32) -> Result<RunDoc, RunTextError>
     requires { before ≤ 2 ^ 28 }
-    ensures taken { IfOk result (λ doc. Consumes (known_left R.remaining input.old) (known_left R.remaining input.new) (row_bytes (row_of_doc doc))) }
+    ensures taken { IfOk result (λ doc.
+        Consumes (known_left R.remaining input.old) (known_left R.remaining input.new)
+        (row_bytes (row_of_doc doc))) }
     ensures name { IfOk result (λ doc. IsName (string_bytes doc.name)) }
     ensures few { IfOk result (λ doc. before + doc.tokens ≤ 2 ^ 28) }
-    ensures accepted { (row : DocumentRow) (rest : List ℕ) → IsName row.name → before + row.tokens ≤ 2 ^ 28
+    ensures accepted { (row : DocumentRow) (rest : List ℕ) → IsName row.name
+        → before + row.tokens ≤ 2 ^ 28
         → known_left R.remaining input.old ≡ Some (row_bytes row ++ rest)
-        → MatchResult result (λ doc. (row_of_doc doc ≡ row) × (known_left R.remaining input.new ≡ Some rest)) IsRefusal }
+        → MatchResult result (λ doc. (row_of_doc doc ≡ row)
+        × (known_left R.remaining input.new ≡ Some rest)) IsRefusal }
 {
     let name = counted_text(alloc, input, RunTextError::Name)?;
     if !is_unbroken(name.as_str()) {

@@ -49,9 +49,12 @@ impl Run {
     ///
     /// After a refusal, which is `Write`, a beginning of the text is out.
     pub fn write_to<W: Write>(&self, out: &mut W) -> Result<(), WriteError>
-        ensures whole { OnOk result (Appends (W.contents out.old) (W.contents out.new) (run_bytes self.now)) }
-        ensures front { OnErr result (AppendsFront (W.contents out.old) (W.contents out.new) (run_bytes self.now)) }
-        ensures text { (first : ℕ) (collection : Collection) → IsRunOf self.now first collection → IsRunText first collection (run_bytes self.now) }
+        ensures whole { OnOk result (Appends (W.contents out.old) (W.contents out.new)
+            (run_bytes self.now)) }
+        ensures front { OnErr result (AppendsFront (W.contents out.old) (W.contents out.new)
+            (run_bytes self.now)) }
+        ensures text { (first : ℕ) (collection : Collection) → IsRunOf self.now first collection
+            → IsRunText first collection (run_bytes self.now) }
     {
         match put_run(out, &self.head, self.terms.as_slice()) {
             Ok(()) => Ok(()),
@@ -64,7 +67,8 @@ impl Run {
         ensures value { result ≡ unread self.now }
         ensures unread { IsUnread HasGiven result }
         ensures yields { (first : ℕ) (collection : Collection) → IsRunOf self.now first collection
-            → (entries : List DictionaryEntry) → HasLeft result [] entries → ArePartsOf collection (parts_with result.heading entries) }
+            → (entries : List DictionaryEntry) → HasLeft result [] entries
+            → ArePartsOf collection (parts_with result.heading entries) }
     {
         RunSource::new(&self.head, self.terms.as_slice())
     }

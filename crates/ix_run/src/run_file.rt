@@ -27,10 +27,12 @@ impl Run {
     /// bytes.
     pub fn read<R: Read + Drop>(alloc: Global, reader: R) -> Result<Run, RunTextError>
         // The run has the bytes that were read as its run text.
-        ensures exact { (bytes : List ℕ) → R.remaining reader ≡ Some bytes → IfOk result (λ run. run_bytes run ≡ bytes) }
+        ensures exact { (bytes : List ℕ) → R.remaining reader ≡ Some bytes
+            → IfOk result (λ run. run_bytes run ≡ bytes) }
 
         // Of a run text of a lawful collection it is the run of that collection, unless a read or memory is refused.
-        ensures accepted { (first : ℕ) (collection : Collection) (bytes : List ℕ) → IsRunText first collection bytes → R.remaining reader ≡ Some bytes
+        ensures accepted { (first : ℕ) (collection : Collection) (bytes : List ℕ)
+            → IsRunText first collection bytes → R.remaining reader ≡ Some bytes
             → MatchResult result (λ run. IsRunOf run first collection) IsRefusal }
     {
         let mut reader = RunReader::open(alloc, reader)?;
@@ -47,8 +49,10 @@ fn coded_terms<R: Read + Drop>(
     requires unread { IsUnread HasRead reader.old }
     requires drained { IsDrained reader.old }
     ensures heading { heading_of reader.new.head ≡ heading_of reader.old.head }
-    ensures read { IfOk result (λ terms. ReadsAll R.remaining reader.old (map term_shown terms.items)) }
-    ensures refused { (entries : List DictionaryEntry) → Faces R.remaining reader.old [] entries → IfErr result IsRefusal }
+    ensures read { IfOk result (λ terms.
+        ReadsAll R.remaining reader.old (map term_shown terms.items)) }
+    ensures refused { (entries : List DictionaryEntry) → Faces R.remaining reader.old [] entries
+        → IfErr result IsRefusal }
 {
     let mut terms = Vec::new(alloc);
     let mut positions = Vec::new(alloc);
@@ -68,8 +72,10 @@ fn coded_term<R: Read + Drop>(
     requires begun { HasBegun reader.old }
     requires at_hand { IsSome (term_of reader.old) }
     ensures heading { heading_of reader.new.head ≡ heading_of reader.old.head }
-    ensures given { IfOk result (λ term. GivesTerm R.remaining reader.old reader.new (term_shown term)) }
-    ensures refused { (postings : List Posting) (entries : List DictionaryEntry) → Faces R.remaining reader.old postings entries → IfErr result IsRefusal }
+    ensures given { IfOk result (λ term.
+        GivesTerm R.remaining reader.old reader.new (term_shown term)) }
+    ensures refused { (postings : List Posting) (entries : List DictionaryEntry)
+        → Faces R.remaining reader.old postings entries → IfErr result IsRefusal }
 {
     let term = String::from_str(alloc, reader.term())?;
     let mut documents = 0;
@@ -83,6 +89,7 @@ fn coded_term<R: Read + Drop>(
     Ok(CodedTerm {
         term,
         documents,
+        last: next.saturating_sub(1),
         list,
     })
 }

@@ -1,5 +1,5 @@
 //! The exact reader of a run text: it takes the bytes of a run as they come, and accepts no others.
-ghost use Rattle.std.specs.Prelude.{◌≡◌, ◌≢◌, ◌≤◌, ◌^◌, ℕ, length, map, sum_by};
+ghost use Rattle.std.specs.Prelude.{◌≡◌, ◌≢◌, ◌+◌, ◌<◌, ◌≤◌, ◌^◌, ℕ, length, map, sum_by};
 ghost use Rattle.ix_text.specs.TokenMarks.{room};
 ghost use Rattle.ix_text.specs.TokenTables.{HasTokens};
 ghost use Rattle.ix_run.specs.Heads.{row_of_doc};
@@ -56,6 +56,7 @@ pub struct RunReader<R> {
     ghost table: { HasTokens tokens (map row_of_doc head.docs.items) } by { HasTokens-prop tokens (map row_of_doc head.docs.items) },
     ghost few_documents: { length (map row_of_doc head.docs.items) ≤ 2 ^ 28 },
     ghost few_tokens: { sum_by (λ row. row.tokens) (map row_of_doc head.docs.items) ≤ 2 ^ 28 },
+    ghost narrow: { room marks < sum_by (λ row. row.tokens) (map row_of_doc head.docs.items) + 64 },
     ghost room: { sum_by (λ row. row.tokens) (map row_of_doc head.docs.items) ≤ room marks },
     ghost near: { next ≤ 2 ^ 28 },
     ghost listed: { documents ≡ 0 → bytes ≡ 0 },
@@ -84,22 +85,30 @@ impl<R: Read + Drop> RunReader<R> {
     /// document `Name` and `Text`. `Read` where the reader refused, and `Memory`.
     pub fn open(alloc: Global, reader: R) -> Result<RunReader<R>, RunTextError>
         // What was taken is the head of a run that may be.
-        ensures taken { IfOk result (λ run. Consumes (R.remaining reader) (bytes_left R.remaining run) (heading_bytes (heading_read run))) }
+        ensures taken { IfOk result (λ run.
+            Consumes (R.remaining reader) (bytes_left R.remaining run)
+            (heading_bytes (heading_read run))) }
         ensures lawful { IfOk result (λ run. IsLawfulHeading (heading_read run)) }
 
         // Nothing was given yet; what the reader yields from here on is what the bytes spell.
         ensures unread { IfOk result (λ run. IsUnread HasRead run) }
-        ensures yields { (bytes : List ℕ) (entries : List DictionaryEntry) → R.remaining reader ≡ Some bytes
+        ensures yields { (bytes : List ℕ) (entries : List DictionaryEntry)
+            → R.remaining reader ≡ Some bytes
             → IfOk result (λ run. MayYield R.remaining run [] entries
-            → (bytes ≡ run_layout (heading_read run).first (parts_with (heading_read run) entries)) × AreWhole (heading_read run) entries) }
+            → (bytes ≡ run_layout (heading_read run).first (parts_with (heading_read run) entries))
+            × AreWhole (heading_read run) entries) }
 
         // Where such a head stands first, it is the one that is read, unless a read or memory is refused.
-        ensures accepted { (heading : Heading) (rest : List ℕ) → IsLawfulHeading heading → R.remaining reader ≡ Some (heading_bytes heading ++ rest)
-            → MatchResult result (λ run. (heading_read run ≡ heading) × (bytes_left R.remaining run ≡ Some rest)) IsRefusal }
+        ensures accepted { (heading : Heading) (rest : List ℕ) → IsLawfulHeading heading
+            → R.remaining reader ≡ Some (heading_bytes heading ++ rest)
+            → MatchResult result (λ run. (heading_read run ≡ heading)
+            × (bytes_left R.remaining run ≡ Some rest)) IsRefusal }
 
         // Of a run text of a lawful collection, its whole dictionary lies ahead then.
-        ensures faced { (first : ℕ) (collection : Collection) (bytes : List ℕ) (is : IsRunText first collection bytes) → R.remaining reader ≡ Some bytes
-            → MatchResult result (λ run. (heading_read run ≡ heading_from first is.parts) × Faces R.remaining run [] is.parts.entries) IsRefusal }
+        ensures faced { (first : ℕ) (collection : Collection) (bytes : List ℕ)
+            (is : IsRunText first collection bytes) → R.remaining reader ≡ Some bytes
+            → MatchResult result (λ run. (heading_read run ≡ heading_from first is.parts)
+            × Faces R.remaining run [] is.parts.entries) IsRefusal }
     {
         let mut input = Input::new(alloc, reader)?;
         let head = read_head(alloc, &mut input)?;
@@ -142,9 +151,14 @@ impl<R: Read + Drop> RunReader<R> {
         ensures place { self.new.place ≡ self.old.place }
         ensures term { self.new.term ≡ self.old.term }
         ensures counted { OnOk result (self.new.documents + 1 ≡ self.old.documents) }
-        ensures given { IfOk result (λ document. GivesPosting (MayYield R.remaining) HasRead self.old self.new (document, positions.new.items)) }
-        ensures accepted { (postings : List Posting) (entries : List DictionaryEntry) → Faces R.remaining self.old postings entries
-            → MatchResult result (λ document. (rest : List Posting) × (postings ≡ (document, positions.new.items) ∷ rest) × Faces R.remaining self.new rest entries) IsRefusal }
+        ensures given { IfOk result (λ document.
+            GivesPosting (MayYield R.remaining) HasRead self.old self.new
+            (document, positions.new.items)) }
+        ensures accepted { (postings : List Posting) (entries : List DictionaryEntry)
+            → Faces R.remaining self.old postings entries
+            → MatchResult result (λ document. (rest : List Posting)
+            × (postings ≡ (document, positions.new.items) ∷ rest)
+            × Faces R.remaining self.new rest entries) IsRefusal }
     {
         let (document, taken) = read_posting(
             &mut self.input,
@@ -172,7 +186,8 @@ impl<R: Read + Drop> RunReader<R> {
         ensures term { self.new.term ≡ self.old.term }
         ensures drained { OnOk result (self.new.documents ≡ 0) }
         ensures skipped { OnOk result (Skips R.remaining self.old self.new) }
-        ensures accepted { (postings : List Posting) (entries : List DictionaryEntry) → Faces R.remaining self.old postings entries
+        ensures accepted { (postings : List Posting) (entries : List DictionaryEntry)
+            → Faces R.remaining self.old postings entries
             → MatchResult result (λ _. Faces R.remaining self.new [] entries) IsRefusal }
     {
         let mut positions = Vec::new(self.alloc);
@@ -188,10 +203,15 @@ impl<R: Read + Drop> RunReader<R> {
         requires going { self.old.place ≢ Ended }
         ensures heading { heading_of self.new.head ≡ heading_of self.old.head }
         ensures begun { IfOk result (λ more. MatchBool more
-            ((self.new.place ≡ AtTerm) × BeginsTerm (MayYield R.remaining) HasRead IsDrained self.old self.new (string_bytes self.new.term))
-            ((self.new.place ≡ Ended) × EndsTerms (MayYield R.remaining) HasRead IsDrained self.old self.new)) }
-        ensures accepted { (entries : List DictionaryEntry) (postings : List Posting) → Faces R.remaining self.old postings entries
-            → MatchResult result (λ more. MatchBool more (BeginsFirst R.remaining self.new entries) (entries ≡ [])) IsRefusal }
+            ((self.new.place ≡ AtTerm)
+            × BeginsTerm (MayYield R.remaining) HasRead IsDrained self.old self.new
+            (string_bytes self.new.term))
+            ((self.new.place ≡ Ended)
+            × EndsTerms (MayYield R.remaining) HasRead IsDrained self.old self.new)) }
+        ensures accepted { (entries : List DictionaryEntry) (postings : List Posting)
+            → Faces R.remaining self.old postings entries
+            → MatchResult result (λ more.
+            MatchBool more (BeginsFirst R.remaining self.new entries) (entries ≡ [])) IsRefusal }
     {
         self.skip()?;
         let found = read_term(
@@ -261,13 +281,17 @@ impl<R: Read + Drop> Source for RunReader<R> {
     fn next_term(&mut self) -> Result<bool, RunTextError>
         ensures heading { heading_read self.new ≡ heading_read self.old }
         ensures begun { IfOk result (λ more. MatchBool more
-            ((term : List ℕ) × (term_of self.new ≡ Some term) × BeginsTerm (MayYield R.remaining) HasRead IsDrained self.old self.new term)
-            ((term_of self.new ≡ None) × IsEnded self.new × EndsTerms (MayYield R.remaining) HasRead IsDrained self.old self.new)) }
+            ((term : List ℕ) × (term_of self.new ≡ Some term)
+            × BeginsTerm (MayYield R.remaining) HasRead IsDrained self.old self.new term)
+            ((term_of self.new ≡ None) × IsEnded self.new
+            × EndsTerms (MayYield R.remaining) HasRead IsDrained self.old self.new)) }
         ensures ended { IsEnded self.old → (result ≡ Ok false) × IsEnded self.new }
 
         // Where a lawful dictionary lies ahead, its next entry is begun, unless a read or memory is refused.
-        ensures accepted { (postings : List Posting) (entries : List DictionaryEntry) → Faces R.remaining self.old postings entries
-            → MatchResult result (λ more. MatchBool more (BeginsFirst R.remaining self.new entries) (entries ≡ [])) IsRefusal }
+        ensures accepted { (postings : List Posting) (entries : List DictionaryEntry)
+            → Faces R.remaining self.old postings entries
+            → MatchResult result (λ more.
+            MatchBool more (BeginsFirst R.remaining self.new entries) (entries ≡ [])) IsRefusal }
 
         // What a refusal leaves.
         ensures refused { OnErr result (HasFailed self.new) }
@@ -305,16 +329,21 @@ impl<R: Read + Drop> Source for RunReader<R> {
         ensures current { term_of self.new ≡ term_of self.old }
         ensures given { IfOk result (λ found. MatchOption found
             (IsDrained self.new × EndsPostings (MayYield R.remaining) HasRead self.old self.new)
-            (λ document. GivesPosting (MayYield R.remaining) HasRead self.old self.new (document, positions.new.items))) }
+            (λ document. GivesPosting (MayYield R.remaining) HasRead self.old self.new
+            (document, positions.new.items))) }
         ensures drained { IsDrained self.old → result ≡ Ok None }
 
         // Fewer are left.
-        ensures counted { IfOk result (λ found. IfSome found (λ _. postings_left self.new < postings_left self.old)) }
+        ensures counted { IfOk result (λ found.
+            IfSome found (λ _. postings_left self.new < postings_left self.old)) }
 
         // Where postings of a lawful dictionary lie ahead, the next one is given, unless a read or memory is refused.
-        ensures accepted { (postings : List Posting) (entries : List DictionaryEntry) → Faces R.remaining self.old postings entries
-            → MatchResult result (λ found. MatchOption found ((postings ≡ []) × Faces R.remaining self.new [] entries)
-            (λ document. GivesFirst R.remaining self.new (document, positions.new.items) postings entries)) IsRefusal }
+        ensures accepted { (postings : List Posting) (entries : List DictionaryEntry)
+            → Faces R.remaining self.old postings entries
+            → MatchResult result (λ found.
+            MatchOption found ((postings ≡ []) × Faces R.remaining self.new [] entries)
+            (λ document. GivesFirst R.remaining self.new
+            (document, positions.new.items) postings entries)) IsRefusal }
 
         // What a refusal leaves.
         ensures refused { OnErr result (HasFailed self.new) }
@@ -345,181 +374,4 @@ impl<R: Read + Drop> Source for RunReader<R> {
 }
 
 #[cfg(test)]
-mod tests {
-    use super::*;
-    use ix_vbyte::VbError;
-    use std::io;
-    use std::test::Fail;
-
-    /// The head of a run from document 3 on: two stop terms and two documents.
-    const HEAD: [u8; 30] = *b"PIIXRUN1\x03\0\0\0\x02\0\0\0\x82\x82of\x82to\x81a\x82\x82bc\x80";
-
-    /// A reader that gives one byte at a time, and refuses where so many were given.
-    #[derive(Drop)]
-    struct Slow<'a> {
-        bytes: &'a [u8],
-        left: usize,
-    }
-
-    impl Read for Slow<'_> {
-        fn read(&mut self, buf: &mut [u8]) -> io::Result<usize> {
-            if self.left == 0 {
-                return Err(io::Error::from(io::ErrorKind::Other));
-            }
-            self.left -= 1;
-            match (self.bytes.split_first(), buf.split_first_mut()) {
-                (Some((byte, rest)), Some((place, _))) => {
-                    *place = *byte;
-                    self.bytes = rest;
-                    Ok(1)
-                }
-                _ => Ok(0),
-            }
-        }
-    }
-
-    fn is_head(head: &RunHead) -> bool {
-        let stop = head.stop.terms();
-        let docs = &head.docs;
-        head.first == 3
-            && stop.len() == 2
-            && stop[0].as_str() == "of"
-            && stop[1].as_str() == "to"
-            && docs.len() == 2
-            && docs[0].name.as_str() == "a"
-            && docs[0].tokens == 2
-            && docs[1].name.as_str() == "bc"
-            && docs[1].tokens == 0
-    }
-
-    /// Whether the head is refused so.
-    fn is_refused(alloc: Global, bytes: &[u8], want: &str) -> Result<bool, Fail> {
-        match RunReader::open(alloc, bytes) {
-            Ok(_) => Ok(want.is_empty()),
-            Err(error) => Ok(error.to_string(alloc)?.as_str() == want),
-        }
-    }
-
-    #[test]
-    fn heads_are_read(rt: HostRuntime) -> Result<(), Fail> {
-        let run = RunReader::open(rt.alloc(), HEAD.as_slice())?;
-        assert!(rt; is_head(run.head()));
-        let slow = Slow {
-            bytes: &HEAD,
-            left: 30,
-        };
-        let run = RunReader::open(rt.alloc(), slow)?;
-        assert!(rt; is_head(run.head()));
-        Ok(())
-    }
-
-    #[test]
-    fn fronts_of_a_head_are_refused(rt: HostRuntime) -> Result<(), Fail> {
-        for len in 0..30 {
-            let want = if len < 8 { "Magic" } else { "Number(Cut)" };
-            assert!(rt; is_refused(rt.alloc(), &HEAD[..len], want)?);
-            let slow = Slow {
-                bytes: &HEAD,
-                left: len,
-            };
-            let refusal = RunReader::open(rt.alloc(), slow).err();
-            assert_eq!(rt; refusal, Some(RunTextError::Read), "{len}");
-        }
-        Ok(())
-    }
-
-    #[test]
-    fn faults_are_named(rt: HostRuntime) -> Result<(), Fail> {
-        let none = b"PIIXRUN1\0\0\0\0\0\0\0\0";
-        let one = b"PIIXRUN1\0\0\0\0\x01\0\0\0\x80";
-        let cases: [(&[u8], &[u8], &str); 20] = [
-            (b"PIIXRUN2", b"\0\0\0\0\0\0\0\0\x80", "Magic"),
-            (b"PIIXRUN1", b"\xff\xff\xff\x0f\x02\0\0\0\x80", "TooLarge"),
-            (
-                b"PIIXRUN1",
-                b"\xff\xff\xff\xff\xff\xff\xff\xff\x80",
-                "TooLarge",
-            ),
-            (b"PIIXRUN1", b"\0\0\0\x10\0\0\0\0\x80", ""),
-            (none, b"\x80", ""),
-            (none, b"\x00\x81", "Number(LeadingZero)"),
-            (none, b"\x10\0\0\0\x80", "Number(TooBig)"),
-            (none, b"\x01\0\0\0\x81", "TooLarge"),
-            (none, b"\x81\x80", "TermSize"),
-            (none, b"\x81\x02\x80", "TermSize"),
-            (none, b"\x81\x81\xff", "Text"),
-            (none, b"\x82\x81b\x81a", "StopOrder"),
-            (none, b"\x82\x81a\x81a", "StopOrder"),
-            (one, b"\x80\x80", "Name"),
-            (one, b"\x02\x80", "Name"),
-            (one, b"\x81\xff", "Text"),
-            (one, b"\x83a\tb\x80", "Name"),
-            (one, b"\x83a\nb\x80", "Name"),
-            (one, b"\x81a\x01\0\0\0\x80", ""),
-            (one, b"\x81a\x01\0\0\0\x81", "TooLarge"),
-        ];
-        for (front, back, want) in cases {
-            let mut bytes = Vec::new(rt.alloc());
-            bytes.extend_from_slice(front)?;
-            bytes.extend_from_slice(back)?;
-            assert!(rt; is_refused(rt.alloc(), &bytes, want)?, "{want}");
-        }
-        Ok(())
-    }
-
-    /// The head, and one term with one posting.
-    const TEXT: [u8; 39] =
-        *b"PIIXRUN1\x03\0\0\0\x02\0\0\0\x82\x82of\x82to\x81a\x82\x82bc\x80\x81x\x81\x84\x81\x82\x81\x81\x80";
-
-    /// Whether the first posting is refused so, and each later call as `Failed`.
-    fn fails_from_then_on<R: Read + Drop>(
-        alloc: Global,
-        reader: R,
-        want: RunTextError,
-    ) -> Result<bool, Fail> {
-        let mut positions = Vec::new(alloc);
-        let mut run = RunReader::open(alloc, reader)?;
-        if !run.next_term()? {
-            return Ok(false);
-        }
-        Ok(
-            run.next_posting(&mut positions).err() == Some(want)
-                && run.next_posting(&mut positions).err() == Some(RunTextError::Failed)
-                && run.term() == "x"
-                && run.next_posting(&mut positions).err() == Some(RunTextError::Failed)
-                && run.next_term().err() == Some(RunTextError::Failed)
-                && run.next_term().err() == Some(RunTextError::Failed),
-        )
-    }
-
-    #[test]
-    fn refused_lists_stay_refused(rt: HostRuntime) -> Result<(), Fail> {
-        for len in 34..38 {
-            let cut = RunTextError::Number(VbError::Cut);
-            assert!(rt; fails_from_then_on(rt.alloc(), &TEXT[..len], cut)?, "{len}");
-            let slow = Slow {
-                bytes: &TEXT,
-                left: len,
-            };
-            assert!(rt;
-                fails_from_then_on(rt.alloc(), slow, RunTextError::Read)?,
-                "{len}"
-            );
-        }
-        Ok(())
-    }
-
-    #[test]
-    fn ends_stay_ends(rt: HostRuntime) -> Result<(), Fail> {
-        let mut positions = Vec::new(rt.alloc());
-        let mut run = RunReader::open(rt.alloc(), TEXT.as_slice())?;
-        assert!(rt; run.next_term()?);
-        assert_eq!(rt; run.next_posting(&mut positions)?, Some(0));
-        assert_eq!(rt; positions.as_slice(), [0, 1].as_slice());
-        assert_eq!(rt; run.next_posting(&mut positions)?, None);
-        assert_eq!(rt; run.next_posting(&mut positions)?, None);
-        assert_eq!(rt; run.next_term()?, false);
-        assert_eq!(rt; run.next_term()?, false);
-        Ok(())
-    }
-}
+mod tests;

@@ -1,7 +1,7 @@
 //! A run in memory as a source of its postings.
 
 use crate::coded_term::CodedTerm;
-use crate::{RunHead, Source};
+use crate::{ListError, Listed, RunHead, Source};
 use ix_text::Memory;
 use ix_vbyte::cursor::Postings;
 use std::marker::Model;
@@ -19,6 +19,8 @@ pub struct RunSource<'a> {
     term: Option<&'a str>,
     // the postings of the term at hand that are left
     postings: Postings<'a>,
+    // the last document of that term, where one of its postings is left
+    last: u32,
 }
 
 impl<'a> Model for RunSource<'a> {
@@ -26,13 +28,25 @@ impl<'a> Model for RunSource<'a> {
     ghost use Rattle.std.specs.Option.{option_copied};
     ghost use Rattle.ix_run.specs.Heads.{heading_of};
     ghost use Rattle.ix_run.specs.Runs.{term_shown};
-    ghost use Rattle.ix_run.specs.RunSources.{IsAtPlace, SourceValue};
+    ghost use Rattle.ix_run.specs.RunSources.{EndsAt, IsAtPlace, SourceValue};
 
     ghost Value = { SourceValue };
 
-    ghost view = { λ source. record { heading = heading_of source.head.now; terms = map term_shown source.terms.now; term = option_copied source.term; postings = source.postings } };
+    ghost view = { λ source. record {
+      heading = heading_of source.head.now;
+      terms = map term_shown source.terms.now;
+      term = option_copied source.term;
+      postings = source.postings;
+    } };
 
-    ghost invariant = { λ source. IsAtPlace (record { heading = heading_of source.head.now; terms = map term_shown source.terms.now; term = option_copied source.term; postings = source.postings }) };
+    ghost invariant = { λ source.
+        IsAtPlace (record {
+          heading = heading_of source.head.now;
+          terms = map term_shown source.terms.now;
+          term = option_copied source.term;
+          postings = source.postings;
+        })
+        × EndsAt source.last source.postings };
 }
 
 impl<'a> RunSource<'a> {
@@ -43,22 +57,38 @@ impl<'a> RunSource<'a> {
 
     /// The source of a run of which nothing was asked yet.
     pub(crate) fn new(head: &'a RunHead, terms: &'a [CodedTerm]) -> RunSource<'a>
-        requires { HasGiven (record { heading = heading_of head.now; terms = map term_shown terms.now; term = None; postings = [] }) [] None }
-        ensures { result ≡ record { heading = heading_of head.now; terms = map term_shown terms.now; term = None; postings = [] } }
+        requires { HasGiven
+            (record {
+              heading = heading_of head.now;
+              terms = map term_shown terms.now;
+              term = None;
+              postings = [];
+            }) [] None }
+        ensures { result
+            ≡ record {
+              heading = heading_of head.now;
+              terms = map term_shown terms.now;
+              term = None;
+              postings = [];
+            } }
     {
         RunSource {
             head,
             terms,
             term: None,
             postings: Postings::new(&[], 0),
+            last: 0,
         }
     }
 }
 
 impl<'a> Source for RunSource<'a> {
+    ghost use Rattle.std.specs.Prelude.{◌+◌, ◌<◌, ◌≤◌, length, vec_capacity, vec_len};
+    ghost use Rattle.std.specs.Prelude.{OnOk, IfErr};
+    ghost use Rattle.ix_vbyte.specs.Postings.{list_bytes_from, shifted};
     ghost use Rattle.std.specs.Prelude.{◌≡◌, ℕ, List, Some, None, Ok, false, IsOk, IsSome, IfOk, OnErr, MatchBool, MatchOption};
-    ghost use Rattle.ix_run.specs.RunSources.{HasGiven, HasLeft, IsAtEnd, IsAtEndOfTerm};
-    ghost use Rattle.ix_run.specs.Sources.{BeginsTerm, EndsPostings, EndsTerms, GivesPosting};
+    ghost use Rattle.ix_run.specs.RunSources.{FirstExceeds, HasGiven, HasLeft, IsAtEnd, IsAtEndOfTerm};
+    ghost use Rattle.ix_run.specs.Sources.{BeginsTerm, EndsPostings, EndsTerms, GivesList, GivesPosting};
 
     type Error = Memory;
 
@@ -82,8 +112,10 @@ impl<'a> Source for RunSource<'a> {
     fn next_term(&mut self) -> Result<bool, Memory>
         ensures heading { self.new.heading ≡ self.old.heading }
         ensures begun { IfOk result (λ more. MatchBool more
-            ((term : List ℕ) × (self.new.term ≡ Some term) × BeginsTerm HasLeft HasGiven IsAtEndOfTerm self.old self.new term)
-            ((self.new.term ≡ None) × IsAtEnd self.new × EndsTerms HasLeft HasGiven IsAtEndOfTerm self.old self.new)) }
+            ((term : List ℕ) × (self.new.term ≡ Some term)
+            × BeginsTerm HasLeft HasGiven IsAtEndOfTerm self.old self.new term)
+            ((self.new.term ≡ None) × IsAtEnd self.new
+            × EndsTerms HasLeft HasGiven IsAtEndOfTerm self.old self.new)) }
         ensures ended { IsAtEnd self.old → (result ≡ Ok false) × IsAtEnd self.new }
 
         // It is never refused.
@@ -97,6 +129,7 @@ impl<'a> Source for RunSource<'a> {
         self.terms = terms;
         self.term = Some(term.term.as_str());
         self.postings = Postings::new(&term.list, term.documents);
+        self.last = term.last;
         Ok(true)
     }
 
@@ -113,11 +146,14 @@ impl<'a> Source for RunSource<'a> {
         ensures current { self.new.term ≡ self.old.term }
         ensures given { IfOk result (λ found. MatchOption found
             (IsAtEndOfTerm self.new × EndsPostings HasLeft HasGiven self.old self.new)
-            (λ document. GivesPosting HasLeft HasGiven self.old self.new (document, positions.new.items))) }
+            (λ document. GivesPosting HasLeft HasGiven self.old self.new
+            (document, positions.new.items))) }
         ensures drained { IsAtEndOfTerm self.old → result ≡ Ok None }
 
-        // What a refusal leaves.
+        // It is refused only where the positions find no room, which leaves the source as it was.
         ensures kept { OnErr result (self.new ≡ self.old) }
+        ensures full { OnErr result
+            (FirstExceeds (vec_capacity positions.old) self.old.postings) }
     {
         let mut postings = self.postings.again();
         let Some(posting) = postings.next() else {
@@ -126,6 +162,42 @@ impl<'a> Source for RunSource<'a> {
         posting.read_positions(positions)?;
         self.postings = postings;
         Ok(Some(posting.document))
+    }
+
+    /// Appends all postings of the term at hand that are left, coded as one list: their documents counted in the
+    /// whole collection, and the first gap taken from `next`, which is one above the document before them, or 0. Only
+    /// that gap is coded anew. `ListError::Memory` where the list finds no room, which leaves the source and `out` as
+    /// they were.
+    fn take_list(&mut self, next: u32, out: &mut Vec<u8>) -> Result<Listed, ListError<Memory>>
+        requires at_hand { IsSome self.old.term }
+        requires low { next ≤ self.old.heading.first }
+        ensures heading { self.new.heading ≡ self.old.heading }
+        ensures current { self.new.term ≡ self.old.term }
+        ensures drained { OnOk result (IsAtEndOfTerm self.new) }
+        ensures given { IfOk result (λ listed. GivesList HasLeft HasGiven self.old self.new
+            self.old.heading.first next listed.documents listed.next
+            out.old.items out.new.items) }
+        ensures refused { OnErr result (out.new.items ≡ out.old.items) }
+
+        // It is refused only where the list finds no room, which leaves the source as it was.
+        ensures kept { OnErr result (self.new ≡ self.old) }
+        ensures error { IfErr result (λ error. error ≡ ListError.Memory) }
+        ensures full { OnErr result (vec_capacity out.old < vec_len out.old
+            + length (list_bytes_from next (shifted self.old.heading.first self.old.postings))) }
+    {
+        let documents = self.postings.len() as u32;
+        if documents == 0 {
+            return Ok(Listed { documents, next });
+        }
+        let first = self.head.first;
+        if self.postings.push_shifted(out, first, next).is_err() {
+            return Err(ListError::Memory);
+        }
+        self.postings = Postings::new(&[], 0);
+        Ok(Listed {
+            documents,
+            next: first + self.last + 1,
+        })
     }
 
     ghost drained_without_term = { λ source none some. absurd (some none) };

@@ -41,7 +41,8 @@ fn put_counted<W: Write>(out: &mut W, text: &[u8]) -> Result<(), WriteRefused>
 /// Writes a document's row.
 fn put_row<W: Write>(out: &mut W, doc: &RunDoc) -> Result<(), WriteRefused>
     requires { IsShort (string_bytes doc.now.name) }
-    ensures { Writes result (W.contents out.old) (W.contents out.new) (row_bytes (row_of_doc doc.now)) }
+    ensures { Writes result (W.contents out.old) (W.contents out.new)
+        (row_bytes (row_of_doc doc.now)) }
 {
     put_counted(out, doc.name.as_bytes())?;
     put_code(out, doc.tokens)
@@ -50,7 +51,8 @@ fn put_row<W: Write>(out: &mut W, doc: &RunDoc) -> Result<(), WriteRefused>
 /// Writes the rows of documents.
 fn put_rows<W: Write>(out: &mut W, docs: &[RunDoc]) -> Result<(), WriteRefused>
     requires { All (λ doc. IsShort (string_bytes doc.name)) docs.now }
-    ensures { Writes result (W.contents out.old) (W.contents out.new) (flat_map row_bytes (map row_of_doc docs.now)) }
+    ensures { Writes result (W.contents out.old) (W.contents out.new)
+        (flat_map row_bytes (map row_of_doc docs.now)) }
 {
     for doc in docs {
         put_row(out, doc)?;
@@ -61,7 +63,8 @@ fn put_rows<W: Write>(out: &mut W, docs: &[RunDoc]) -> Result<(), WriteRefused>
 /// Writes stop terms.
 fn put_texts<W: Write>(out: &mut W, texts: &[String]) -> Result<(), WriteRefused>
     requires { All (λ text. IsShort (string_bytes text)) texts.now }
-    ensures { Writes result (W.contents out.old) (W.contents out.new) (flat_map counted (map string_bytes texts.now)) }
+    ensures { Writes result (W.contents out.old) (W.contents out.new)
+        (flat_map counted (map string_bytes texts.now)) }
 {
     for text in texts {
         put_counted(out, text.as_bytes())?;
@@ -73,7 +76,8 @@ fn put_texts<W: Write>(out: &mut W, texts: &[String]) -> Result<(), WriteRefused
 fn put_term<W: Write>(out: &mut W, term: &CodedTerm) -> Result<(), WriteRefused>
     requires term { IsShort (string_bytes term.now.term) }
     requires list { IsShort term.now.list.items }
-    ensures { Writes result (W.contents out.old) (W.contents out.new) (value_bytes (term_shown term.now)) }
+    ensures { Writes result (W.contents out.old) (W.contents out.new)
+        (value_bytes (term_shown term.now)) }
 {
     put_counted(out, term.term.as_bytes())?;
     put_code(out, term.documents)?;
@@ -84,7 +88,8 @@ fn put_term<W: Write>(out: &mut W, term: &CodedTerm) -> Result<(), WriteRefused>
 fn put_terms<W: Write>(out: &mut W, terms: &[CodedTerm]) -> Result<(), WriteRefused>
     requires terms { All (λ term. IsShort (string_bytes term.term)) terms.now }
     requires lists { All (λ term. IsShort term.list.items) terms.now }
-    ensures { Writes result (W.contents out.old) (W.contents out.new) (flat_map value_bytes (map term_shown terms.now)) }
+    ensures { Writes result (W.contents out.old) (W.contents out.new)
+        (flat_map value_bytes (map term_shown terms.now)) }
 {
     for term in terms {
         put_term(out, term)?;
@@ -94,7 +99,8 @@ fn put_terms<W: Write>(out: &mut W, terms: &[CodedTerm]) -> Result<(), WriteRefu
 
 /// Writes the magic and the two numbers.
 fn put_numbers<W: Write>(out: &mut W, first: u32, count: u32) -> Result<(), WriteRefused>
-    ensures { Writes result (W.contents out.old) (W.contents out.new) (codes "PIIXRUN1" ++ to_le_bytes w32 first ++ to_le_bytes w32 count) }
+    ensures { Writes result (W.contents out.old) (W.contents out.new)
+        (codes "PIIXRUN1" ++ to_le_bytes w32 first ++ to_le_bytes w32 count) }
 {
     put(out, b"PIIXRUN1")?;
     put(out, &first.to_le_bytes())?;
@@ -105,7 +111,8 @@ fn put_numbers<W: Write>(out: &mut W, first: u32, count: u32) -> Result<(), Writ
 fn put_head<W: Write>(out: &mut W, head: &RunHead) -> Result<(), WriteRefused>
     requires few { length head.now.docs.items < 2 ^ 32 }
     requires names { All (λ doc. IsShort (string_bytes doc.name)) head.now.docs.items }
-    ensures { Writes result (W.contents out.old) (W.contents out.new) (front_bytes (head_value head.now [])) }
+    ensures { Writes result (W.contents out.old) (W.contents out.new)
+        (front_bytes (head_value head.now [])) }
 {
     let docs = head.docs.as_slice();
     put_numbers(out, head.first, docs.len() as u32)?;
@@ -125,7 +132,8 @@ pub(crate) fn put_run<W: Write>(
     requires names { All (λ doc. IsShort (string_bytes doc.name)) head.now.docs.items }
     requires terms { All (λ term. IsShort (string_bytes term.term)) terms.now }
     requires lists { All (λ term. IsShort term.list.items) terms.now }
-    ensures { Writes result (W.contents out.old) (W.contents out.new) (run_bytes (head_value head.now terms.now)) }
+    ensures { Writes result (W.contents out.old) (W.contents out.new)
+        (run_bytes (head_value head.now terms.now)) }
 {
     put_head(out, head)?;
     put_terms(out, terms)?;

@@ -1,11 +1,12 @@
 //! A run as its consumer meets it: term by term, posting by posting.
 
-ghost use Rattle.std.specs.Prelude.{◌≡◌, ℕ, List, Option, Some, None, Ok, false, IsSome, IfOk, MatchBool, MatchOption, option_map, ◌++◌};
+ghost use Rattle.std.specs.Prelude.{◌≡◌, ◌≤◌, OnErr, OnOk, ℕ, List, Option, Some, None, Ok, false, IsSome, IfOk, MatchBool, MatchOption, option_map, ◌++◌};
 ghost use Rattle.ix_text.specs.Parts.{DictionaryEntry, Posting};
 ghost use Rattle.ix_run.specs.Heads.{Heading, heading_of};
-ghost use Rattle.ix_run.specs.Sources.{AreWhole, IsLawfulFront, BeginsTerm, EndsTerms, GivesPosting, EndsPostings, closed};
+ghost use Rattle.ix_run.specs.Sources.{AreWhole, IsLawfulFront, BeginsTerm, EndsTerms, GivesList, GivesPosting, EndsPostings, closed};
 
-use crate::RunHead;
+use crate::{ListError, Listed, RunHead};
+use ix_vbyte::push_posting;
 
 /// A lawful collection's dictionary as a stream: its terms ascending, and the postings of each in order. Documents are
 /// numbered from 0 within the source.
@@ -13,7 +14,8 @@ use crate::RunHead;
 /// Two ghost relations carry what is known of a stream that is read once. `gives` looks back: what the source may have
 /// given so far is lawful under its head. `yields` looks ahead: what it may yield yet makes, with all that it gave, a
 /// lawful whole. Each call moves one step from the one to the other, so that a consumer that has read to the end knows
-/// what the source yielded as a whole.
+/// what the source yielded as a whole. A source of which `gives` holds of nothing meets the trait and tells nothing by it:
+/// so whoever consumes a source asks that it is unread, which is that `gives` holds of it, of no entries and none at hand.
 pub trait Source {
     /// Why a call may be refused.
     type Error;
@@ -45,8 +47,10 @@ pub trait Source {
     fn next_term(&mut self) -> Result<bool, Self::Error>
         ensures heading { heading self.new ≡ heading self.old }
         ensures begun { IfOk result (λ more. MatchBool more
-            ((term : List ℕ) × (current self.new ≡ Some term) × BeginsTerm yields gives is_drained self.old self.new term)
-            ((current self.new ≡ None) × is_ended self.new × EndsTerms yields gives is_drained self.old self.new)) }
+            ((term : List ℕ) × (current self.new ≡ Some term)
+            × BeginsTerm yields gives is_drained self.old self.new term)
+            ((current self.new ≡ None) × is_ended self.new
+            × EndsTerms yields gives is_drained self.old self.new)) }
         ensures ended { is_ended self.old → (result ≡ Ok false) × is_ended self.new };
 
     /// The term at hand.
@@ -65,6 +69,52 @@ pub trait Source {
             (is_drained self.new × EndsPostings yields gives self.old self.new)
             (λ document. GivesPosting yields gives self.old self.new (document, positions.new.items))) }
         ensures drained { is_drained self.old → result ≡ Ok None };
+
+    /// Appends all postings of the term at hand that are left, coded as one list: their documents counted in the
+    /// whole collection, from the head's first number on, and the first gap taken from `next`, which is one above the
+    /// document before them, or 0. So the lists of several sources, of blocks of documents one behind another, make
+    /// one list.
+    ///
+    /// [`ListError::Memory`] where the list finds no room, and [`ListError::Source`] where a posting was refused. A
+    /// refusal leaves the term at hand, and `out` as it was; some postings of the term may have been passed.
+    fn take_list(&mut self, next: u32, out: &mut Vec<u8>) -> Result<Listed, ListError<Self::Error>>
+        requires at_hand { IsSome (current self.old) }
+        requires begun { (finished : List DictionaryEntry)
+            × ((entry : DictionaryEntry) × gives self.old finished (Some entry)) }
+        requires low { next ≤ (heading self.old).first }
+        ensures heading { heading self.new ≡ heading self.old }
+        ensures current { current self.new ≡ current self.old }
+        ensures drained { OnOk result (is_drained self.new) }
+        ensures given { IfOk result (λ listed. GivesList yields gives self.old self.new
+            (heading self.old).first next listed.documents listed.next
+            out.old.items out.new.items) }
+        ensures refused { OnErr result (out.new.items ≡ out.old.items) }
+    {
+        let first = self.head().first;
+        let start = out.len();
+        let mut positions = Vec::new(*out.allocator());
+        let mut listed = Listed { documents: 0, next };
+        loop {
+            match self.next_posting(&mut positions) {
+                Ok(None) => return Ok(listed),
+                Ok(Some(document)) => {
+                    let document = first + document;
+                    if push_posting(out, listed.next, document, &positions).is_err() {
+                        out.truncate(start);
+                        return Err(ListError::Memory);
+                    }
+                    listed = Listed {
+                        documents: listed.documents + 1,
+                        next: document + 1,
+                    };
+                }
+                Err(error) => {
+                    out.truncate(start);
+                    return Err(ListError::Source(error));
+                }
+            }
+        }
+    }
 
     // Where no term is at hand, no posting of one is left.
     ghost drained_without_term: { (source : Self) → current source ≡ None → is_drained source };

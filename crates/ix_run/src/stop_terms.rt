@@ -26,10 +26,14 @@ pub(crate) fn stop_list<R: Read>(
     alloc: Global,
     input: &mut Input<R>,
 ) -> Result<StopList, RunTextError>
-    ensures taken { IfOk result (λ stop. Consumes (known_left R.remaining input.old) (known_left R.remaining input.new) (stop_bytes stop)) }
+    ensures taken { IfOk result (λ stop.
+        Consumes (known_left R.remaining input.old) (known_left R.remaining input.new)
+        (stop_bytes stop)) }
     ensures lawful { IfOk result (λ stop. IsStopSet stop) }
-    ensures accepted { (stop : List (List ℕ)) (rest : List ℕ) → IsStopSet stop → known_left R.remaining input.old ≡ Some (stop_bytes stop ++ rest)
-        → MatchResult result (λ read. (read ≡ stop) × (known_left R.remaining input.new ≡ Some rest)) IsRefusal }
+    ensures accepted { (stop : List (List ℕ)) (rest : List ℕ) → IsStopSet stop
+        → known_left R.remaining input.old ≡ Some (stop_bytes stop ++ rest)
+        → MatchResult result (λ read. (read ≡ stop)
+        × (known_left R.remaining input.new ≡ Some rest)) IsRefusal }
 {
     let (count, _) = input.code(CODE_LIMIT)?;
     if count > MAX_STOP_TERMS {
@@ -45,9 +49,12 @@ fn stop_terms<R: Read>(
     input: &mut Input<R>,
     count: u32,
 ) -> Result<Vec<String>, RunTextError>
-    ensures read { IfOk result (λ terms. ArePiecesRead counted StopTermFits (known_left R.remaining input.old) (known_left R.remaining input.new) (map string_bytes terms.items) count) }
+    ensures read { IfOk result (λ terms.
+        ArePiecesRead counted StopTermFits (known_left R.remaining input.old)
+        (known_left R.remaining input.new) (map string_bytes terms.items) count) }
     ensures all { IfOk result (λ terms. length terms.items ≡ count) }
-    ensures refused { IfErr result (λ error. (terms : List (List ℕ)) (rest : List ℕ) → length terms ≡ count → EachFits StopTermFits terms
+    ensures refused { IfErr result (λ error. (terms : List (List ℕ)) (rest : List ℕ)
+        → length terms ≡ count → EachFits StopTermFits terms
         → known_left R.remaining input.old ≡ Some (flat_map counted terms ++ rest) → IsRefusal error) }
 {
     let mut terms = Vec::new(alloc);
@@ -64,10 +71,15 @@ fn stop_term<R: Read>(
     input: &mut Input<R>,
     before: &[String],
 ) -> Result<String, RunTextError>
-    ensures taken { IfOk result (λ text. Consumes (known_left R.remaining input.old) (known_left R.remaining input.new) (counted (string_bytes text))) }
-    ensures fits { IfOk result (λ text. StopTermFits (map string_bytes before.now) (string_bytes text)) }
-    ensures accepted { (text rest : List ℕ) → StopTermFits (map string_bytes before.now) text → known_left R.remaining input.old ≡ Some (counted text ++ rest)
-        → MatchResult result (λ read. (string_bytes read ≡ text) × (known_left R.remaining input.new ≡ Some rest)) IsRefusal }
+    ensures taken { IfOk result (λ text.
+        Consumes (known_left R.remaining input.old) (known_left R.remaining input.new)
+        (counted (string_bytes text))) }
+    ensures fits { IfOk result (λ text.
+        StopTermFits (map string_bytes before.now) (string_bytes text)) }
+    ensures accepted { (text rest : List ℕ) → StopTermFits (map string_bytes before.now) text
+        → known_left R.remaining input.old ≡ Some (counted text ++ rest)
+        → MatchResult result (λ read. (string_bytes read ≡ text)
+        × (known_left R.remaining input.new ≡ Some rest)) IsRefusal }
 {
     let term = counted_text(alloc, input, RunTextError::TermSize)?;
     if !stands_above(before, term.as_str()) {

@@ -34,16 +34,25 @@ pub(crate) fn read_term<R: Read>(
     scratch: &mut Vec<u8>,
     term: &mut String,
 ) -> Result<Option<TermCounts>, RunTextError>
-    ensures taken { IfOk result (λ found. MatchOption found (Consumes (known_left R.remaining input.old) (known_left R.remaining input.new) (128 ∷ []))
+    ensures taken { IfOk result (λ found.
+        MatchOption found (Consumes (known_left R.remaining input.old)
+        (known_left R.remaining input.new) (128 ∷ []))
         (λ counts. Consumes (known_left R.remaining input.old) (known_left R.remaining input.new)
         (counted (string_bytes term.new) ++ (code_of counts.documents ++ code_of counts.bytes)))) }
-    ensures end { IfOk result (λ found. IfNone found (IsAtEnd (known_left R.remaining input.new) × (string_bytes term.new ≡ string_bytes term.old))) }
-    ensures fits { IfOk result (λ found. IfSome found (λ counts. TermFits stop.now (string_bytes term.old) (string_bytes term.new) counts.documents counts.bytes)) }
-    ensures accepted { (text : List ℕ) (documents bytes : ℕ) (rest : List ℕ) → TermFits stop.now (string_bytes term.old) text documents bytes
-        → known_left R.remaining input.old ≡ Some (counted text ++ (code_of documents ++ (code_of bytes ++ rest)))
-        → MatchResult result (λ found. MatchOption found ⊥ (λ counts. (string_bytes term.new ≡ text) × (counts.documents ≡ documents)
+    ensures end { IfOk result (λ found. IfNone found (IsAtEnd (known_left R.remaining input.new)
+        × (string_bytes term.new ≡ string_bytes term.old))) }
+    ensures fits { IfOk result (λ found.
+        IfSome found (λ counts. TermFits stop.now (string_bytes term.old)
+        (string_bytes term.new) counts.documents counts.bytes)) }
+    ensures accepted { (text : List ℕ) (documents bytes : ℕ) (rest : List ℕ)
+        → TermFits stop.now (string_bytes term.old) text documents bytes
+        → known_left R.remaining input.old
+        ≡ Some (counted text ++ (code_of documents ++ (code_of bytes ++ rest)))
+        → MatchResult result (λ found. MatchOption found ⊥ (λ counts. (string_bytes term.new ≡ text)
+        × (counts.documents ≡ documents)
         × (counts.bytes ≡ bytes) × (known_left R.remaining input.new ≡ Some rest))) IsRefusal }
-    ensures ended { known_left R.remaining input.old ≡ Some (128 ∷ []) → MatchResult result (λ found. found ≡ None) IsRefusal }
+    ensures ended { known_left R.remaining input.old ≡ Some (128 ∷ [])
+        → MatchResult result (λ found. found ≡ None) IsRefusal }
 {
     let (size, _) = input.code(CODE_LIMIT)?;
     if size == 0 {
@@ -57,9 +66,11 @@ pub(crate) fn read_term<R: Read>(
 
 /// Sees that no byte is left: `Extra` where one is.
 fn check_end<R: Read>(input: &mut Input<R>) -> Result<(), RunTextError>
-    ensures taken { OnOk result (Consumes (known_left R.remaining input.old) (known_left R.remaining input.new) []) }
+    ensures taken { OnOk result (Consumes (known_left R.remaining input.old)
+        (known_left R.remaining input.new) []) }
     ensures end { OnOk result (IsAtEnd (known_left R.remaining input.new)) }
-    ensures accepted { known_left R.remaining input.old ≡ Some [] → MatchResult result (λ _. known_left R.remaining input.new ≡ Some []) IsRefusal }
+    ensures accepted { known_left R.remaining input.old ≡ Some []
+        → MatchResult result (λ _. known_left R.remaining input.new ≡ Some []) IsRefusal }
 {
     match input.byte()? {
         None => Ok(()),
@@ -76,12 +87,15 @@ fn read_text<R: Read>(
     term: &mut String,
 ) -> Result<(), RunTextError>
     requires { 0 < size }
-    ensures taken { OnOk result (Consumes (known_left R.remaining input.old) (known_left R.remaining input.new) (string_bytes term.new)) }
+    ensures taken { OnOk result (Consumes (known_left R.remaining input.old)
+        (known_left R.remaining input.new) (string_bytes term.new)) }
     ensures size { OnOk result (length (string_bytes term.new) ≡ size) }
     ensures fits { OnOk result (TextFits stop.now (string_bytes term.old) (string_bytes term.new)) }
-    ensures accepted { (text rest : List ℕ) → TextFits stop.now (string_bytes term.old) text → size ≡ length text
+    ensures accepted { (text rest : List ℕ) → TextFits stop.now (string_bytes term.old) text
+        → size ≡ length text
         → known_left R.remaining input.old ≡ Some (text ++ rest)
-        → MatchResult result (λ _. (string_bytes term.new ≡ text) × (known_left R.remaining input.new ≡ Some rest)) IsRefusal }
+        → MatchResult result (λ _. (string_bytes term.new ≡ text)
+        × (known_left R.remaining input.new ≡ Some rest)) IsRefusal }
 {
     if size > MAX_TEXT_BYTES {
         return Err(RunTextError::TermSize);
@@ -103,12 +117,16 @@ fn read_text<R: Read>(
 
 /// Takes the two numbers behind a term: `Zero` where the first is 0.
 fn read_counts<R: Read>(input: &mut Input<R>) -> Result<TermCounts, RunTextError>
-    ensures taken { IfOk result (λ counts. Consumes (known_left R.remaining input.old) (known_left R.remaining input.new) (code_of counts.documents ++ code_of counts.bytes)) }
+    ensures taken { IfOk result (λ counts.
+        Consumes (known_left R.remaining input.old) (known_left R.remaining input.new)
+        (code_of counts.documents ++ code_of counts.bytes)) }
     ensures some { IfOk result (λ counts. 0 < counts.documents) }
     ensures fit { IfOk result (λ counts. (counts.documents < 2 ^ 32) × (counts.bytes < 2 ^ 32)) }
-    ensures accepted { (documents bytes : ℕ) (rest : List ℕ) → 0 < documents → documents < 2 ^ 32 → bytes < 2 ^ 32
+    ensures accepted { (documents bytes : ℕ) (rest : List ℕ) → 0 < documents → documents < 2 ^ 32
+        → bytes < 2 ^ 32
         → known_left R.remaining input.old ≡ Some (code_of documents ++ (code_of bytes ++ rest))
-        → MatchResult result (λ counts. (counts.documents ≡ documents) × (counts.bytes ≡ bytes) × (known_left R.remaining input.new ≡ Some rest)) IsRefusal }
+        → MatchResult result (λ counts. (counts.documents ≡ documents) × (counts.bytes ≡ bytes)
+        × (known_left R.remaining input.new ≡ Some rest)) IsRefusal }
 {
     let (documents, _) = read_positive(input, CODE_LIMIT)?;
     let (bytes, _) = input.code(CODE_LIMIT)?;

@@ -52,7 +52,8 @@ impl TermList {
         requires numbered { document < 2 ^ 28 }
         requires within { position < 2 ^ 28 }
         requires behind { IsBefore self.old document position }
-        ensures held { OnOk result ((postings : List Posting) → HoldsPostings self.old postings → HoldsPostings self.new (grown postings document position)) }
+        ensures held { OnOk result ((postings : List Posting) → HoldsPostings self.old postings
+            → HoldsPostings self.new (grown postings document position)) }
         ensures before { OnOk result (IsBefore self.new document (position + 1)) }
     {
         if self.document == document {
@@ -67,7 +68,8 @@ impl TermList {
         requires numbered { document < 2 ^ 28 }
         requires later { self.old.document < document }
         requires documents { self.old.documents ≤ self.old.document + 1 }
-        ensures held { OnOk result ((postings : List Posting) → HoldsPostings self.old postings → IsOpen self.new postings []) }
+        ensures held { OnOk result ((postings : List Posting) → HoldsPostings self.old postings
+            → IsOpen self.new postings []) }
         ensures document { OnOk result (self.new.document ≡ document) }
         ensures documents { OnOk result (self.new.documents ≤ document + 1) }
         ensures positions { OnOk result (self.new.positions ≡ 0) }
@@ -88,7 +90,9 @@ impl TermList {
         requires within { position < 2 ^ 28 }
         requires behind { self.old.next_position ≤ position }
         requires positions { self.old.positions ≤ self.old.next_position }
-        ensures held { OnOk result ((front : List Posting) (positions : List ℕ) → IsOpen self.old front positions → IsOpen self.new front (positions ++ position ∷ [])) }
+        ensures held { OnOk result ((front : List Posting) (positions : List ℕ)
+            → IsOpen self.old front positions
+            → IsOpen self.new front (positions ++ position ∷ [])) }
         ensures document { OnOk result (self.new.document ≡ self.old.document) }
         ensures documents { OnOk result (self.new.documents ≡ self.old.documents) }
         ensures next { OnOk result (self.new.next_position ≡ position + 1) }
@@ -102,7 +106,8 @@ impl TermList {
 
     /// Codes the open posting behind the others.
     fn close(&mut self) -> Result<(), Memory>
-        ensures coded { OnOk result ((postings : List Posting) → HoldsPostings self.old postings → self.new.coded.items ≡ list_bytes postings) }
+        ensures coded { OnOk result ((postings : List Posting) → HoldsPostings self.old postings
+            → self.new.coded.items ≡ list_bytes postings) }
         ensures document { self.new.document ≡ self.old.document }
         ensures documents { self.new.documents ≡ self.old.documents }
     {
@@ -111,12 +116,15 @@ impl TermList {
         self.coded.extend_from_slice(&self.gaps)
     }
 
-    /// The coded list, and how many postings it has.
-    pub(crate) fn into_coded(mut self) -> Result<(Vec<u8>, u32), Memory>
-        ensures bytes { IfOk result (λ coded. (postings : List Posting) → HoldsPostings self postings → coded.0.items ≡ list_bytes postings) }
+    /// The coded list, how many postings it has, and the document of the last one.
+    pub(crate) fn into_coded(mut self) -> Result<(Vec<u8>, u32, u32), Memory>
+        ensures bytes { IfOk result (λ coded.
+            (postings : List Posting) → HoldsPostings self postings
+            → coded.0.items ≡ list_bytes postings) }
         ensures documents { IfOk result (λ coded. coded.1 ≡ self.documents) }
+        ensures last { IfOk result (λ coded. coded.2 ≡ self.document) }
     {
         self.close()?;
-        Ok((self.coded, self.documents))
+        Ok((self.coded, self.documents, self.document))
     }
 }

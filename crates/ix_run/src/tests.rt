@@ -1,4 +1,5 @@
 mod reading;
+mod walking;
 
 use crate::{RunError, WriteError, invert, run_text_has_eighteen_bytes};
 use ix_text::{Collection, Doc, StopList};

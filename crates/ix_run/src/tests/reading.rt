@@ -1,8 +1,10 @@
 //! Reading run texts: what they stand for, and why others are refused.
+ghost use Rattle.std.specs.Prelude.{◌<◌, IfSome};
+
 use crate::{Run, RunReader, RunTextError, Source, invert};
 use ix_text::{Collection, StopList};
-use std::alloc::Global;
-use std::io::{self, Read};
+use std::alloc::{AllocError, Global};
+use std::io::{self, Read, Write};
 use std::process::Abort;
 use std::test::Fail;
 
@@ -133,48 +135,81 @@ fn accepted_changes_are_written_again(rt: HostRuntime) -> Result<(), Fail> {
     Ok(())
 }
 
+/// The name of an error, or nothing.
+fn name_of(alloc: Global, error: Option<RunTextError>) -> Result<String, AllocError> {
+    match error {
+        None => Ok(String::new(alloc)),
+        Some(error) => error.to_string(alloc),
+    }
+}
+
+/// What may stand behind the head, and how it is refused, or nothing.
+const FAULTS: [(&[u8], &str); 27] = [
+    (b"\x80", ""),
+    (b"\x80\x80", "Extra"),
+    (b"\x02\x80", "TermSize"),
+    (b"\x81\xff", "Text"),
+    (b"\x81x\x80", "Zero"),
+    (b"\x81x\x81\x83\x80", "Zero"),
+    (b"\x81x\x81\x83\x83", "DocRange"),
+    (b"\x81x\x81\x83\x00", "Number(LeadingZero)"),
+    (b"\x81x\x81\x83\x10\0\0\0\x80", "ListLength"),
+    (b"\x81x\x81\x85\x10\0\0\0\x80", "Number(TooBig)"),
+    (b"\x81x\x81\x83\x81\x80", "Zero"),
+    (b"\x81x\x81\x83\x81\x81\x80", "Zero"),
+    (b"\x81x\x81\x83\x81\x81\x83", "PositionRange"),
+    (b"\x81x\x81\x83\x82\x81\x82", "PositionRange"),
+    (b"\x81x\x81\x82\x81\x81\x81", "ListLength"),
+    (b"\x81x\x81\x84\x81\x81\x81\x81", "ListLength"),
+    (b"\x81x\x81\xff\x81\x81\x81", "ListLength"),
+    (b"\x81x\x82\x83\x81\x81\x81", "ListLength"),
+    (b"\x81x\x82\x83\x81\x81\x81\x0f\x7f", "ListLength"),
+    (
+        b"\x81x\x82\x8a\x81\x81\x81\x0f\x7f\x7f\x7f\xff\x81\x81",
+        "DocRange",
+    ),
+    (
+        b"\x81x\x81\x88\x81\x82\x81\x0f\x7f\x7f\x7f\xff",
+        "PositionRange",
+    ),
+    (b"\x81y\x81\x83\x81\x81\x81\x81x", "TermOrder"),
+    (b"\x81x\x81\x83\x81\x81\x81\x81x", "TermOrder"),
+    (
+        b"\x81x\x81\x83\x81\x81\x81\x81y\x81\x83\x81\x81\x81",
+        "Doubled",
+    ),
+    (
+        b"\x81x\x81\x83\x81\x81\x82\x81y\x81\x84\x81\x82\x81\x81",
+        "Doubled",
+    ),
+    (
+        b"\x81x\x81\x84\x81\x82\x81\x81\x81y\x81\x83\x81\x81\x82",
+        "Doubled",
+    ),
+    (
+        b"\x81x\x81\x83\x81\x81\x81\x81y\x81\x83\x81\x81\x82\x80",
+        "",
+    ),
+];
+
 #[test]
 fn faults_behind_the_head(rt: HostRuntime) -> Result<(), Fail> {
-    let cases: [(&[u8], &str); 22] = [
-        (b"\x80", ""),
-        (b"\x80\x80", "Extra"),
-        (b"\x02\x80", "TermSize"),
-        (b"\x81\xff", "Text"),
-        (b"\x81x\x80", "Zero"),
-        (b"\x81x\x81\x83\x80", "Zero"),
-        (b"\x81x\x81\x83\x83", "DocRange"),
-        (b"\x81x\x81\x83\x00", "Number(LeadingZero)"),
-        (b"\x81x\x81\x83\x10\0\0\0\x80", "ListLength"),
-        (b"\x81x\x81\x85\x10\0\0\0\x80", "Number(TooBig)"),
-        (b"\x81x\x81\x83\x81\x80", "Zero"),
-        (b"\x81x\x81\x83\x81\x81\x80", "Zero"),
-        (b"\x81x\x81\x83\x81\x81\x83", "PositionRange"),
-        (b"\x81x\x81\x83\x82\x81\x82", "PositionRange"),
-        (b"\x81x\x81\x82\x81\x81\x81", "ListLength"),
-        (b"\x81x\x81\x84\x81\x81\x81\x81", "ListLength"),
-        (b"\x81x\x81\xff\x81\x81\x81", "ListLength"),
-        (b"\x81x\x82\x83\x81\x81\x81", "ListLength"),
-        (b"\x81y\x81\x83\x81\x81\x81\x81x", "TermOrder"),
-        (b"\x81x\x81\x83\x81\x81\x81\x81x", "TermOrder"),
-        (
-            b"\x81x\x81\x83\x81\x81\x81\x81y\x81\x83\x81\x81\x81",
-            "Doubled",
-        ),
-        (
-            b"\x81x\x81\x83\x81\x81\x81\x81y\x81\x83\x81\x81\x82\x80",
-            "",
-        ),
-    ];
     let mut again = Vec::new(rt.alloc());
-    for (body, want) in cases {
+    for (body, want) in FAULTS {
         let mut text = Vec::new(rt.alloc());
         text.extend_from_slice(HEAD)?;
         text.extend_from_slice(body)?;
-        let got = match refusal(rt.alloc(), text.as_slice(), &mut again)? {
-            None => String::new(rt.alloc()),
-            Some(error) => error.to_string(rt.alloc())?,
-        };
+        let got = name_of(
+            rt.alloc(),
+            refusal(rt.alloc(), text.as_slice(), &mut again)?,
+        )?;
         assert_eq!(rt; got.as_str(), want, "{body:?}");
+        let slow = Slow {
+            bytes: &text,
+            left: text.len() + 1,
+        };
+        let got = name_of(rt.alloc(), refusal(rt.alloc(), slow, &mut again)?)?;
+        assert_eq!(rt; got.as_str(), want, "{body:?}, a byte at a time");
     }
     let stopped = b"PIIXRUN1\0\0\0\0\x01\0\0\0\x81\x81x\x81a\x82\x81x".as_slice();
     let got = refusal(rt.alloc(), stopped, &mut again)?;
@@ -224,21 +259,85 @@ fn readers_stay_at_their_end(rt: HostRuntime) -> Result<(), Fail> {
     Ok(())
 }
 
-#[test]
-fn many_short_documents(rt: HostRuntime) -> Result<(), Fail> {
-    let mut text = String::new(rt.alloc());
-    for number in 0..100_000u32 {
-        let line = format!(in rt.alloc(); "n{number}\tx{} y z{}\n", number % 7, number % 1000)?;
+/// Bytes that are given or taken in pieces of changing sizes, now and then after an interruption, and never refused.
+#[derive(Drop)]
+struct Uneven<T> {
+    bytes: T,
+    calls: usize,
+}
+
+impl<T> Uneven<T> {
+    /// How many bytes the next call may have, at least 1. None: it is interrupted.
+    fn next_size(&mut self) -> Option<usize>
+        ensures { IfSome result (λ size. 0 < size) }
+    {
+        self.calls = self.calls.wrapping_add(1);
+        if self.calls % 3 == 0 {
+            return None;
+        }
+        Some(self.calls % 97 * 787 + 1)
+    }
+}
+
+impl Read for Uneven<&[u8]> {
+    fn read(&mut self, buf: &mut [u8]) -> io::Result<usize> {
+        let Some(size) = self.next_size() else {
+            return Err(io::Error::from(io::ErrorKind::Interrupted));
+        };
+        let count = size.min(buf.len()).min(self.bytes.len());
+        buf[..count].copy_from_slice(&self.bytes[..count]);
+        self.bytes = &self.bytes[count..];
+        Ok(count)
+    }
+}
+
+impl Write for Uneven<Vec<u8>> {
+    fn write(&mut self, bytes: &[u8]) -> io::Result<usize> {
+        let Some(size) = self.next_size() else {
+            return Err(io::Error::from(io::ErrorKind::Interrupted));
+        };
+        let count = size.min(bytes.len());
+        self.bytes.extend_from_slice(&bytes[..count])?;
+        Ok(count)
+    }
+
+    fn flush(&mut self) -> io::Result<()> {
+        Ok(())
+    }
+}
+
+/// A run of so many documents.
+fn run_of_many(alloc: Global, documents: u32) -> Result<Run, Fail> {
+    let mut text = String::new(alloc);
+    for number in 0..documents {
+        let line = format!(in alloc; "n{number}\tx{} y z{}\n", number % 7, number % 1000)?;
         text.push_str(&line)?;
     }
-    let collection = Collection::read(rt.alloc(), text.as_bytes())?;
-    assert_eq!(rt; collection.docs().len(), 100_000);
-    let stop = StopList::read(rt.alloc(), "z5\n")?;
-    let run = invert(rt.alloc(), collection.docs(), &stop, 7)?;
+    let collection = Collection::read(alloc, text.as_bytes())?;
+    let stop = StopList::read(alloc, "z5\n")?;
+    Ok(invert(alloc, collection.docs(), &stop, 7)?)
+}
+
+#[test]
+fn many_short_documents(rt: HostRuntime) -> Result<(), Fail> {
+    let run = run_of_many(rt.alloc(), 300_000)?;
     let mut bytes = Vec::new(rt.alloc());
     run.write_to(&mut bytes)?;
+    let mut uneven = Uneven {
+        bytes: Vec::new(rt.alloc()),
+        calls: 0,
+    };
+    assert_eq!(rt; run.write_to(&mut uneven), Ok(()));
+    assert!(rt; uneven.bytes == bytes);
+    let head = run.into_head();
+    assert_eq!(rt; head.first, 7);
+    assert_eq!(rt; head.docs.len(), 300_000);
     let mut again = Vec::new(rt.alloc());
-    assert_eq!(rt; refusal(rt.alloc(), bytes.as_slice(), &mut again)?, None);
+    let uneven = Uneven {
+        bytes: bytes.as_slice(),
+        calls: 0,
+    };
+    assert_eq!(rt; refusal(rt.alloc(), uneven, &mut again)?, None);
     assert!(rt; again == bytes);
     Ok(())
 }

@@ -65,6 +65,6 @@ pub returns-clause-given : goal.returns-clause-given
 returns-clause-given g c =
     let ok = c.in_ok-document.ensures in
     let ends = rw c.in_default.is at ok.given in
-    list_all g.R.Read.remaining c.args.reader.now c.loop-list.reader c.next_posting.new.self c.loop-list.next c.loop-list.documents c.loop-list.list.items (string_bytes c.in_ok-term.term)
-    c.loop-list.invariant (c.term.ensures ∙ ap (λ (t : List ℕ). Some t) (sym c.in_ok-term.ensures.ok)) ends.0 ends.1
+    list_all g.R.Read.remaining c.args.reader.now c.loop-list.reader c.next_posting.new.self c.loop-list.next c.loop-list.documents c.saturating_sub.result c.loop-list.list.items (string_bytes c.in_ok-term.term)
+    c.loop-list.invariant c.saturating_sub.ensures (c.term.ensures ∙ ap (λ (t : List ℕ). Some t) (sym c.in_ok-term.ensures.ok)) ends.0 ends.1
     (λ postings entries faces. rw c.in_default.is at (ok.accepted postings entries faces))

@@ -1,5 +1,5 @@
 -- The bytes seen come first of what was left, and show a code or a fault.
-use Rattle.std.proofs.Common.{Option, ◌≡◌, ◌+◌, ◌<◌, ℕ, List, [], ◌∷◌, ◌++◌, take, length, set, refl, sym, subst, ap, ◌∙◌, arith}
+use Rattle.std.proofs.Common.{Option, ◌≡◌, ◌+◌, ◌<◌, ℕ, List, [], ◌∷◌, take, length, set, refl, sym, subst, ap, ◌∙◌, arith}
 use Rattle.std.proofs.KnownBytes.{Consumes-nil, Consumes-trans}
 use Rattle.std.proofs.lemmas.List.{take_more_set, length-take, length-set}
 use Rattle.std.specs.Io.KnownBytes.{Consumes}

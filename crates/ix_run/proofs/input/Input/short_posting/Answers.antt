@@ -9,5 +9,5 @@ pub returns-in-Some-clause-taken : goal.returns-in-Some-clause-taken
 unfolding known_left
 returns-in-Some-clause-taken g c =
     let input = c.args.self.now in
-    code_taken (g.R.Read.remaining input.reader) input.buffer.items (single_bytes c.in-Some.posting.gap c.in-Some.posting.position) input.start input.end c.in-Some.posting.size input.ordered (omega (arith, input.buffer.ok.0, input.within))
+    code_taken (g.R.Read.remaining input.reader) input.buffer.items (single_bytes c.in-Some.posting.gap c.in-Some.posting.position_gap) input.start input.end c.in-Some.posting.size input.ordered (omega (arith, input.buffer.ok.0, input.within))
     c.in-Some.ensures.found.sized (rw c.deref.ensures.value at c.in-Some.ensures.found.spelled)

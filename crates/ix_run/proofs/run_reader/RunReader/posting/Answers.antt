@@ -1,5 +1,5 @@
 -- The posting that is read is the next one: it fits, its tokens were free, and it is the first of those that lie ahead.
-use Rattle.std.proofs.Common.{◌≡◌, ◌≢◌, ◌-◌, ◌+◌, ◌≤◌, ◌^◌, ◌∷◌, map, length, arith, ap, ◌∙◌, sym}
+use Rattle.std.proofs.Common.{◌-◌, ◌+◌, ◌∷◌, map, arith, ap, ◌∙◌, sym}
 use Rattle.std.proofs.lemmas.Result.{err_from_is_err_and}
 use Rattle.ix_text.specs.Parts.{Posting}
 use Rattle.ix_run.specs.Heads.{row_of_doc}
@@ -53,6 +53,7 @@ invariant_of-self-2 g c =
       table = self.table;
       few_documents = self.few_documents;
       few_tokens = self.few_tokens;
+      narrow = (let narrow = self.narrow in let same = c.in_ok-document.ensures.room in omega (arith, narrow, same));
       room = (let room = self.room in let same = c.in_ok-document.ensures.room in omega (arith, room, same));
       near = near_next rows self.next (c.in_ok-document.document, c.read_posting.new.positions.items) (c.in_ok-document.ensures.fits rows self.table) self.few_documents;
       listed = elim c.else-documents-eq0.branch [
