@@ -7,6 +7,7 @@ use Rattle.ix_text.specs.Collections.{Collection, IsLawful}
 use Rattle.ix_text.specs.Parts.{ArePartsOf, AreGramsOf, GramEntry, terms_of}
 use Rattle.ix_text.specs.Sinks.{AppendsFront}
 use Rattle.ix_text.proofs.SinkLemmas.{appends_then, appends_keeps}
+use Rattle.ix_file.proofs.SpellLemmas.{all_spelled}
 use Rattle.ix_file.specs.Endings.{IsEnding, IsFinished, WritesIndexText, trailer_bytes, trailer_of}
 use Rattle.ix_file.specs.Grams.{AreGramsOfTerms, AppendsGrams}
 use Rattle.ix_file.specs.HeldGrams.{HoldsGrams}
@@ -48,12 +49,6 @@ front_of_all old new bytes gained = record { front = bytes; rest = []; parts = s
 -- what went out is a front of the text
 pub front_of_spelled : (before now : Option (List ℕ)) (pending text : List ℕ) → Spells before now pending text → AppendsFront before now text
 front_of_spelled before now pending text spells = record { front = spells.gone; rest = pending; parts = sym spells.spelled; gained = spells.gained }
-
--- where nothing is pending, all of the text went out
-pub all_spelled : (before now : Option (List ℕ)) (pending text : List ℕ) → Spells before now pending text → pending ≡ [] → Appends before now text
-all_spelled before now pending text spells none =
-    let whole : spells.gone ≡ text = sym (append-nil spells.gone) ∙ ap (λ bytes. spells.gone ++ bytes) (sym none) ∙ spells.spelled in
-    subst (λ bytes. Appends before now bytes) whole spells.gained
 
 -- ---- the trailer
 -- eight appended one after another, each known by another name

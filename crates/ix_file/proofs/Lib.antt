@@ -28,6 +28,7 @@ pub mod IndexTold
 pub mod ListReading
 pub mod ListingReading
 pub mod ListingsTold
+pub mod ListTold
 pub mod ListsFound
 pub mod OnceLemmas
 pub mod OpenedLemmas

@@ -1,5 +1,5 @@
 -- What went out and what is pending, over the steps of a writer.
-use Rattle.std.proofs.Common.{◌≡◌, ℕ, List, [], ◌++◌, Option, sym, ap, ◌∙◌, append_assoc}
+use Rattle.std.proofs.Common.{◌≡◌, ℕ, List, [], ◌++◌, Option, subst, sym, ap, ◌∙◌, append_assoc}
 use Rattle.std.proofs.lemmas.List.{append-nil}
 use Rattle.std.specs.Io.KnownBytes.{Appends}
 use Rattle.ix_text.specs.Sinks.{AppendsFront}
@@ -21,4 +21,17 @@ spells_front before now new pending text spells part = record {
   rest = part.rest;
   parts = sym spells.spelled ∙ ap (λ bytes. spells.gone ++ bytes) part.parts ∙ sym (append_assoc spells.gone part.front part.rest);
   gained = appends_then before now new spells.gone part.front spells.gained part.gained;
+}
+
+-- where nothing is pending, the text went out
+pub all_spelled : (before now : Option (List ℕ)) (pending text : List ℕ) → Spells before now pending text → pending ≡ [] → Appends before now text
+all_spelled before now pending text spells none =
+    subst (Appends before now) (sym (append-nil spells.gone) ∙ ap (λ bytes. spells.gone ++ bytes) (sym none) ∙ spells.spelled) spells.gained
+
+-- bytes more went out, and nothing is pending
+pub spells_behind : (before now new : Option (List ℕ)) (pending bytes text : List ℕ) → Spells before now pending text → pending ≡ [] → Appends now new bytes → Spells before new pending (text ++ bytes)
+spells_behind before now new pending bytes text spells none gained = record {
+  gone = text ++ bytes;
+  gained = appends_then before now new text bytes (all_spelled before now pending text spells none) gained;
+  spelled = ap (λ part. (text ++ bytes) ++ part) none ∙ append-nil (text ++ bytes);
 }

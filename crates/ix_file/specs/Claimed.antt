@@ -18,3 +18,8 @@ HaveClaimed old new more = (numbers : List ℕ) → HasClaimed old numbers → H
 unfoldable pub HasRoom : Claims → ℕ → Type 0
 HasRoom (Marked marks doubled) top = top ≤ room marks
 HasRoom (Listed listed) top = ⊤
+
+-- how many marks there are: a bit each
+abbrev pub mark_count : Claims → ℕ
+mark_count (Marked marks doubled) = room marks
+mark_count (Listed listed) = 0

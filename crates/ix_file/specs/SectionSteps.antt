@@ -1,9 +1,8 @@
 -- What the steps of a writer do to what it keeps.
-use Rattle.std.specs.Prelude.{◌≡◌, ℕ, ◌+◌, ◌-◌, ◌<◌, List, [], ◌∷◌, ◌++◌, length, None}
+use Rattle.std.specs.Prelude.{◌≡◌, ℕ, ◌+◌, ◌<◌, List, [], ◌∷◌, ◌++◌, length, None}
 use Rattle.ix_text.specs.Parts.{DocumentRow}
 use Rattle.ix_file.specs.IndexText.{magic}
 use Rattle.ix_file.specs.Sections.{FrontCoded, stop_section, documents_section}
-use Rattle.ix_vbyte.specs.Postings.{posting_bytes}
 use Rattle.ix_file.specs.declared.sections.Sections.{Sections}
 use Rattle.ix_file.specs.Dictionaries.{GainsEntry}
 use Rattle.ix_file.specs.HeldGrams.{HoldsGrams}
@@ -69,17 +68,16 @@ pub record Opens (old new : Sections) (term : List ℕ) : Type 0 where
   pub next : new.list.next ≡ old.list.next
   pub grams : (terms : List (List ℕ)) → HoldsGrams old.grams terms → HoldsGrams new.grams (terms ++ term ∷ [])
 
--- the entry at hand has a posting more
-pub record Stages (old new : Sections) (document : ℕ) (positions : List ℕ) : Type 0 where
+-- the list of the entry at hand has so many documents more, the last of them just before `after`, and so many bytes
+pub record Counts (old new : Sections) (count after size : ℕ) : Type 0 where
   pub front : KeepsFront old new
   pub dictionary : new.dictionary ≡ old.dictionary
   pub grams : new.grams ≡ old.grams
   pub term : new.list.term ≡ old.list.term
-  pub pending : new.pending.items ≡ old.pending.items ++ posting_bytes (document + 1 - old.list.next) (document, positions)
-  pub postings : new.postings ≡ old.postings + length (posting_bytes (document + 1 - old.list.next) (document, positions))
-  pub bytes : new.list.bytes ≡ old.list.bytes + length (posting_bytes (document + 1 - old.list.next) (document, positions))
-  pub documents : new.list.documents ≡ old.list.documents + 1
-  pub next : new.list.next ≡ document + 1
+  pub postings : new.postings ≡ old.postings + size
+  pub bytes : new.list.bytes ≡ old.list.bytes + size
+  pub documents : new.list.documents ≡ old.list.documents + count
+  pub next : new.list.next ≡ after
 
 -- what was told stays: all but what is pending, and the refusal
 pub record KeepsTold (old new : Sections) : Type 0 where

@@ -1,9 +1,10 @@
 -- That a writer was told some parts: what it keeps of them, and what it has written.
-use Rattle.std.specs.Prelude.{◌≡◌, ℕ, ◌+◌, ◌*◌, ◌^◌, ◌<◌, ◌≤◌, List, [], ◌∷◌, ◌++◌, Option, None, Some, length, MatchOption, IfSome}
+use Rattle.std.specs.Prelude.{◌≡◌, ℕ, ◌+◌, ◌-◌, ◌*◌, ◌^◌, ◌<◌, ◌≤◌, List, [], ◌∷◌, ◌++◌, Option, None, Some, length, MatchOption, IfSome}
 use Rattle.std.specs.Io.KnownBytes.{Appends}
 use Rattle.ix_vbyte.specs.Gaps.{next_after}
-use Rattle.ix_vbyte.specs.Postings.{documents_of, list_bytes}
+use Rattle.ix_vbyte.specs.Postings.{Posting, ArePostings, documents_of, list_bytes, list_bytes_from}
 use Rattle.ix_text.specs.Parts.{DictionaryEntry, terms_of}
+use Rattle.ix_text.specs.PartsLaws.{position_count}
 use Rattle.ix_file.specs.Sections.{FrontCoded, postings_section, stop_section, documents_section, dictionary_section}
 use Rattle.ix_file.specs.Told.{Told, entries_of, settled_front, position_total}
 use Rattle.ix_file.specs.HeldGrams.{HoldsGrams}
@@ -68,11 +69,29 @@ pub record MayPost (told : Told) (document count : ℕ) : Type 0 where
   pub follows : next_after 0 (documents_of entry.postings) ≤ document
   pub few : position_total (entries_of told) + count ≤ 2 ^ 28
 
+-- an entry is at hand, these are the bytes of postings behind its own, so many and the last of them before `next`,
+-- and positions are few enough with theirs
+pub record MayList (told : Told) (postings : List Posting) (documents next : ℕ) (bytes : List ℕ) : Type 0 where
+  pub entry : DictionaryEntry
+  pub at_hand : told.at_hand ≡ Some entry
+  pub follow : ArePostings (next_after 0 (documents_of entry.postings)) (2 ^ 32 - 1) postings
+  pub few : position_total (entries_of told) + position_count postings ≤ 2 ^ 28
+  pub count : documents ≡ length postings
+  pub last : next ≡ next_after (next_after 0 (documents_of entry.postings)) (documents_of postings)
+  pub coded : bytes ≡ list_bytes_from (next_after 0 (documents_of entry.postings)) postings
+
 -- such a posting may be told to a writer that keeps this
 pub record CanPost (sections : Sections) (document count : ℕ) : Type 0 where
   pub told : Told
   pub kept : SectionsTold sections told
   pub may : MayPost told document count
+
+-- such bytes of postings may be told to a writer that keeps this
+pub record CanList (sections : Sections) (documents next : ℕ) (bytes : List ℕ) : Type 0 where
+  pub told : Told
+  pub kept : SectionsTold sections told
+  pub postings : List Posting
+  pub may : MayList told postings documents next bytes
 
 -- the entry at hand may be finished in a writer that keeps this
 pub record CanClose (sections : Sections) : Type 0 where

@@ -3,6 +3,7 @@ use Rattle.std.specs.Prelude.{ℕ, List, [], ◌∷◌, ◌++◌, Option, None, 
 use Rattle.std.specs.Option.{option_map, option_to_list}
 use Rattle.ix_text.specs.Parts.{Parts, DictionaryEntry, DocumentRow}
 use Rattle.ix_text.specs.PartsLaws.{position_count}
+use Rattle.ix_vbyte.specs.Postings.{Posting}
 use Rattle.ix_file.specs.IndexText.{magic}
 use Rattle.ix_file.specs.Sections.{FrontCoded, postings_section}
 
@@ -26,14 +27,18 @@ abbrev pub with_term : Told → List ℕ → Told
 with_term told term =
     record { stop = told.stop; rows = told.rows; done = entries_of told; at_hand = Some (record { term = term; postings = [] }) }
 
--- the entry with a posting more
-abbrev pub posted : ℕ → List ℕ → DictionaryEntry → DictionaryEntry
-posted document positions entry = record { term = entry.term; postings = entry.postings ++ (document, positions) ∷ [] }
+-- the entry with these postings more
+abbrev pub listed : List Posting → DictionaryEntry → DictionaryEntry
+listed postings entry = record { term = entry.term; postings = entry.postings ++ postings }
+
+-- these postings more, of the entry at hand
+abbrev pub with_postings : Told → List Posting → Told
+with_postings told postings =
+    record { stop = told.stop; rows = told.rows; done = told.done; at_hand = option_map (listed postings) told.at_hand }
 
 -- a posting more, of the entry at hand
 abbrev pub with_posting : Told → ℕ → List ℕ → Told
-with_posting told document positions =
-    record { stop = told.stop; rows = told.rows; done = told.done; at_hand = option_map (posted document positions) told.at_hand }
+with_posting told document positions = with_postings told ((document, positions) ∷ [])
 
 -- the parts that were told
 abbrev pub parts_of : Told → Parts

@@ -1,6 +1,6 @@
 -- What a caller sees of a writer of an index text: what it was told, where it writes, and whether it refused.
 use Rattle.std.specs.Prelude.{◌≡◌, ℕ, List, Option, None, Some}
-use Rattle.ix_file.specs.Telling.{IsTold, CanPost, CanClose}
+use Rattle.ix_file.specs.Telling.{IsTold, CanPost, CanList, CanClose}
 use Rattle.ix_file.specs.Told.{Told}
 use Rattle.ix_file.specs.declared.put_error.PutError.{PutError}
 use Rattle.ix_file.specs.declared.sections.Sections.{Sections}
@@ -33,6 +33,11 @@ module _ {W : Type 0} where
   -- before this one, and positions are few enough with so many more.
   abbrev pub TakesPosting : IndexWriter W Sections → ℕ → ℕ → Type 0
   TakesPosting writer document count = CanPost writer.sections document count
+
+  -- Some parts were told to the writer, behind which these bytes may be told: an entry is at hand, they are those of
+  -- postings behind its own, so many and the last of them before `next`, and positions are few enough with theirs.
+  abbrev pub TakesList : IndexWriter W Sections → ℕ → ℕ → List ℕ → Type 0
+  TakesList writer documents next bytes = CanList writer.sections documents next bytes
 
   -- some parts were told to the writer, and the last entry, if there is one, has a posting
   abbrev pub CanEndEntry : IndexWriter W Sections → Type 0

@@ -64,11 +64,16 @@ impl<'a> Index<'a> {
     /// The errors are those of `OpenError`; which of several is named is told by the order of the sections. `Memory`
     /// where memory is refused, which any text may meet.
     pub fn open(alloc: Global, bytes: &'a [u8]) -> Result<Index<'a>, OpenError>
-        ensures found { IfOk result (λ index. (collection : Collection) × IsIndexOf index index.version collection × IsIndexText index.version collection bytes.now) }
-        ensures exact { (version : FormatVersion) (collection : Collection) → IsIndexText version collection bytes.now → MatchResult result (λ index. IsIndexOf index version collection) (λ error. error ≡ Memory) }
+        ensures found { IfOk result (λ index. (collection : Collection)
+            × IsIndexOf index index.version collection × IsIndexText index.version collection
+            bytes.now) }
+        ensures exact { (version : FormatVersion) (collection : Collection) →
+            IsIndexText version collection bytes.now →
+            MatchResult result (λ index. IsIndexOf index version collection)
+            (λ error. error ≡ Memory) }
     {
         let frame = cut(bytes)?;
-        let tables = read_tables(alloc, &frame, bytes.len())?;
+        let tables = read_tables(alloc, &frame)?;
         Ok(Index::new(frame.sections, Held::Owned(tables)))
     }
 
@@ -153,7 +158,9 @@ impl<'a> Index<'a> {
 
     /// The postings of a term, or none where no document has the term.
     pub fn find(&self, term: &str) -> Option<Postings<'a>>
-        ensures { MatchOption result (¬ (Contains (terms_of self.now.parts.entries) term.now)) (λ postings. Contains self.now.parts.entries (record { term = term.now; postings = postings })) }
+        ensures { MatchOption result (¬ (Contains (terms_of self.now.parts.entries) term.now))
+            (λ postings. Contains self.now.parts.entries
+            (record { term = term.now; postings = postings })) }
     {
         let number = place_of(self.tables.tables().terms.as_slice(), term)?;
         Some(self.list(number as u32))
@@ -161,7 +168,8 @@ impl<'a> Index<'a> {
 
     /// The numbers of the terms that have a gram, or none where no term has it.
     pub fn gram(&self, gram: &str) -> Option<Numbers<'a>>
-        ensures { MatchOption result (¬ (Contains (gram_texts self.now.grams) gram.now)) (λ numbers. Contains self.now.grams (record { gram = gram.now; numbers = numbers })) }
+        ensures { MatchOption result (¬ (Contains (gram_texts self.now.grams) gram.now))
+            (λ numbers. Contains self.now.grams (record { gram = gram.now; numbers = numbers })) }
     {
         let rows = self.tables.tables().grams.as_slice();
         let place = find_gram(self.sections.grams, rows, gram)?;
@@ -174,7 +182,8 @@ impl<'a> Index<'a> {
 /// The place of a term, or none where no row is of it.
 fn place_of(rows: &[TermRow], term: &str) -> Option<usize>
     requires { IsAscending (map term_in rows.now) }
-    ensures { MatchOption result (¬ (Contains (map term_in rows.now) term.now)) (λ place. slice_get (map term_in rows.now) place ≡ Some term.now) }
+    ensures { MatchOption result (¬ (Contains (map term_in rows.now) term.now))
+        (λ place. slice_get (map term_in rows.now) place ≡ Some term.now) }
 {
     rows.binary_search_by(|row| row.term.as_str().cmp(&term))
         .ok()

@@ -36,20 +36,23 @@ use crate::tables::Tables;
 use ix_text::TokenTable;
 use std::alloc::{AllocError, Global};
 
-/// Reads the tables of an index text of so many bytes, which was cut into its frame.
+/// Reads the tables of an index text that was cut into its frame.
 ///
 /// The errors of STOP, DOCS, DICTIONARY, POSTINGS and GRAMS, in this order; or `Memory`.
-pub(crate) fn read_tables(
-    alloc: Global,
-    frame: &Frame<'_>,
-    size: usize,
-) -> Result<Tables, OpenError>
+pub(crate) fn read_tables(alloc: Global, frame: &Frame<'_>) -> Result<Tables, OpenError>
     requires documents { frame.now.documents ≤ 2 ^ 28 }
     requires terms { frame.now.terms < 2 ^ 32 }
     ensures version { IfOk result (λ tables. tables.version ≡ frame.now.version) }
     ensures tables { IfOk result (λ tables. AreTablesOf (texts_in frame.now.sections) tables) }
-    ensures spelled { IfOk result (λ tables. AreSectionsOf (version_in frame.now.version) (parts_in (texts_in frame.now.sections) tables) (grams_in frame.now.sections.grams.now tables.grams.items) (texts_in frame.now.sections) frame.now.documents frame.now.terms) }
-    ensures refused { IfErr result (λ error. (error ≡ Memory) ⊎ ((parts : Parts) (grams : List GramEntry) → AreLawful parts → AreGramsOfTerms (terms_of parts.entries) grams → ¬ (AreSectionsOf (version_in frame.now.version) parts grams (texts_in frame.now.sections) frame.now.documents frame.now.terms))) }
+    ensures spelled { IfOk result (λ tables. AreSectionsOf (version_in frame.now.version)
+        (parts_in (texts_in frame.now.sections) tables)
+        (grams_in frame.now.sections.grams.now tables.grams.items) (texts_in frame.now.sections)
+        frame.now.documents frame.now.terms) }
+    ensures refused { IfErr result (λ error. (error ≡ Memory)
+        ⊎ ((parts : Parts) (grams : List GramEntry) → AreLawful parts →
+        AreGramsOfTerms (terms_of parts.entries) grams →
+        ¬ (AreSectionsOf (version_in frame.now.version) parts grams (texts_in frame.now.sections)
+        frame.now.documents frame.now.terms))) }
 {
     let sections = frame.sections;
     let stop = read_stop(alloc, sections.stop)?;
@@ -64,7 +67,7 @@ pub(crate) fn read_tables(
         postings,
     )?;
     let tokens = table_of(alloc, &rows)?;
-    let claims = Claims::new(alloc, token_total(&rows), size)?;
+    let claims = Claims::new(alloc, token_total(&rows), postings)?;
     check_lists(sections.postings, &terms, &tokens, claims)?;
     let grams = read_grams(alloc, sections.grams, &terms)?;
     Ok(Tables {
@@ -79,7 +82,8 @@ pub(crate) fn read_tables(
 /// The table of the tokens of documents, of which there are at most 2^28.
 fn table_of(alloc: Global, rows: &[Row]) -> Result<TokenTable, AllocError>
     requires { sum_by (λ row. row.tokens) rows.now ≤ 2 ^ 28 }
-    ensures { IfOk result (λ table. (section : List ℕ) → HasTokens table (rows_in section rows.now)) }
+    ensures { IfOk result (λ table. (section : List ℕ) →
+        HasTokens table (rows_in section rows.now)) }
 {
     let mut table = TokenTable::new(alloc)?;
     for row in rows {

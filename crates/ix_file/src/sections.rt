@@ -1,6 +1,7 @@
 //! What a writer of an index text keeps until its end.
 ghost use Rattle.std.specs.Prelude.{◌≡◌, ◌≤◌, ◌<◌, ◌+◌, ◌-◌, ◌*◌, ◌^◌, ◌++◌, ℕ, List, [], ◌∷◌, length, None, Some, OnOk, OnErr, IfOk, IfErr, All, map, string_bytes};
 ghost use Rattle.ix_vbyte.specs.Gaps.{Ascends};
+ghost use Rattle.ix_vbyte.specs.Postings.{posting_bytes};
 ghost use Rattle.ix_text.specs.Terms.{IsTerm};
 ghost use Rattle.ix_file.specs.Rows.{document_row};
 ghost use Rattle.ix_file.specs.Sections.{stop_section, documents_section};
@@ -49,7 +50,7 @@ impl Sections {
     ghost use Rattle.ix_file.specs.declared.put_error.PutError.{PutError};
     ghost use Rattle.ix_file.specs.Endings.{IsEnding};
     ghost use Rattle.ix_file.specs.HeldGrams.{HoldsGrams};
-    ghost use Rattle.ix_file.specs.SectionSteps.{IsEmpty, Begins, Closes, Opens, Stages};
+    ghost use Rattle.ix_file.specs.SectionSteps.{IsEmpty, Begins, Closes, Opens, Counts};
 
     /// What is kept before anything is told. Takes no memory.
     pub(crate) fn empty(alloc: Global) -> Sections
@@ -72,7 +73,8 @@ impl Sections {
     pub(crate) fn begin(&mut self, stop: &StopList, rows: &[DocRow<'_>]) -> Result<(), AllocError>
         requires few { length rows.now < 2 ^ 32 }
         requires names { All (λ row. length row.name.now < 2 ^ 32) rows.now }
-        ensures { IsEmpty self.old → OnOk result (Begins self.new stop.now (map document_row rows.now)) }
+        ensures { IsEmpty self.old → OnOk result
+            (Begins self.new stop.now (map document_row rows.now)) }
     {
         self.pending.try_reserve(ROOM)?;
         self.pending.extend_from_slice(MAGIC)?;
@@ -126,7 +128,8 @@ impl Sections {
     /// GRAMS and the trailer, after the last entry was closed.
     pub(crate) fn ending(&mut self) -> Result<Vec<u8>, AllocError>
         requires { (terms : List (List ℕ)) × HoldsGrams self.old.grams terms }
-        ensures ending { (terms : List (List ℕ)) → HoldsGrams self.old.grams terms → IfOk result (λ ending. IsEnding self.old terms ending.items) }
+        ensures ending { (terms : List (List ℕ)) → HoldsGrams self.old.grams terms →
+            IfOk result (λ ending. IsEnding self.old terms ending.items) }
         ensures kept { self.new ≡ record self.old { grams = self.new.grams } }
     {
         let mut ending = Vec::new(*self.stop.allocator());
@@ -154,24 +157,42 @@ impl Sections {
         requires documents { self.old.list.documents + 1 < 2 ^ 32 }
         requires list { self.old.list.bytes + 15 * length positions.now < 2 ^ 32 }
         requires postings { self.old.postings + 15 * length positions.now < 2 ^ 32 }
-        ensures staged { OnOk result (Stages self.old self.new document positions.now) }
+        ensures pending { OnOk result (self.new.pending.items ≡ self.old.pending.items
+            ++ posting_bytes (document + 1 - self.old.list.next) (document, positions.now)) }
+        ensures counted { OnOk result (Counts self.old self.new 1 (document + 1)
+            (length (posting_bytes (document + 1 - self.old.list.next)
+            (document, positions.now)))) }
         ensures refusal { self.new.refusal ≡ self.old.refusal }
     {
         let start = self.pending.len();
         push_posting(&mut self.pending, self.list.next, document, positions)?;
         let gained = self.pending.len() - start;
-        self.postings += gained as u64;
-        self.list.bytes += gained as u32;
-        self.list.documents += 1;
-        self.list.next = document + 1;
+        self.count(1, document + 1, gained as u32);
         Ok(())
+    }
+
+    /// Counts documents of the entry at hand, the last of them just before `next`, whose postings have `size` bytes.
+    #[inline]
+    pub(crate) fn count(&mut self, documents: u32, next: u32, size: u32)
+        requires documents { self.old.list.documents + documents < 2 ^ 32 }
+        requires list { self.old.list.bytes + size < 2 ^ 32 }
+        requires postings { self.old.postings + size < 2 ^ 32 }
+        ensures counted { Counts self.old self.new documents next size }
+        ensures pending { self.new.pending ≡ self.old.pending }
+        ensures refusal { self.new.refusal ≡ self.old.refusal }
+    {
+        self.postings += size as u64;
+        self.list.documents += documents;
+        self.list.bytes += size;
+        self.list.next = next;
     }
 }
 
 /// Appends the STOP section.
 fn push_stop(out: &mut Vec<u8>, terms: &[String]) -> Result<(), AllocError>
     requires { All IsTerm (map string_bytes terms.now) }
-    ensures { OnOk result (out.new.items ≡ out.old.items ++ stop_section (map string_bytes terms.now)) }
+    ensures { OnOk result (out.new.items ≡ out.old.items
+        ++ stop_section (map string_bytes terms.now)) }
 {
     for term in terms {
         push_counted(out, term.as_bytes())?;
@@ -182,7 +203,8 @@ fn push_stop(out: &mut Vec<u8>, terms: &[String]) -> Result<(), AllocError>
 /// Appends the DOCS section.
 fn push_rows(out: &mut Vec<u8>, rows: &[DocRow<'_>]) -> Result<(), AllocError>
     requires { All (λ row. length row.name.now < 2 ^ 32) rows.now }
-    ensures { OnOk result (out.new.items ≡ out.old.items ++ documents_section (map document_row rows.now)) }
+    ensures { OnOk result (out.new.items ≡ out.old.items
+        ++ documents_section (map document_row rows.now)) }
 {
     for row in rows {
         push_counted(out, row.name.as_bytes())?;

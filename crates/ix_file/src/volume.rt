@@ -77,11 +77,16 @@ impl Volume {
 
     /// Opens an index text, as `Index::open` does, and keeps its bytes; a refusal drops them.
     pub fn open(alloc: Global, bytes: Vec<u8>) -> Result<Volume, OpenError>
-        ensures found { IfOk result (λ volume. (collection : Collection) × IsIndexOf volume volume.version collection × IsIndexText volume.version collection bytes.items) }
-        ensures exact { (version : FormatVersion) (collection : Collection) → IsIndexText version collection bytes.items → MatchResult result (λ volume. IsIndexOf volume version collection) (λ error. error ≡ Memory) }
+        ensures found { IfOk result (λ volume. (collection : Collection)
+            × IsIndexOf volume volume.version collection × IsIndexText volume.version collection
+            bytes.items) }
+        ensures exact { (version : FormatVersion) (collection : Collection) →
+            IsIndexText version collection bytes.items →
+            MatchResult result (λ volume. IsIndexOf volume version collection)
+            (λ error. error ≡ Memory) }
     {
         let frame = cut(&bytes)?;
-        let tables = read_tables(alloc, &frame, bytes.len())?;
+        let tables = read_tables(alloc, &frame)?;
         let places = places_of(&bytes, frame.sections);
         Ok(Volume {
             bytes,

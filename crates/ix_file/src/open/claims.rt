@@ -1,14 +1,17 @@
 //! The tokens that the lists of an index text claim, each by its number in the whole collection.
-ghost use Rattle.std.specs.Prelude.{◌≡◌, ℕ, ◌<◌, ◌∷◌, [], ◌↔◌, List, IfOk, OnOk, IsTrue};
+ghost use Rattle.std.specs.Prelude.{◌≡◌, ℕ, ◌*◌, ◌<◌, ◌≤◌, ◌∷◌, [], ◌↔◌, List, IfOk, OnOk, IsTrue};
 ghost use Rattle.std.specs.List.Sorted.{IsStrictlyIncreasing};
 ghost use Rattle.ix_text.specs.TokenNumbers.{AreDistinct};
-ghost use Rattle.ix_file.specs.Claimed.{HasClaimed, HasRoom, HaveClaimed};
+ghost use Rattle.ix_file.specs.Claimed.{HasClaimed, HasRoom, HaveClaimed, mark_count};
 
 use ix_text::TokenMarks;
 use std::alloc::{AllocError, Global};
 
 /// How many marks take a byte.
-const MARKS_A_BYTE: u32 = 8;
+const MARKS_A_BYTE: usize = 8;
+
+/// How many marks there may be more than tokens, since they stand in whole words.
+const UNUSED: usize = 63;
 
 /// The tokens that were claimed so far.
 #[derive(Drop)]
@@ -20,13 +23,14 @@ pub(crate) enum Claims {
 }
 
 impl Claims {
-    /// No claims, with room for the tokens of a collection: marks where they take no more bytes than the file has,
-    /// and else a list, so that a file that tells of many tokens and has few takes no more memory than its own size.
-    pub(crate) fn new(alloc: Global, tokens: u32, file_bytes: usize) -> Result<Claims, AllocError>
+    /// No claims, with room for the tokens of a collection: marks where they take no more bytes than POSTINGS has,
+    /// and else a list, so that a text that tells of many tokens and has few takes no more memory for it.
+    pub(crate) fn new(alloc: Global, tokens: u32, postings: usize) -> Result<Claims, AllocError>
         ensures none { IfOk result (λ claims. HasClaimed claims []) }
         ensures room { IfOk result (λ claims. HasRoom claims tokens) }
+        ensures few { IfOk result (λ claims. mark_count claims ≤ 8 * postings) }
     {
-        if (tokens / MARKS_A_BYTE) as usize <= file_bytes {
+        if (tokens as usize + UNUSED).div_ceil(MARKS_A_BYTE) <= postings {
             let marks = TokenMarks::new(alloc, tokens)?;
             Ok(Claims::Marked(marks, false))
         } else {
@@ -55,7 +59,8 @@ impl Claims {
 
     /// Whether a token was claimed more than once.
     pub(crate) fn are_doubled(self) -> bool
-        ensures { (numbers : List ℕ) → HasClaimed self numbers → IsTrue result ↔ ¬ (AreDistinct numbers) }
+        ensures { (numbers : List ℕ) → HasClaimed self numbers →
+            IsTrue result ↔ ¬ (AreDistinct numbers) }
     {
         match self {
             Claims::Marked(_, doubled) => doubled,

@@ -47,10 +47,15 @@ pub(crate) fn read_dictionary(
     count: u32,
     postings: usize,
 ) -> Result<Vec<TermRow>, OpenError>
-    ensures terms { IfOk result (λ rows. AreListings stop.now (listings_in rows.items) × (section.now ≡ listings_section (version_in version) (listings_in rows.items))) }
-    ensures counts { IfOk result (λ rows. (length rows.items ≡ count) × (sizes_sum (listings_in rows.items) ≡ postings)) }
+    ensures terms { IfOk result (λ rows. AreListings stop.now (listings_in rows.items)
+        × (section.now ≡ listings_section (version_in version) (listings_in rows.items))) }
+    ensures counts { IfOk result (λ rows. (length rows.items ≡ count)
+        × (sizes_sum (listings_in rows.items) ≡ postings)) }
     ensures starts { IfOk result (λ rows. AreLaidOut rows.items) }
-    ensures refused { IfErr result (λ error. (error ≡ Memory) ⊎ ((listings : List Listing) → AreListings stop.now listings → length listings ≡ count → sizes_sum listings ≡ postings → section.now ≢ listings_section (version_in version) listings)) }
+    ensures refused { IfErr result (λ error. (error ≡ Memory)
+        ⊎ ((listings : List Listing) → AreListings stop.now listings → length listings ≡ count →
+        sizes_sum listings ≡ postings → section.now ≢ listings_section (version_in version)
+        listings)) }
 {
     let mut rows = Vec::new(alloc);
     let mut start = 0usize;
@@ -96,11 +101,16 @@ fn read_row<'a>(
     left: &'a [u8],
 ) -> Result<(TermRow, &'a [u8]), OpenError>
     requires { length before.now ≤ MAX_BYTES }
-    ensures term { IfOk result (λ read. TermMayFollow stop.now before.now (listing_in read.0).term) }
+    ensures term { IfOk result (λ read. TermMayFollow stop.now before.now
+        (listing_in read.0).term) }
     ensures counts { IfOk result (λ read. HasListedCounts (listing_in read.0)) }
     ensures start { IfOk result (λ read. read.0.start ≡ start) }
-    ensures found { IfOk result (λ read. left.now ≡ listing_bytes (version_in version) place before.now (listing_in read.0) ++ read.1.now) }
-    ensures refused { IfErr result (λ error. (error ≡ Memory) ⊎ ((listing : Listing) (rest : List ℕ) → TermMayFollow stop.now before.now listing.term → HasListedCounts listing → left.now ≢ listing_bytes (version_in version) place before.now listing ++ rest)) }
+    ensures found { IfOk result (λ read. left.now ≡ listing_bytes (version_in version) place
+        before.now (listing_in read.0) ++ read.1.now) }
+    ensures refused { IfErr result (λ error. (error ≡ Memory)
+        ⊎ ((listing : Listing) (rest : List ℕ) → TermMayFollow stop.now before.now listing.term →
+        HasListedCounts listing → left.now ≢ listing_bytes (version_in version) place before.now
+        listing ++ rest)) }
 {
     let (term, behind) = read_term(alloc, version, stop, place, before, left)?;
     let (documents, size, rest) = read_counts(behind)?;
@@ -119,8 +129,10 @@ fn read_row<'a>(
 fn read_counts(left: &[u8]) -> Result<(u32, u32, &[u8]), OpenError>
     ensures some { IfOk result (λ read. 0 < read.0) }
     ensures small { IfOk result (λ read. (read.0 < 2 ^ 32) × (read.1 < 2 ^ 32)) }
-    ensures found { IfOk result (λ read. left.now ≡ (code_of read.0 ++ code_of read.1) ++ read.2.now) }
-    ensures refused { OnErr result ((listing : Listing) (rest : List ℕ) → HasListedCounts listing → left.now ≢ (code_of listing.documents ++ code_of listing.size) ++ rest) }
+    ensures found { IfOk result (λ read. left.now ≡ (code_of read.0 ++ code_of read.1)
+        ++ read.2.now) }
+    ensures refused { OnErr result ((listing : Listing) (rest : List ℕ) → HasListedCounts listing →
+        left.now ≢ (code_of listing.documents ++ code_of listing.size) ++ rest) }
 {
     let (documents, behind) = number(Section::Dictionary, left)?;
     if documents == 0 {
@@ -144,8 +156,11 @@ fn read_term<'a>(
 ) -> Result<(String, &'a [u8]), OpenError>
     requires { length before.now ≤ MAX_BYTES }
     ensures term { IfOk result (λ read. TermMayFollow stop.now before.now (string_bytes read.0)) }
-    ensures found { IfOk result (λ read. left.now ≡ dictionary_term_bytes (version_in version) place before.now (string_bytes read.0) ++ read.1.now) }
-    ensures refused { IfErr result (λ error. (error ≡ Memory) ⊎ ((term rest : List ℕ) → TermMayFollow stop.now before.now term → left.now ≢ dictionary_term_bytes (version_in version) place before.now term ++ rest)) }
+    ensures found { IfOk result (λ read. left.now ≡ dictionary_term_bytes (version_in version) place
+        before.now (string_bytes read.0) ++ read.1.now) }
+    ensures refused { IfErr result (λ error. (error ≡ Memory)
+        ⊎ ((term rest : List ℕ) → TermMayFollow stop.now before.now term →
+        left.now ≢ dictionary_term_bytes (version_in version) place before.now term ++ rest)) }
 {
     let cut = cut_term(version, place, before.as_bytes(), left)?;
     let term = joined(alloc, cut.front, cut.own)?;
@@ -192,8 +207,11 @@ fn cut_term<'a, 'b>(
 ) -> Result<TermCut<'a, 'b>, OpenError>
     requires { length before.now ≤ MAX_BYTES }
     ensures size { IfOk result (λ cut. HasTermSize (text_of cut)) }
-    ensures found { IfOk result (λ cut. left.now ≡ dictionary_term_bytes (version_in version) place before.now (text_of cut) ++ cut.rest.now) }
-    ensures refused { OnErr result ((term rest : List ℕ) → HasTermSize term → IsAscending (before.now ∷ term ∷ []) → left.now ≢ dictionary_term_bytes (version_in version) place before.now term ++ rest) }
+    ensures found { IfOk result (λ cut. left.now ≡ dictionary_term_bytes (version_in version) place
+        before.now (text_of cut) ++ cut.rest.now) }
+    ensures refused { OnErr result ((term rest : List ℕ) → HasTermSize term →
+        IsAscending (before.now ∷ term ∷ []) → left.now ≢ dictionary_term_bytes (version_in version)
+        place before.now term ++ rest) }
 {
     match version {
         Version::Plain => cut_whole(before, left),
@@ -213,7 +231,8 @@ fn cut_term<'a, 'b>(
 fn cut_whole<'a, 'b>(before: &'b [u8], left: &'a [u8]) -> Result<TermCut<'a, 'b>, OpenError>
     ensures size { IfOk result (λ cut. HasTermSize (text_of cut)) }
     ensures found { IfOk result (λ cut. left.now ≡ counted (text_of cut) ++ cut.rest.now) }
-    ensures refused { OnErr result ((term rest : List ℕ) → HasTermSize term → left.now ≢ counted term ++ rest) }
+    ensures refused { OnErr result ((term rest : List ℕ) → HasTermSize term →
+        left.now ≢ counted term ++ rest) }
 {
     let (size, bytes) = number(Section::Dictionary, left)?;
     if size == 0 || size > MAX_BYTES {
@@ -234,8 +253,10 @@ fn cut_whole<'a, 'b>(before: &'b [u8], left: &'a [u8]) -> Result<TermCut<'a, 'b>
 fn cut_front_coded<'a, 'b>(before: &'b [u8], left: &'a [u8]) -> Result<TermCut<'a, 'b>, OpenError>
     requires { length before.now ≤ MAX_BYTES }
     ensures size { IfOk result (λ cut. HasTermSize (text_of cut)) }
-    ensures found { IfOk result (λ cut. left.now ≡ front_coded before.now (text_of cut) ++ cut.rest.now) }
-    ensures refused { OnErr result ((term rest : List ℕ) → HasTermSize term → IsAscending (before.now ∷ term ∷ []) → left.now ≢ front_coded before.now term ++ rest) }
+    ensures found { IfOk result (λ cut. left.now ≡ front_coded before.now (text_of cut)
+        ++ cut.rest.now) }
+    ensures refused { OnErr result ((term rest : List ℕ) → HasTermSize term →
+        IsAscending (before.now ∷ term ∷ []) → left.now ≢ front_coded before.now term ++ rest) }
 {
     let (shared, behind) = number(Section::Dictionary, left)?;
     let (size, bytes) = number(Section::Dictionary, behind)?;

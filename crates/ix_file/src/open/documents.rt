@@ -33,10 +33,13 @@ pub(crate) fn read_documents(
     section: &[u8],
     count: u32,
 ) -> Result<Vec<Row>, OpenError>
-    ensures rows { IfOk result (λ rows. AreRows (rows_in section.now rows.items) × (section.now ≡ documents_section (rows_in section.now rows.items))) }
+    ensures rows { IfOk result (λ rows. AreRows (rows_in section.now rows.items)
+        × (section.now ≡ documents_section (rows_in section.now rows.items))) }
     ensures count { IfOk result (λ rows. length rows.items ≡ count) }
     ensures placed { IfOk result (λ rows. All (IsNameRow section.now) rows.items) }
-    ensures refused { IfErr result (λ error. (error ≡ Memory) ⊎ ((rows : List DocumentRow) → AreRows rows → length rows ≡ count → section.now ≢ documents_section rows)) }
+    ensures refused { IfErr result (λ error. (error ≡ Memory)
+        ⊎ ((rows : List DocumentRow) → AreRows rows → length rows ≡ count →
+        section.now ≢ documents_section rows)) }
 {
     let mut rows = Vec::new(alloc);
     let mut tokens = 0;
@@ -61,8 +64,10 @@ fn read_row<'a>(section: &[u8], left: &'a [u8]) -> Result<(Row, &'a [u8]), OpenE
     requires { (before : List ℕ) × (section.now ≡ before ++ left.now) }
     ensures name { IfOk result (λ read. IsName (row_in section.now read.0).name) }
     ensures placed { IfOk result (λ read. IsNameRow section.now read.0) }
-    ensures found { IfOk result (λ read. left.now ≡ row_bytes (row_in section.now read.0) ++ read.1.now) }
-    ensures refused { OnErr result ((row : DocumentRow) (rest : List ℕ) → IsName row.name → row.tokens < 2 ^ 32 → left.now ≢ row_bytes row ++ rest) }
+    ensures found { IfOk result (λ read. left.now ≡ row_bytes (row_in section.now read.0)
+        ++ read.1.now) }
+    ensures refused { OnErr result ((row : DocumentRow) (rest : List ℕ) → IsName row.name →
+        row.tokens < 2 ^ 32 → left.now ≢ row_bytes row ++ rest) }
 {
     let (name, behind) = read_name(left)?;
     let (tokens, rest) = number(Section::Documents, behind)?;
@@ -76,8 +81,10 @@ fn read_row<'a>(section: &[u8], left: &'a [u8]) -> Result<(Row, &'a [u8]), OpenE
 
 /// The name that stands at the front of what is left of DOCS, and what follows it.
 fn read_name(left: &[u8]) -> Result<(&str, &[u8]), OpenError>
-    ensures found { IfOk result (λ read. IsName read.0.now × (left.now ≡ counted read.0.now ++ read.1.now)) }
-    ensures refused { OnErr result ((name rest : List ℕ) → IsName name → left.now ≢ counted name ++ rest) }
+    ensures found { IfOk result (λ read. IsName read.0.now
+        × (left.now ≡ counted read.0.now ++ read.1.now)) }
+    ensures refused { OnErr result ((name rest : List ℕ) → IsName name → left.now ≢ counted name
+        ++ rest) }
 {
     let (name, rest) = text(Section::Documents, OpenError::Name, left)?;
     if !is_unbroken(name.as_bytes()) {

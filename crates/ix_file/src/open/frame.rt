@@ -49,9 +49,12 @@ pub(crate) struct Frame<'a> {
 /// the last eight are not those of this version; `Lengths` where the lengths do not sum to what is between; `TooLarge`
 /// where there are more than 2^28 documents.
 pub(crate) fn cut(bytes: &[u8]) -> Result<Frame<'_>, OpenError>
-    ensures found { IfOk result (λ frame. bytes.now ≡ framed (version_in frame.version) (texts_in frame.sections) frame.documents frame.terms) }
+    ensures found { IfOk result (λ frame. bytes.now ≡ framed (version_in frame.version)
+        (texts_in frame.sections) frame.documents frame.terms) }
     ensures few { IfOk result (λ frame. (frame.documents ≤ 2 ^ 28) × (frame.terms < 2 ^ 32)) }
-    ensures refused { OnErr result ((version : FormatVersion) (texts : SectionTexts) (documents terms : ℕ) → documents ≤ 2 ^ 28 → terms < 2 ^ 32 → bytes.now ≢ framed version texts documents terms) }
+    ensures refused { OnErr result ((version : FormatVersion) (texts : SectionTexts)
+        (documents terms : ℕ) → documents ≤ 2 ^ 28 → terms < 2 ^ 32 →
+        bytes.now ≢ framed version texts documents terms) }
 {
     if bytes.len() < FEWEST {
         return Err(OpenError::Short);
@@ -89,7 +92,8 @@ struct Parts<'a> {
 /// Cuts bytes where the parts of a frame end.
 fn split_frame(bytes: &[u8]) -> Parts<'_>
     requires { FEWEST ≤ length bytes.now }
-    ensures { IsCutInto bytes.now result.mark.now result.body.now result.sizes.now result.counts.now result.end_mark.now }
+    ensures { IsCutInto bytes.now result.mark.now result.body.now result.sizes.now result.counts.now
+        result.end_mark.now }
 {
     let (mark, rest) = bytes.split_at(EIGHT);
     let (body, trailer) = rest.split_at(rest.len() - 56);
@@ -106,7 +110,8 @@ fn split_frame(bytes: &[u8]) -> Parts<'_>
 
 /// The version whose mark stands at the front.
 fn version_of(mark: &[u8]) -> Option<Version>
-    ensures { MatchOption result ((version : FormatVersion) → mark.now ≢ magic version) (λ version. mark.now ≡ magic (version_in version)) }
+    ensures { MatchOption result ((version : FormatVersion) → mark.now ≢ magic version)
+        (λ version. mark.now ≡ magic (version_in version)) }
 {
     if mark == b"PIIX0001".as_slice() {
         return Some(Version::Plain);
@@ -130,8 +135,10 @@ fn ends(version: Version, mark: &[u8]) -> bool
 /// Cuts what stands between the marks' first and the trailer by the five lengths.
 fn cut_sections<'a>(body: &'a [u8], sizes: &[u8]) -> Result<SectionBytes<'a>, OpenError>
     requires { length sizes.now ≡ 40 }
-    ensures found { IfOk result (λ sections. (body.now ≡ joined_sections (texts_in sections)) × (sizes.now ≡ lengths (texts_in sections))) }
-    ensures refused { OnErr result ((texts : SectionTexts) → body.now ≡ joined_sections texts → sizes.now ≢ lengths texts) }
+    ensures found { IfOk result (λ sections. (body.now ≡ joined_sections (texts_in sections))
+        × (sizes.now ≡ lengths (texts_in sections))) }
+    ensures refused { OnErr result ((texts : SectionTexts) → body.now ≡ joined_sections texts →
+        sizes.now ≢ lengths texts) }
 {
     let (postings, body, sizes) = cut_section(body, sizes)?;
     let (stop, body, sizes) = cut_section(body, sizes)?;
@@ -156,10 +163,12 @@ fn cut_section<'a, 'b>(
     sizes: &'b [u8],
 ) -> Result<(&'a [u8], &'a [u8], &'b [u8]), OpenError>
     requires { EIGHT ≤ length sizes.now }
-    ensures found { IfOk result (λ cut. (body.now ≡ cut.0.now ++ cut.1.now) × (sizes.now ≡ eight (length cut.0.now) ++ cut.2.now)) }
+    ensures found { IfOk result (λ cut. (body.now ≡ cut.0.now ++ cut.1.now)
+        × (sizes.now ≡ eight (length cut.0.now) ++ cut.2.now)) }
     ensures small { length body.now < 2 ^ 64 }
     ensures less { IfOk result (λ cut. length sizes.now ≡ EIGHT + length cut.2.now) }
-    ensures refused { OnErr result ((section rest more : List ℕ) → body.now ≡ section ++ rest → sizes.now ≢ eight (length section) ++ more) }
+    ensures refused { OnErr result ((section rest more : List ℕ) → body.now ≡ section ++ rest →
+        sizes.now ≢ eight (length section) ++ more) }
 {
     let (size, more) = read_length(sizes);
     if size > body.len() as u64 {

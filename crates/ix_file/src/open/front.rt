@@ -17,9 +17,11 @@ const MAX_BYTES: u32 = 255;
 /// `Number`, with this section, where no code stands there.
 #[inline]
 pub(crate) fn number(section: Section, bytes: &[u8]) -> Result<(u32, &[u8]), OpenError>
-    ensures found { IfOk result (λ read. (read.0 < 2 ^ 32) × (bytes.now ≡ code_of read.0 ++ read.1.now)) }
+    ensures found { IfOk result (λ read. (read.0 < 2 ^ 32)
+        × (bytes.now ≡ code_of read.0 ++ read.1.now)) }
     ensures fault { IfErr result (λ error. IsNumberFault section bytes.now error) }
-    ensures refused { OnErr result ((n : ℕ) (rest : List ℕ) → n < 2 ^ 32 → bytes.now ≢ code_of n ++ rest) }
+    ensures refused { OnErr result ((n : ℕ) (rest : List ℕ) → n < 2 ^ 32 → bytes.now ≢ code_of n
+        ++ rest) }
 {
     match decode(bytes) {
         Ok((number, count)) => Ok((number, &bytes[count..])),
@@ -32,8 +34,10 @@ pub(crate) fn number(section: Section, bytes: &[u8]) -> Result<(u32, &[u8]), Ope
 /// `Number` of `Cut`, with this section, where there are fewer.
 #[inline]
 pub(crate) fn taken(section: Section, count: u32, bytes: &[u8]) -> Result<(&[u8], &[u8]), OpenError>
-    ensures found { IfOk result (λ read. (length read.0.now ≡ count) × (bytes.now ≡ read.0.now ++ read.1.now)) }
-    ensures fault { IfErr result (λ error. (error ≡ OpenError.Number section VbError.Cut) × (length bytes.now < count)) }
+    ensures found { IfOk result (λ read. (length read.0.now ≡ count)
+        × (bytes.now ≡ read.0.now ++ read.1.now)) }
+    ensures fault { IfErr result (λ error. (error ≡ OpenError.Number section VbError.Cut)
+        × (length bytes.now < count)) }
 {
     bytes
         .split_at_checked(count as usize)
@@ -50,8 +54,10 @@ pub(crate) fn text(
     wrong_size: OpenError,
     bytes: &[u8],
 ) -> Result<(&str, &[u8]), OpenError>
-    ensures found { IfOk result (λ read. IsTerm read.0.now × (bytes.now ≡ counted read.0.now ++ read.1.now)) }
-    ensures refused { OnErr result ((text rest : List ℕ) → IsTerm text → bytes.now ≢ counted text ++ rest) }
+    ensures found { IfOk result (λ read. IsTerm read.0.now
+        × (bytes.now ≡ counted read.0.now ++ read.1.now)) }
+    ensures refused { OnErr result ((text rest : List ℕ) → IsTerm text → bytes.now ≢ counted text
+        ++ rest) }
 {
     let (count, rest) = number(section, bytes)?;
     if count == 0 || count > MAX_BYTES {

@@ -38,9 +38,13 @@ pub(crate) fn read_grams(
     terms: &[TermRow],
 ) -> Result<Vec<GramRow>, OpenError>
     requires { length terms.now < 2 ^ 32 }
-    ensures grams { IfOk result (λ rows. AreGramsOfTerms (terms_in terms.now) (grams_in section.now rows.items) × (section.now ≡ grams_section (grams_in section.now rows.items))) }
+    ensures grams { IfOk result (λ rows. AreGramsOfTerms (terms_in terms.now)
+        (grams_in section.now rows.items) × (section.now ≡ grams_section
+        (grams_in section.now rows.items))) }
     ensures rows { IfOk result (λ rows. All (IsGramRow section.now) rows.items) }
-    ensures refused { IfErr result (λ error. (error ≡ Memory) ⊎ ((grams : List GramEntry) → AreGramsOfTerms (terms_in terms.now) grams → section.now ≢ grams_section grams)) }
+    ensures refused { IfErr result (λ error. (error ≡ Memory)
+        ⊎ ((grams : List GramEntry) → AreGramsOfTerms (terms_in terms.now) grams →
+        section.now ≢ grams_section grams)) }
 {
     let mut rows: Vec<GramRow> = Vec::new(alloc);
     let mut total = 0;
@@ -68,11 +72,14 @@ fn read_gram<'a>(
 ) -> Result<(GramRow, &'a [u8]), OpenError>
     requires few { length terms.now < 2 ^ 32 }
     requires within { (before : List ℕ) × (section.now ≡ before ++ left.now) }
-    ensures entry { IfOk result (λ read. IsRightEntry (terms_in terms.now) (gram_in section.now read.0)) }
+    ensures entry { IfOk result (λ read. IsRightEntry (terms_in terms.now)
+        (gram_in section.now read.0)) }
     ensures row { IfOk result (λ read. IsGramRow section.now read.0) }
-    ensures found { IfOk result (λ read. left.now ≡ opened.gram_bytes (gram_in section.now read.0) ++ read.1.now) }
+    ensures found { IfOk result (λ read. left.now ≡ opened.gram_bytes (gram_in section.now read.0)
+        ++ read.1.now) }
     ensures size { IfOk result (λ read. read.0.count + length read.1.now ≤ length left.now) }
-    ensures refused { IfErr result (λ error. (entry : GramEntry) (rest : List ℕ) → IsRightEntry (terms_in terms.now) entry → left.now ≢ opened.gram_bytes entry ++ rest) }
+    ensures refused { IfErr result (λ error. (entry : GramEntry) (rest : List ℕ) →
+        IsRightEntry (terms_in terms.now) entry → left.now ≢ opened.gram_bytes entry ++ rest) }
 {
     let Ok((gram, behind)) = text(Section::Grams, OpenError::Grams, left) else {
         return Err(OpenError::Grams);
@@ -107,8 +114,12 @@ fn read_numbers<'a>(
     terms: &[TermRow],
 ) -> Result<&'a [u8], OpenError>
     requires { length terms.now < 2 ^ 32 }
-    ensures found { IfOk result (λ rest. (numbers : List ℕ) × AreNumbersOf (terms_in terms.now) (gram_of pair) numbers × (length numbers ≡ count) × (left.now ≡ gap_codes numbers ++ rest.now)) }
-    ensures refused { OnErr result ((numbers rest : List ℕ) → AreNumbersOf (terms_in terms.now) (gram_of pair) numbers → length numbers ≡ count → left.now ≢ gap_codes numbers ++ rest) }
+    ensures found { IfOk result (λ rest. (numbers : List ℕ) × AreNumbersOf (terms_in terms.now)
+        (gram_of pair) numbers × (length numbers ≡ count)
+        × (left.now ≡ gap_codes numbers ++ rest.now)) }
+    ensures refused { OnErr result ((numbers rest : List ℕ) →
+        AreNumbersOf (terms_in terms.now) (gram_of pair) numbers → length numbers ≡ count →
+        left.now ≢ gap_codes numbers ++ rest) }
 {
     let mut rest = left;
     let mut next = 0;
@@ -130,7 +141,8 @@ fn read_numbers<'a>(
 #[inline]
 fn is_next(next: u32, gap: u32, pair: GramPair, terms: &[TermRow]) -> bool
     requires { (next ≤ length terms.now) × (length terms.now < 2 ^ 32) }
-    ensures { IsTrue result ↔ ((0 < gap) × (next + gap ≤ length (terms_in terms.now)) × IsGramOfTerm (terms_in terms.now) (gram_of pair) (next + gap - 1)) }
+    ensures { IsTrue result ↔ ((0 < gap) × (next + gap ≤ length (terms_in terms.now))
+        × IsGramOfTerm (terms_in terms.now) (gram_of pair) (next + gap - 1)) }
 {
     if gap == 0 {
         return false;
@@ -146,7 +158,9 @@ fn is_next(next: u32, gap: u32, pair: GramPair, terms: &[TermRow]) -> bool
 fn is_above(section: &[u8], row: GramRow, before: Option<&GramRow>) -> bool
     requires row { IsGramRow section.now row }
     requires before { MatchOption before ⊤ (λ b. IsGramRow section.now b.now) }
-    ensures { IsTrue result ↔ MatchOption before.entry ⊤ (λ b. IsAscending ((gram_in section.now b.now).gram ∷ (gram_in section.now row).gram ∷ [])) }
+    ensures { IsTrue result ↔ MatchOption before.entry ⊤
+        (λ b. IsAscending ((gram_in section.now b.now).gram ∷ (gram_in section.now
+        row).gram ∷ [])) }
 {
     match before {
         None => true,

@@ -1,5 +1,5 @@
 //! The lists of an index text.
-ghost use Rattle.std.specs.Prelude.{◌≡◌, ◌≢◌, ◌⊎◌, ℕ, ◌+◌, ◌-◌, ◌^◌, ◌<◌, ◌≤◌, ◌++◌, [], List, map, length, All, IfOk, IfErr, IfSome, OnErr};
+ghost use Rattle.std.specs.Prelude.{◌≡◌, ◌≢◌, ◌⊎◌, ℕ, ◌+◌, ◌-◌, ◌*◌, ◌^◌, ◌<◌, ◌≤◌, ◌++◌, [], List, map, length, All, IfOk, IfErr, IfSome, OnErr};
 ghost use Rattle.ix_vbyte.specs.Code.{code_of};
 ghost use Rattle.ix_vbyte.specs.Gaps.{Ascends, gaps_of};
 ghost use Rattle.ix_vbyte.specs.Postings.{codes_of, posting_bytes};
@@ -7,7 +7,7 @@ ghost use Rattle.ix_text.specs.Parts.{DocumentRow, Posting};
 ghost use Rattle.ix_text.specs.TokenLaws.{IsPostingIn};
 ghost use Rattle.ix_text.specs.TokenNumbers.{numbers_of_posting, numbers_of_postings};
 ghost use Rattle.ix_text.specs.TokenTables.{HasTokens};
-ghost use Rattle.ix_file.specs.Claimed.{HasClaimed, HasRoom, HaveClaimed};
+ghost use Rattle.ix_file.specs.Claimed.{HasClaimed, HasRoom, HaveClaimed, mark_count};
 ghost use Rattle.ix_file.specs.Listings.{AreLaidOut, HasListedCounts, listings_in, sizes_sum};
 ghost use Rattle.ix_file.specs.ReadLists.{AreListedIn, AreListsIn, ArePositionsIn, IsNextPosting, MayClaim, list_in};
 ghost use Rattle.ix_file.specs.declared.open_error.OpenError.TheVariants.{Memory};
@@ -33,8 +33,12 @@ pub(crate) fn check_lists(
     requires counts { All HasListedCounts (listings_in terms.now) }
     requires ready { MayClaim tokens.now claims }
     requires none { HasClaimed claims [] }
-    ensures found { IfOk result (λ _. (rows : List DocumentRow) → HasTokens tokens.now rows → (lists : List (List Posting)) × AreListsIn rows section.now terms.now lists) }
-    ensures refused { IfErr result (λ error. (error ≡ Memory) ⊎ ((rows : List DocumentRow) (lists : List (List Posting)) → HasTokens tokens.now rows → ¬ (AreListsIn rows section.now terms.now lists))) }
+    requires few { mark_count claims ≤ 8 * length section.now }
+    ensures found { IfOk result (λ _. (rows : List DocumentRow) → HasTokens tokens.now rows →
+        (lists : List (List Posting)) × AreListsIn rows section.now terms.now lists) }
+    ensures refused { IfErr result (λ error. (error ≡ Memory)
+        ⊎ ((rows : List DocumentRow) (lists : List (List Posting)) → HasTokens tokens.now rows →
+        ¬ (AreListsIn rows section.now terms.now lists))) }
 {
     let mut claims = claims;
     for term in terms {
@@ -69,9 +73,13 @@ fn check_list(
 ) -> Result<(), OpenError>
     requires some { 0 < documents }
     requires ready { MayClaim tokens.now claims.old }
-    ensures found { IfOk result (λ _. (rows : List DocumentRow) → HasTokens tokens.now rows → (postings : List Posting) × AreListedIn rows documents bytes.now postings × HaveClaimed claims.old claims.new (numbers_of_postings rows postings)) }
+    ensures found { IfOk result (λ _. (rows : List DocumentRow) → HasTokens tokens.now rows →
+        (postings : List Posting) × AreListedIn rows documents bytes.now postings
+        × HaveClaimed claims.old claims.new (numbers_of_postings rows postings)) }
     ensures room { MayClaim tokens.now claims.new }
-    ensures refused { IfErr result (λ error. (error ≡ Memory) ⊎ ((rows : List DocumentRow) (postings : List Posting) → HasTokens tokens.now rows → ¬ (AreListedIn rows documents bytes.now postings))) }
+    ensures refused { IfErr result (λ error. (error ≡ Memory)
+        ⊎ ((rows : List DocumentRow) (postings : List Posting) → HasTokens tokens.now rows →
+        ¬ (AreListedIn rows documents bytes.now postings))) }
 {
     let mut left = bytes;
     let mut next = 0;
@@ -98,9 +106,14 @@ fn check_posting<'a>(
     claims: &mut Claims,
 ) -> Result<(u32, &'a [u8]), OpenError>
     requires { MayClaim tokens.now claims.old }
-    ensures found { IfOk result (λ read. (rows : List DocumentRow) → HasTokens tokens.now rows → (posting : Posting) × IsNextPosting rows next left.now posting read.1.now × (read.0 ≡ posting.0 + 1) × HaveClaimed claims.old claims.new (numbers_of_posting rows posting)) }
+    ensures found { IfOk result (λ read. (rows : List DocumentRow) → HasTokens tokens.now rows →
+        (posting : Posting) × IsNextPosting rows next left.now posting read.1.now
+        × (read.0 ≡ posting.0 + 1) × HaveClaimed claims.old claims.new
+        (numbers_of_posting rows posting)) }
     ensures room { MayClaim tokens.now claims.new }
-    ensures refused { IfErr result (λ error. (error ≡ Memory) ⊎ ((rows : List DocumentRow) (posting : Posting) (rest : List ℕ) → HasTokens tokens.now rows → ¬ (IsNextPosting rows next left.now posting rest))) }
+    ensures refused { IfErr result (λ error. (error ≡ Memory)
+        ⊎ ((rows : List DocumentRow) (posting : Posting) (rest : List ℕ) →
+        HasTokens tokens.now rows → ¬ (IsNextPosting rows next left.now posting rest))) }
 {
     let Some(posting) = short_posting(left) else {
         return check_any_posting(left, next, tokens, claims);
@@ -111,10 +124,10 @@ fn check_posting<'a>(
     let Some(span) = tokens.span(document) else {
         return Err(OpenError::DocRange);
     };
-    if posting.position > span.1 {
+    if posting.position_gap > span.1 {
         return Err(OpenError::PositionRange);
     }
-    claims.claim(span.0 + (posting.position - 1))?;
+    claims.claim(span.0 + (posting.position_gap - 1))?;
     Ok((document + 1, &left[posting.size..]))
 }
 
@@ -127,9 +140,14 @@ fn check_any_posting<'a>(
     claims: &mut Claims,
 ) -> Result<(u32, &'a [u8]), OpenError>
     requires { MayClaim tokens.now claims.old }
-    ensures found { IfOk result (λ read. (rows : List DocumentRow) → HasTokens tokens.now rows → (posting : Posting) × IsNextPosting rows next left.now posting read.1.now × (read.0 ≡ posting.0 + 1) × HaveClaimed claims.old claims.new (numbers_of_posting rows posting)) }
+    ensures found { IfOk result (λ read. (rows : List DocumentRow) → HasTokens tokens.now rows →
+        (posting : Posting) × IsNextPosting rows next left.now posting read.1.now
+        × (read.0 ≡ posting.0 + 1) × HaveClaimed claims.old claims.new
+        (numbers_of_posting rows posting)) }
     ensures room { MayClaim tokens.now claims.new }
-    ensures refused { IfErr result (λ error. (error ≡ Memory) ⊎ ((rows : List DocumentRow) (posting : Posting) (rest : List ℕ) → HasTokens tokens.now rows → ¬ (IsNextPosting rows next left.now posting rest))) }
+    ensures refused { IfErr result (λ error. (error ≡ Memory)
+        ⊎ ((rows : List DocumentRow) (posting : Posting) (rest : List ℕ) →
+        HasTokens tokens.now rows → ¬ (IsNextPosting rows next left.now posting rest))) }
 {
     let (gap, behind) = gap_in_list(left)?;
     let Some(document) = next.checked_add(gap - 1) else {
@@ -153,9 +171,12 @@ fn check_positions<'a>(
 ) -> Result<&'a [u8], OpenError>
     requires small { span.0 + span.1 < 2 ^ 32 }
     requires room { HasRoom claims.old (span.0 + span.1) }
-    ensures found { IfOk result (λ rest. (positions : List ℕ) × ArePositionsIn span.1 count bytes.now positions rest.now × HaveClaimed claims.old claims.new (map (λ position. span.0 + position) positions)) }
+    ensures found { IfOk result (λ rest. (positions : List ℕ) × ArePositionsIn span.1 count
+        bytes.now positions rest.now × HaveClaimed claims.old claims.new
+        (map (λ position. span.0 + position) positions)) }
     ensures room { (top : ℕ) → HasRoom claims.old top → HasRoom claims.new top }
-    ensures refused { IfErr result (λ error. (error ≡ Memory) ⊎ ((positions rest : List ℕ) → ¬ (ArePositionsIn span.1 count bytes.now positions rest))) }
+    ensures refused { IfErr result (λ error. (error ≡ Memory)
+        ⊎ ((positions rest : List ℕ) → ¬ (ArePositionsIn span.1 count bytes.now positions rest))) }
 {
     let (first, tokens) = span;
     let mut left = bytes;
@@ -194,8 +215,10 @@ fn short_gap(bytes: &[u8]) -> Option<(u32, &[u8])>
 /// Almost all codes are short: those are read in the caller, without a call.
 #[inline(always)]
 fn gap_in_list(bytes: &[u8]) -> Result<(u32, &[u8]), OpenError>
-    ensures found { IfOk result (λ read. (0 < read.0) × (bytes.now ≡ code_of read.0 ++ read.1.now)) }
-    ensures refused { OnErr result ((n : ℕ) (rest : List ℕ) → 0 < n → n < 2 ^ 32 → bytes.now ≢ code_of n ++ rest) }
+    ensures found { IfOk result (λ read. (0 < read.0)
+        × (bytes.now ≡ code_of read.0 ++ read.1.now)) }
+    ensures refused { OnErr result ((n : ℕ) (rest : List ℕ) → 0 < n → n < 2 ^ 32 →
+        bytes.now ≢ code_of n ++ rest) }
 {
     match short_gap(bytes) {
         Some(read) => Ok(read),
@@ -207,8 +230,10 @@ fn gap_in_list(bytes: &[u8]) -> Result<(u32, &[u8]), OpenError>
 #[cold]
 #[inline(never)]
 fn any_gap_in_list(bytes: &[u8]) -> Result<(u32, &[u8]), OpenError>
-    ensures found { IfOk result (λ read. (0 < read.0) × (bytes.now ≡ code_of read.0 ++ read.1.now)) }
-    ensures refused { OnErr result ((n : ℕ) (rest : List ℕ) → 0 < n → n < 2 ^ 32 → bytes.now ≢ code_of n ++ rest) }
+    ensures found { IfOk result (λ read. (0 < read.0)
+        × (bytes.now ≡ code_of read.0 ++ read.1.now)) }
+    ensures refused { OnErr result ((n : ℕ) (rest : List ℕ) → 0 < n → n < 2 ^ 32 →
+        bytes.now ≢ code_of n ++ rest) }
 {
     match decode(bytes) {
         Ok((0, _)) => Err(OpenError::Zero),

@@ -20,7 +20,8 @@ const MAX_TERMS: usize = 1 << 28;
 /// before it; `TooLarge` where there are more than 2^28; or `Memory`.
 pub(crate) fn read_stop(alloc: Global, section: &[u8]) -> Result<StopList, OpenError>
     ensures terms { IfOk result (λ stop. IsStopSet stop × (section.now ≡ stop_section stop)) }
-    ensures refused { IfErr result (λ error. (error ≡ Memory) ⊎ ((stop : List (List ℕ)) → IsStopSet stop → section.now ≢ stop_section stop)) }
+    ensures refused { IfErr result (λ error. (error ≡ Memory)
+        ⊎ ((stop : List (List ℕ)) → IsStopSet stop → section.now ≢ stop_section stop)) }
 {
     let mut terms = Vec::new(alloc);
     let mut left = section;
@@ -37,9 +38,13 @@ fn push_term<'a>(
     left: &'a [u8],
 ) -> Result<&'a [u8], OpenError>
     requires { IsStopSet (map string_bytes terms.old.items) }
-    ensures term { IfOk result (λ rest. (term : List ℕ) × (map string_bytes terms.new.items ≡ map string_bytes terms.old.items ++ term ∷ []) × (left.now ≡ counted term ++ rest.now)) }
+    ensures term { IfOk result (λ rest. (term : List ℕ)
+        × (map string_bytes terms.new.items ≡ map string_bytes terms.old.items ++ term ∷ [])
+        × (left.now ≡ counted term ++ rest.now)) }
     ensures lawful { OnOk result (IsStopSet (map string_bytes terms.new.items)) }
-    ensures refused { IfErr result (λ error. (error ≡ Memory) ⊎ ((term rest : List ℕ) → IsStopSet (map string_bytes terms.old.items ++ term ∷ []) → left.now ≢ counted term ++ rest)) }
+    ensures refused { IfErr result (λ error. (error ≡ Memory)
+        ⊎ ((term rest : List ℕ) → IsStopSet (map string_bytes terms.old.items ++ term ∷ []) →
+        left.now ≢ counted term ++ rest)) }
 {
     let (term, rest) = text(Section::Stop, OpenError::TermSize, left)?;
     if !is_above(term, terms.last()) {
@@ -54,7 +59,8 @@ fn push_term<'a>(
 
 /// Whether a term stands above the one before it, if there is one.
 pub(crate) fn is_above(term: &str, before: Option<&String>) -> bool
-    ensures { IsTrue result ↔ MatchOption before.entry ⊤ (λ b. IsAscending (string_bytes b.now ∷ term.now ∷ [])) }
+    ensures { IsTrue result ↔ MatchOption before.entry ⊤
+        (λ b. IsAscending (string_bytes b.now ∷ term.now ∷ [])) }
 {
     match before {
         None => true,

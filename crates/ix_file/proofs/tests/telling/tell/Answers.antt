@@ -6,9 +6,10 @@ use Rattle.ix_vbyte.specs.Postings.{documents_of}
 use Rattle.ix_vbyte.proofs.Gaps.{next_after-push}
 use Rattle.ix_text.specs.Parts.{DictionaryEntry, Posting}
 use Rattle.ix_file.specs.Telling.{IsTold, MayPost}
-use Rattle.ix_file.specs.Told.{Told, entries_of, with_term, with_posting, posted, position_total}
+use Rattle.ix_file.specs.Told.{Told, entries_of, with_term, with_posting, listed, position_total}
 use Rattle.ix_file.specs.declared.sections.Sections.{Sections}
-use Rattle.ix_file.proofs.TellingLemmas.{position_total-posted, position_total-term}
+use Rattle.ix_file.proofs.TellingLemmas.{position_total-term}
+use Rattle.ix_file.proofs.ListTold.{position_total-listed}
 use Rattle.ix_file.proofs.tests.telling.tell.Invariants.{IsWithin}
 use Rattle.ix_file.proofs.tests.telling.tell.Goals as goal
 
@@ -22,18 +23,18 @@ within_posting : (now : Option (List ℕ)) (sections : Sections) (count : ℕ) (
     → told.at_hand ≡ Some entry → position_total (entries_of told) ≡ count → IsTold before now sections (with_posting told document positions)
     → IsWithin now sections (count + length positions) (document + 1)
 within_posting now sections count before told entry document positions at_hand counted is =
-    let hand = ap (option_map (posted document positions)) at_hand in
+    let hand = ap (option_map (listed ((document, positions) ∷ []))) at_hand in
     let old : position_total (told.done ++ entry ∷ []) ≡ count = ap (λ (o : Option DictionaryEntry). position_total (told.done ++ option_to_list o)) (sym at_hand) ∙ counted in
     let new = ap (λ (o : Option DictionaryEntry). position_total (told.done ++ option_to_list o)) hand in
     let documents = map-append (λ (p : Posting). p.0) entry.postings ((document, positions) ∷ []) in
     record {
       before = before;
       told = with_posting told document positions;
-      entry = posted document positions entry;
+      entry = listed ((document, positions) ∷ []) entry;
       is = is;
       at_hand = hand;
       after = ap (next_after 0) documents ∙ next_after-push 0 (documents_of entry.postings) document;
-      counted = omega (arith, new, old, position_total-posted told.done entry document positions);
+      counted = omega (arith, new, old, position_total-listed told.done entry ((document, positions) ∷ []));
     }
 
 pub loop-document-init : goal.loop-document-init
