@@ -78,7 +78,7 @@ row_from_front piece (next ∷ pieces) (gap ∷ gaps) count all =
     (gap ++ in_a_row (next ∷ pieces) gaps, refl, (gap, further.0, All-head IsUtf8 gap gaps all, ap (λ r. gap ++ r) further.1, further.2))
 
 -- a splitting of the term is a front piece, and the others behind gaps
-to_front : (term piece : List ℕ) (pieces : List (List ℕ)) → Matches term (piece ∷ pieces) → (rest : List ℕ) × (term ≡ piece ++ rest) × Follows IsUtf8 rest pieces
+pub to_front : (term piece : List ℕ) (pieces : List (List ℕ)) → Matches term (piece ∷ pieces) → (rest : List ℕ) × (term ≡ piece ++ rest) × Follows IsUtf8 rest pieces
 to_front term piece pieces h =
     let row = row_from_front piece pieces h.gaps h.count h.characters in
     (row.0, h.spelled ∙ row.1, row.2)

@@ -1,6 +1,6 @@
 //! Patterns and the terms that match them.
 
-ghost use Rattle.std.specs.Prelude.{◌≡◌, ◌<◌, ◌↔◌, length, IsTrue, IfOk, OnOk, IsErrOf};
+ghost use Rattle.std.specs.Prelude.{◌≡◌, ◌<◌, ◌↔◌, [], ◌∷◌, ◌++◌, length, map, string_bytes, All, IsUtf8, IsTrue, IfOk, OnOk, IsErrOf};
 ghost use Rattle.ix_gram.specs.Patterns.{pieces_of, HasStar, HasPiece, Matches};
 
 use crate::error::PatternError;
@@ -37,7 +37,8 @@ impl Pattern {
         ensures with_star { OnOk result (HasStar text.now) }
         ensures with_piece { OnOk result (HasPiece text.now) }
         ensures no_star { IsErrOf result PatternError.NoStar ↔ ¬ (HasStar text.now) }
-        ensures bare_star { IsErrOf result PatternError.BareStar ↔ (HasStar text.now × ¬ (HasPiece text.now)) }
+        ensures bare_star { IsErrOf result PatternError.BareStar ↔
+            (HasStar text.now × ¬ (HasPiece text.now)) }
     {
         let Some((first, mut rest)) = text.split_once(STAR) else {
             return Err(PatternError::NoStar);
@@ -53,6 +54,19 @@ impl Pattern {
         }
         let last = term_of(alloc, rest)?;
         Ok(Pattern { first, inner, last })
+    }
+
+    /// The first piece, the inner ones in order, and the last.
+    pub(crate) fn pieces(&self) -> (&str, &[String], &str)
+        ensures value { self.now ≡ result.0.now ∷ (map string_bytes result.1.now
+            ++ result.2.now ∷ []) }
+        ensures texts { All IsUtf8 self.now }
+    {
+        (
+            self.first.as_str(),
+            self.inner.as_slice(),
+            self.last.as_str(),
+        )
     }
 
     /// Whether the term is the first piece, any characters, the second piece, and so on, and the last piece at its end.
