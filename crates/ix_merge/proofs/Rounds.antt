@@ -1,0 +1,75 @@
+-- What the tournament and the order of the sources keep from turn to turn.
+use Rattle.std.proofs.Common.{◌≡◌, ℕ, ◌+◌, ◌<◌, List, [], ◌∷◌, length, map, get_or, set, Bool, true, false, cond, Option, Some, None, is_some, inl, refl, sym, ap, subst, ◌∙◌, arith, length-set}
+use Rattle.std.proofs.lemmas.List.{get_or-map, get_or-set_same, length-map, map-set}
+use Rattle.std.specs.Bool.{then_some}
+use Rattle.ix_text.specs.Parts.{DictionaryEntry}
+use Rattle.ix_run.specs.Heads.{Heading}
+use Rattle.ix_run.specs.Sources.{Giving, IsLawfulFront, Yielding, entry_with}
+use Rattle.ix_merge.specs.Keys.{Key, key_of}
+use Rattle.ix_merge.specs.Starting.{HaveStarted}
+use Rattle.ix_merge.specs.Tournaments.{IsSettledBut, IsTournament, holder_at, key_at, leaf_of}
+use Rattle.ix_merge.specs.Turns.{bare_entry}
+use Rattle.ix_merge.proofs.Behind.{AreBehind, IsBehind}
+use Rattle.ix_merge.proofs.Playing.{changed_settled, holds_none}
+use Rattle.ix_merge.proofs.Readings.{Below}
+
+-- what `then_some` answers
+pub then_some-cond : (more : Bool) (place : ℕ) → then_some more place ≡ cond more (Some place) None
+then_some-cond true place = refl
+then_some-cond false place = refl
+
+-- a text of some byte is above the one of none
+above_none : (text : List ℕ) → 0 < length text → Below [] text
+above_none [] some = absurd (omega arith)
+above_none (x ∷ xs) some = refl
+
+module _ {S : Type 0} (heading : S → Heading) (current : S → Option (List ℕ)) where
+  abbrev keys : List S → List (Option Key)
+  keys sources = map (key_of heading current) sources
+
+  some_key : (source : S) (o : Option (List ℕ)) → current source ≡ o → is_some (key_of heading current source) ≡ is_some (current source)
+  some_key source None e = rw e refl
+  some_key source (Some term) e = rw e refl
+
+  -- the leaf of a source that went on is set
+  pub leaf_changed : (now : List S) (tree : List (Option ℕ)) (place : ℕ) (new : S) (more : Bool) → place < length now → IsTournament (keys now) tree → more ≡ is_some (current new)
+      → IsSettledBut (keys (set now place new)) (set tree (length (set now place new) + place) (cond more (Some place) None)) (length (set now place new) + place)
+  leaf_changed now tree place new more within played is =
+      let many : length (keys now) ≡ length now = length-map now (key_of heading current) in
+      let count : length (set now place new) ≡ length (keys now) = length-set now place new ∙ sym many in
+      let same : keys (set now place new) ≡ set (keys now) place (key_of heading current new) = map-set (key_of heading current) now place new in
+      let there : key_at (set (keys now) place (key_of heading current new)) place ≡ key_of heading current new = get_or-set_same (keys now) place (key_of heading current new) None (omega arith) in
+      let leaf : leaf_of (set (keys now) place (key_of heading current new)) place ≡ cond more (Some place) None =
+      ap (λ (k : Option Key). cond (is_some k) (Some place) None) there ∙ ap (λ (b : Bool). cond b (Some place) None) (some_key new (current new) refl ∙ sym is) in
+      let all = changed_settled (keys now) tree place (key_of heading current new) (omega arith) played in
+      let P : List (Option Key) → ℕ → Option ℕ → Type 0 = λ ks n l. IsSettledBut ks (set tree (n + place) l) (n + place) in
+      subst (λ n. P (keys (set now place new)) n (cond more (Some place) None)) (sym count)
+      (subst (λ (ks : List (Option Key)). P ks (length (keys now)) (cond more (Some place) None)) (sym same)
+      (subst (λ (l : Option ℕ). P (set (keys now) place (key_of heading current new)) (length (keys now)) l) leaf all))
+
+  -- no source has a term
+  pub none_left : (now : List S) (tree : List (Option ℕ)) → IsTournament (keys now) tree → holder_at tree 1 ≡ None → (place : ℕ) (source : S) → place < length now → current (get_or now place source) ≡ None
+  none_left now tree played none place source within =
+      let many : length (keys now) ≡ length now = length-map now (key_of heading current) in
+      let e = holds_none (keys now) tree played none place (omega arith) in
+      let f : key_of heading current (get_or now place source) ≡ None = sym (get_or-map (key_of heading current) now place source None within) ∙ e in
+      by (get_or now place source) (current (get_or now place source)) refl f
+    where
+      by : (one : S) (o : Option (List ℕ)) → current one ≡ o → key_of heading current one ≡ None → current one ≡ None
+      by one None is none' = is
+      by one (Some term) is none' = let e : is_some (key_of heading current one) ≡ is_some (current one) = some_key one (Some term) is in let f = ap is_some none' in let h = ap is_some is in absurd cc
+
+  module _ (yields : Yielding S) (gives : Giving S)
+      (lawfully : (source : S) (finished : List DictionaryEntry) (at_hand : Option DictionaryEntry) → gives source finished at_hand → IsLawfulFront (heading source) finished at_hand) where
+    -- before the first turn
+    pub behind_first : (begun now : List S) (last : List ℕ) (next : ℕ) → HaveStarted heading current yields gives begun now → last ≡ [] → AreBehind heading current last next now
+    behind_first begun now last next started empty place source within =
+        let is = started.each place source (omega (arith, started.as_many)) in
+        by (get_or now place source) is.gives_none (current (get_or now place source)) refl
+      where
+        by : (one : S) → gives one [] (bare_entry (current one)) → (o : Option (List ℕ)) → current one ≡ o → IsBehind heading current last next one
+        by one has None is = rw is tt
+        by one has (Some term) is =
+            let front = lawfully one [] (Some (entry_with term [])) (subst (λ (o : Option DictionaryEntry). gives one [] o) (ap bare_entry is) has) in
+            let below : Below last term = subst (λ (t : List ℕ). Below t term) (sym empty) (above_none term front.begun.term.some_byte) in
+            rw is (inl below)

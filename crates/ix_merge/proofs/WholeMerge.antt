@@ -1,0 +1,95 @@
+-- The steps of a merge, from what the sources say of themselves to the text that is written.
+use Rattle.std.proofs.Common.{◌≡◌, ℕ, ◌<◌, ◌≤◌, ◌^◌, List, [], length, map, Option, None, Result, Ok, Err, OnErr, All, inl, inr, sym, subst, arith}
+use Rattle.std.proofs.lemmas.Bool.{cases_lt}
+use Rattle.std.proofs.lemmas.List.Elements.{All-map, All-weaker}
+use Rattle.ix_text.specs.Collections.{Collection, IsLawful, IsName}
+use Rattle.ix_text.specs.Parts.{ArePartsOf, DictionaryEntry, DocumentRow, GramEntry, terms_of}
+use Rattle.ix_text.specs.Sinks.{AppendsFront}
+use Rattle.ix_file.specs.Endings.{WritesIndexText}
+use Rattle.ix_file.specs.Grams.{AreGramsOfTerms}
+use Rattle.ix_file.specs.IndexText.{layout}
+use Rattle.ix_file.specs.Rows.{document_row}
+use Rattle.ix_file.specs.Sections.{FrontCoded}
+use Rattle.ix_file.specs.Told.{Told, entries_of, parts_of}
+use Rattle.ix_file.specs.declared.row.DocRow.{DocRow}
+use Rattle.ix_file.specs.declared.sections.Sections.{Sections}
+use Rattle.ix_file.specs.declared.writer.IndexWriter.{IndexWriter}
+use Rattle.ix_run.specs.Heads.{Heading, IsLawfulHeading}
+use Rattle.ix_run.specs.Sources.{Giving, IsLawfulFront, IsUnread, Yielding}
+use Rattle.ix_merge.specs.Beginnings.{BeginsWith}
+use Rattle.ix_merge.specs.Covers.{Cover}
+use Rattle.ix_merge.specs.Merging.{AreApart, IsRefusalOf, TellsAll}
+use Rattle.ix_merge.specs.Pieces.{WritesConcatenation, WritesFront}
+use Rattle.ix_merge.specs.Refusals.{AreMergeable, IsRefusal}
+use Rattle.ix_merge.specs.Rows.{AreRowsOf}
+use Rattle.ix_merge.specs.declared.merge_error.MergeError.{MergeError}
+use Rattle.ix_merge.specs.declared.merge_error.MergeError.TheVariants.{Gap, Overlap, StopDiffers, Source, TooLarge, Write, Memory}
+use Rattle.ix_merge.proofs.Closing.{AreBegun, all_of_map, front_of_layout, written_all}
+
+-- what was given of nothing says that the head is lawful
+lawful_heading : (heading : Heading) → IsLawfulFront heading [] None → IsLawfulHeading heading
+lawful_heading heading front =
+    let lawful = front.whole.lawful in
+    record {
+      stop = record { few = lawful.few_stop_terms; ascending = lawful.stop_ascending; terms = lawful.stop_terms };
+      names = lawful.names;
+      few_tokens = lawful.few_tokens;
+      few_documents = front.whole.within;
+    }
+
+pub lawful_headings : {S : Type 0} (heading : S → Heading) (gives : Giving S)
+    → ((source : S) (finished : List DictionaryEntry) (at_hand : Option DictionaryEntry) → gives source finished at_hand → IsLawfulFront (heading source) finished at_hand)
+    → (sources : List S) → All (IsUnread gives) sources → All IsLawfulHeading (map heading sources)
+lawful_headings {S} heading gives law sources unread =
+    All-map IsLawfulHeading heading sources
+    (All-weaker (IsUnread gives) (λ (s : S). IsLawfulHeading (heading s)) (λ s none. lawful_heading (heading s) (law s [] None none)) sources unread)
+
+-- names are short
+pub short_names : (rows : List DocRow) → All (λ row. IsName row.name) (map document_row rows) → All (λ row. length row.name.now < 2 ^ 32) rows
+short_names rows names k d within =
+    let name = all_of_map (λ (row : DocumentRow). IsName row.name) document_row rows names k d within in
+    omega (arith, name.short)
+
+-- no number is covered twice
+pub covered_apart : (hs : List Heading) (count : ℕ) → Cover hs count → AreApart hs
+covered_apart hs count cover n =
+    elim (cases_lt n count) [
+      | inl below ↦ omega (arith, cover.once n below)
+      | inr behind ↦ omega (arith, cover.no_other n behind)
+    ]
+
+-- a refusal of a source, of a write or of memory
+pub late_refusal : {E : Type 0} (hs : List Heading) (count : ℕ) (error : MergeError E) → AreMergeable hs → count ≤ length hs → IsRefusalOf count error → IsRefusal hs error
+late_refusal hs count (Gap n) mergeable few late = absurd late
+late_refusal hs count (Overlap n) mergeable few late = absurd late
+late_refusal hs count StopDiffers mergeable few late = absurd late
+late_refusal hs count (Source place error) mergeable few late = (mergeable, omega (arith, few, late))
+late_refusal hs count TooLarge mergeable few late = absurd late
+late_refusal hs count Write mergeable few late = mergeable
+late_refusal hs count Memory mergeable few late = tt
+
+pub on_err : {T E P : Type 0} (result : Result T E) → P → OnErr result P
+on_err (Ok value) p = tt
+on_err (Err error) p = p
+
+-- what a writer was told before the first term
+pub begun : {W : Type 0} (contents : W → Option (List ℕ)) (before : Option (List ℕ)) (writer : IndexWriter W Sections) (hs : List Heading) (rows : List DocumentRow) → (begins : BeginsWith contents before writer hs rows) → AreRowsOf hs rows → AreMergeable hs → AreBegun hs begins.stop rows
+begun contents before writer hs rows begins laid mergeable = record { laid = laid; same = begins.same; none = begins.none; few = mergeable.few }
+
+begun_still : (hs : List Heading) (stop now : List (List ℕ)) (rows after : List DocumentRow) → now ≡ stop → after ≡ rows → AreBegun hs stop rows → AreBegun hs now after
+begun_still hs stop now rows after stops same begun =
+    subst (λ (s : List (List ℕ)). AreBegun hs s after) (sym stops) (subst (λ (r : List DocumentRow). AreBegun hs stop r) (sym same) begun)
+
+module _ {S W : Type 0} (yields : Yielding S) (heading : S → Heading) (contents : W → Option (List ℕ)) (sources : List S) (before : Option (List ℕ)) (told : Told) (writer : IndexWriter W Sections)
+    (tells : TellsAll yields heading contents sources before told writer) (begins : AreBegun (map heading sources) told.stop told.rows) where
+  -- the text of all parts is that of the concatenation
+  pub whole_written : (now : Option (List ℕ)) → ((collection : Collection) → IsLawful collection → ArePartsOf collection (parts_of tells.now) → WritesIndexText before now collection) → WritesConcatenation yields heading sources before now
+  whole_written now writes =
+      written_all yields heading sources (parts_of tells.now) tells.all
+      (begun_still (map heading sources) told.stop tells.now.stop told.rows tells.now.rows tells.stop tells.rows begins) before now writes
+
+  -- and a front of it is a front of such a text
+  pub front_written : (now : Option (List ℕ)) → ((grams : List GramEntry) → AreGramsOfTerms (terms_of (entries_of tells.now)) grams → AppendsFront before now (layout FrontCoded (parts_of tells.now) grams)) → WritesFront (map heading sources) before now
+  front_written now front =
+      front_of_layout (map heading sources) tells.all.shares (parts_of tells.now) tells.all.are
+      (begun_still (map heading sources) told.stop tells.now.stop told.rows tells.now.rows tells.stop tells.rows begins) tells.all.merge before now front

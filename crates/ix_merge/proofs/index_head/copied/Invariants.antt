@@ -1,0 +1,6 @@
+use Rattle.std.proofs.Common.{◌≡◌, map, string_bytes, take}
+use Rattle.ix_merge.proofs.index_head.copied.Given as goal
+
+-- the terms so far
+abbrev pub invariant-loop-term : goal.invariant-loop-term
+invariant-loop-term l = map string_bytes l.terms.items ≡ map string_bytes (take l.term-index l.given)

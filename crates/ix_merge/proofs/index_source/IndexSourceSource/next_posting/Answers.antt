@@ -1,0 +1,22 @@
+use Rattle.std.proofs.Common.{List, ℕ, IsSome, map, drop, sym, subst, ◌∙◌}
+use Rattle.std.specs.Option.{option_copied}
+use Rattle.ix_run.specs.Heads.{heading_of}
+use Rattle.ix_run.specs.Runs.{coded}
+use Rattle.ix_run.specs.RunSources.{HasGiven, HasLeft, SourceValue}
+use Rattle.ix_run.specs.Sources.{GivesPosting}
+use Rattle.ix_run.proofs.RunSources.{place_next, step_given}
+use Rattle.ix_merge.proofs.index_source.IndexSourceSource.next_posting.Goals as goal
+
+pub invariant_of-self : goal.invariant_of-self
+invariant_of-self c =
+    let some : IsSome (option_copied c.self.inside.term) = subst (λ (s : SourceValue). IsSome s.term) (sym c.self.view_is) c.requires in
+    (place_next (heading_of c.self.inside.head) (map coded (drop c.self.inside.number c.self.inside.index.now.parts.entries)) (option_copied c.self.inside.term) (c.in-Some.posting.document, c.in-Some.posting.positions) c.next.new.self c.self.inside.postings (sym c.again-postings.ensures ∙ c.in-Some.ensures.steps) some c.self.invariant.0, c.self.invariant.1)
+
+pub returns-clause-given : goal.returns-clause-given
+returns-clause-given c =
+    let after : SourceValue = record { heading = (heading_of c.self.inside.head); terms = (map coded (drop c.self.inside.number c.self.inside.index.now.parts.entries)); term = (option_copied c.self.inside.term); postings = c.next.new.self } in
+    let P : SourceValue → Type 0 = λ old. GivesPosting HasLeft HasGiven old after (c.in-Some.posting.document, c.read_positions.new.positions.items) in
+    let Q : List ℕ → Type 0 = λ positions. GivesPosting HasLeft HasGiven (record { heading = (heading_of c.self.inside.head); terms = (map coded (drop c.self.inside.number c.self.inside.index.now.parts.entries)); term = (option_copied c.self.inside.term); postings = c.self.inside.postings }) after (c.in-Some.posting.document, positions) in
+    subst P c.self.view_is
+    (subst Q (sym c.in_ok-read_positions.ensures.ok)
+    (step_given (heading_of c.self.inside.head) (map coded (drop c.self.inside.number c.self.inside.index.now.parts.entries)) (option_copied c.self.inside.term) (c.in-Some.posting.document, c.in-Some.posting.positions) c.next.new.self c.self.inside.postings (sym c.again-postings.ensures ∙ c.in-Some.ensures.steps)))

@@ -1,0 +1,139 @@
+-- From turn to turn: the sources gave what was told, and the tournament holds the least of what they have at hand.
+use Rattle.std.proofs.Common.{◌≡◌, ◌+◌, ◌*◌, ◌-◌, ◌^◌, ◌<◌, ℕ, List, Option, length, length-set, map, get_or, set, string_bytes, refl, sym, subst, ◌∙◌, arith}
+use Rattle.std.proofs.Math.Seq.{map-set_same}
+use Rattle.std.proofs.lemmas.List.{get_or_default, length-map}
+use Rattle.ix_run.specs.Heads.{Heading}
+use Rattle.ix_merge.specs.Keys.{key_of}
+use Rattle.ix_merge.specs.Merging.{AreApart}
+use Rattle.ix_merge.specs.Tournaments.{IsSettledBut}
+use Rattle.ix_merge.proofs.MergingSteps.{behind_then, longer, may_take, merged_nothing, merged_some_then, merging_first, merging_more, share_here, tells_all}
+use Rattle.ix_merge.proofs.Playing.{HoldsFirst, holds_first}
+use Rattle.ix_merge.proofs.Rounds.{behind_first, leaf_changed, none_left, then_some-cond}
+use Rattle.ix_merge.proofs.Starts.{started_headed}
+use Rattle.ix_merge.proofs.Turning.{on_err_if}
+use Rattle.ix_merge.proofs.terms.merge_by.Goals as goal
+
+pub returns-in_err-begin_all-clause-some : goal.returns-in_err-begin_all-clause-some
+returns-in_err-begin_all-clause-some g c before told was none =
+    on_err_if c.from_residual.result _
+    (merged_nothing g.S.Source.heading g.S.Source.current g.S.Source.yields g.S.Source.gives g.W.Write.contents g.met.S.Source.given_lawfully c.args.sources.now c.args.writer.now before told c.requires.unread was none)
+
+pub loop-place-init : goal.loop-place-init
+loop-place-init g c =
+    let started = c.in_ok-begin_all.ensures.started in
+    record {
+      as_many = started.as_many;
+      headed = started_headed g.S.Source.heading g.S.Source.current g.S.Source.yields g.S.Source.gives c.args.sources.now c.begin_all.new.sources started;
+      same_writer = refl;
+      played = c.play_all.ensures;
+      behind = behind_first g.S.Source.heading g.S.Source.current g.S.Source.yields g.S.Source.gives g.met.S.Source.given_lawfully c.args.sources.now c.begin_all.new.sources (string_bytes c.args.entry.now.term) c.args.entry.now.next started c.requires.none;
+      merging = λ before told was none.
+          merging_first g.S.Source.heading g.S.Source.current g.S.Source.yields g.S.Source.gives g.W.Write.contents g.met.S.Source.given_lawfully c.args.sources.now c.begin_all.new.sources before told c.args.writer.now
+          (string_bytes c.args.entry.now.term) c.args.entry.now.next started was none c.requires.none;
+    }
+
+pub take_turn-requires-clause-may : goal.take_turn-requires-clause-may
+take_turn-requires-clause-may g c =
+    let i = c.loop-place.invariant in
+    let r = c.requires.told in
+    let merging = i.merging r.before r.told r.was r.no_term in
+    let first : HoldsFirst (map (key_of g.S.Source.heading g.S.Source.current) c.loop-place.sources) c.in-Some.place =
+    holds_first (map (key_of g.S.Source.heading g.S.Source.current) c.loop-place.sources) c.loop-place.tree c.in-Some.place i.played (sym c.first_of.ensures ∙ c.in-Some.is) in
+    let within : c.in-Some.place < length c.loop-place.sources = omega (arith, first.within, length-map c.loop-place.sources (key_of g.S.Source.heading g.S.Source.current)) in
+    let source = get_or c.loop-place.sources c.in-Some.place c.index-sources-place.result in
+    let here : get_or c.loop-place.sources c.in-Some.place source ≡ source = get_or_default c.loop-place.sources c.in-Some.place source c.index-sources-place.result within in
+    record {
+      before = r.before;
+      told = merging.told;
+      was = merging.was;
+      given = (share_here g.S.Source.heading g.S.Source.current g.S.Source.yields g.S.Source.gives g.W.Write.contents g.met.S.Source.given_lawfully c.args.sources.now c.loop-place.sources r.before r.told c.loop-place.writer
+          (string_bytes c.loop-place.entry.term) c.loop-place.entry.next merging i.behind c.requires.few c.in-Some.place source within here).entries;
+      may =
+          may_take g.S.Source.heading g.S.Source.current g.S.Source.yields g.S.Source.gives g.W.Write.contents g.met.S.Source.given_lawfully c.args.sources.now c.loop-place.sources r.before r.told c.loop-place.writer
+          (string_bytes c.loop-place.entry.term) c.loop-place.entry.next merging i.behind c.requires.few c.in-Some.place source within here;
+    }
+
+pub returns-in_err-more-clause-some : goal.returns-in_err-more-clause-some
+returns-in_err-more-clause-some g c before told was none =
+    let i = c.loop-place.invariant in
+    let merging = i.merging before told was none in
+    let first : HoldsFirst (map (key_of g.S.Source.heading g.S.Source.current) c.loop-place.sources) c.in-Some.place =
+    holds_first (map (key_of g.S.Source.heading g.S.Source.current) c.loop-place.sources) c.loop-place.tree c.in-Some.place i.played (sym c.first_of.ensures ∙ c.in-Some.is) in
+    let within : c.in-Some.place < length c.loop-place.sources = omega (arith, first.within, length-map c.loop-place.sources (key_of g.S.Source.heading g.S.Source.current)) in
+    let source = get_or c.loop-place.sources c.in-Some.place c.index-sources-place.result in
+    let here : get_or c.loop-place.sources c.in-Some.place source ≡ source = get_or_default c.loop-place.sources c.in-Some.place source c.index-sources-place.result within in
+    let may =
+    may_take g.S.Source.heading g.S.Source.current g.S.Source.yields g.S.Source.gives g.W.Write.contents g.met.S.Source.given_lawfully c.args.sources.now c.loop-place.sources before told c.loop-place.writer
+    (string_bytes c.loop-place.entry.term) c.loop-place.entry.next merging i.behind c.requires.few c.in-Some.place source within here in
+    on_err_if c.from_residual-in_err-more.result _
+    (merged_some_then g.S.Source.heading g.S.Source.current g.S.Source.yields g.S.Source.gives g.W.Write.contents g.met.S.Source.given_lawfully c.args.sources.now c.loop-place.sources before told c.loop-place.writer
+    (string_bytes c.loop-place.entry.term) c.loop-place.entry.next merging i.behind c.requires.few c.in-Some.place source within here c.take_turn.new.writer (c.in_err-more.ensures.some before merging.told _ merging.was may))
+
+pub play_again-requires-clause-others : goal.play_again-requires-clause-others
+play_again-requires-clause-others g c =
+    let i = c.loop-place.invariant in
+    let first : HoldsFirst (map (key_of g.S.Source.heading g.S.Source.current) c.loop-place.sources) c.in-Some.place =
+    holds_first (map (key_of g.S.Source.heading g.S.Source.current) c.loop-place.sources) c.loop-place.tree c.in-Some.place i.played (sym c.first_of.ensures ∙ c.in-Some.is) in
+    let within : c.in-Some.place < length c.loop-place.sources = omega (arith, first.within, length-map c.loop-place.sources (key_of g.S.Source.heading g.S.Source.current)) in
+    let sources = set c.loop-place.sources c.in-Some.place c.take_turn.new.source in
+    subst (λ (leaf : Option ℕ). IsSettledBut (map (key_of g.S.Source.heading g.S.Source.current) sources) (set c.loop-place.tree (length sources + c.in-Some.place) leaf) (length sources + c.in-Some.place)) (sym (c.then_some.ensures ∙ then_some-cond c.in_ok-more.more c.in-Some.place))
+    (leaf_changed g.S.Source.heading g.S.Source.current c.loop-place.sources c.loop-place.tree c.in-Some.place c.take_turn.new.source c.in_ok-more.more within i.played c.in_ok-more.ensures.more)
+
+pub loop-place-smaller : goal.loop-place-smaller
+loop-place-smaller g c =
+    let i = c.loop-place.invariant in
+    let r = c.requires.told in
+    let merging = i.merging r.before r.told r.was r.no_term in
+    let first : HoldsFirst (map (key_of g.S.Source.heading g.S.Source.current) c.loop-place.sources) c.in-Some.place =
+    holds_first (map (key_of g.S.Source.heading g.S.Source.current) c.loop-place.sources) c.loop-place.tree c.in-Some.place i.played (sym c.first_of.ensures ∙ c.in-Some.is) in
+    let within : c.in-Some.place < length c.loop-place.sources = omega (arith, first.within, length-map c.loop-place.sources (key_of g.S.Source.heading g.S.Source.current)) in
+    let source = get_or c.loop-place.sources c.in-Some.place c.index-sources-place.result in
+    let here : get_or c.loop-place.sources c.in-Some.place source ≡ source = get_or_default c.loop-place.sources c.in-Some.place source c.index-sources-place.result within in
+    let may =
+    may_take g.S.Source.heading g.S.Source.current g.S.Source.yields g.S.Source.gives g.W.Write.contents g.met.S.Source.given_lawfully c.args.sources.now c.loop-place.sources r.before r.told c.loop-place.writer
+    (string_bytes c.loop-place.entry.term) c.loop-place.entry.next merging i.behind c.requires.few c.in-Some.place source within here in
+    let more =
+    longer g.S.Source.heading g.S.Source.current g.S.Source.yields g.S.Source.gives g.W.Write.contents g.met.S.Source.given_lawfully c.args.sources.now c.loop-place.sources r.before r.told c.loop-place.writer
+    (string_bytes c.loop-place.entry.term) c.loop-place.entry.next merging i.behind c.requires.few c.in-Some.place source within here c.take_turn.new.source c.take_turn.new.writer (string_bytes c.take_turn.new.entry.term) c.take_turn.new.entry.next
+    c.take_turn.ensures.heading (c.in_ok-more.ensures.turned r.before merging.told _ merging.was may) in
+    let less : 15 * 2 ^ 28 - c.take_turn.new.writer.sections.postings < 15 * 2 ^ 28 - c.loop-place.writer.sections.postings = omega (arith, more.0, more.1) in
+    less
+
+pub loop-place-preserved : goal.loop-place-preserved
+loop-place-preserved g c =
+    let i = c.loop-place.invariant in
+    let first : HoldsFirst (map (key_of g.S.Source.heading g.S.Source.current) c.loop-place.sources) c.in-Some.place =
+    holds_first (map (key_of g.S.Source.heading g.S.Source.current) c.loop-place.sources) c.loop-place.tree c.in-Some.place i.played (sym c.first_of.ensures ∙ c.in-Some.is) in
+    let within : c.in-Some.place < length c.loop-place.sources = omega (arith, first.within, length-map c.loop-place.sources (key_of g.S.Source.heading g.S.Source.current)) in
+    let source = get_or c.loop-place.sources c.in-Some.place c.index-sources-place.result in
+    let here : get_or c.loop-place.sources c.in-Some.place source ≡ source = get_or_default c.loop-place.sources c.in-Some.place source c.index-sources-place.result within in
+    let r = c.requires.told in
+    let merging = i.merging r.before r.told r.was r.no_term in
+    let may =
+    may_take g.S.Source.heading g.S.Source.current g.S.Source.yields g.S.Source.gives g.W.Write.contents g.met.S.Source.given_lawfully c.args.sources.now c.loop-place.sources r.before r.told c.loop-place.writer
+    (string_bytes c.loop-place.entry.term) c.loop-place.entry.next merging i.behind c.requires.few c.in-Some.place source within here in
+    record {
+      as_many = length-set c.loop-place.sources c.in-Some.place c.take_turn.new.source ∙ i.as_many;
+      headed = map-set_same g.S.Source.heading c.loop-place.sources c.in-Some.place c.take_turn.new.source c.index-sources-place.result c.take_turn.ensures.heading ∙ i.headed;
+      same_writer = c.take_turn.ensures.same_writer ∙ i.same_writer;
+      played = c.play_again.ensures;
+      behind =
+          behind_then g.S.Source.heading g.S.Source.current g.S.Source.yields g.S.Source.gives g.W.Write.contents g.met.S.Source.given_lawfully c.args.sources.now c.loop-place.sources r.before r.told c.loop-place.writer
+          (string_bytes c.loop-place.entry.term) c.loop-place.entry.next merging i.behind c.requires.few c.in-Some.place source within here c.take_turn.new.source c.take_turn.new.writer (string_bytes c.take_turn.new.entry.term) c.take_turn.new.entry.next
+          c.take_turn.ensures.heading (c.in_ok-more.ensures.turned r.before merging.told _ merging.was may) first (subst (λ (hs : List Heading). AreApart hs) (sym i.headed) c.requires.apart);
+      merging = λ before told was none.
+          let merging = i.merging before told was none in
+          let may =
+          may_take g.S.Source.heading g.S.Source.current g.S.Source.yields g.S.Source.gives g.W.Write.contents g.met.S.Source.given_lawfully c.args.sources.now c.loop-place.sources before told c.loop-place.writer
+          (string_bytes c.loop-place.entry.term) c.loop-place.entry.next merging i.behind c.requires.few c.in-Some.place source within here in
+          merging_more g.S.Source.heading g.S.Source.current g.S.Source.yields g.S.Source.gives g.W.Write.contents g.met.S.Source.given_lawfully c.args.sources.now c.loop-place.sources before told c.loop-place.writer
+          (string_bytes c.loop-place.entry.term) c.loop-place.entry.next merging i.behind c.requires.few c.in-Some.place source within here c.take_turn.new.source c.take_turn.new.writer (string_bytes c.take_turn.new.entry.term) c.take_turn.new.entry.next
+          c.take_turn.ensures.heading (c.in_ok-more.ensures.turned before merging.told _ merging.was may);
+    }
+
+pub returns-clause-merged : goal.returns-clause-merged
+returns-clause-merged g c before told was none =
+    let i = c.loop-place.invariant in
+    tells_all g.S.Source.heading g.S.Source.current g.S.Source.yields g.S.Source.gives g.W.Write.contents g.met.S.Source.given_lawfully c.args.sources.now c.loop-place.sources before told c.loop-place.writer
+    (string_bytes c.loop-place.entry.term) c.loop-place.entry.next (i.merging before told was none)
+    (none_left g.S.Source.heading g.S.Source.current c.loop-place.sources c.loop-place.tree i.played (sym c.first_of.ensures ∙ c.in_default.is))

@@ -1,0 +1,13 @@
+pub mod Beginnings
+pub mod Covers
+pub mod Headings
+pub mod Keys
+pub mod MergeErrors
+pub mod Merged
+pub mod Merging
+pub mod Pieces
+pub mod Refusals
+pub mod Rows
+pub mod Starting
+pub mod Tournaments
+pub mod Turns

@@ -1,0 +1,49 @@
+//! What an opened index says before its terms, as a source says it.
+ghost use Rattle.std.specs.Prelude.{◌≡◌, IfOk, map};
+ghost use Rattle.ix_text.specs.PartsLaws.{AreLawful};
+ghost use Rattle.ix_run.specs.Heads.{row_of_doc};
+ghost use Rattle.ix_run.specs.RunSources.{EndsAt};
+
+use ix_file::Index;
+use ix_run::RunDoc;
+use ix_text::{Memory, StopList};
+use ix_vbyte::cursor::Postings;
+use std::alloc::Global;
+
+/// Another stop list of the same terms.
+pub(crate) fn copied(alloc: Global, stop: &StopList) -> Result<StopList, Memory>
+    ensures { IfOk result (λ copy. copy ≡ stop.now) }
+{
+    let given = stop.terms();
+    let mut terms = Vec::new(alloc);
+    for term in given {
+        terms.push(String::from_str(alloc, term)?)?;
+    }
+    Ok(StopList::from_sorted(terms))
+}
+
+/// The names and the numbers of tokens of an index's documents.
+pub(crate) fn documents(alloc: Global, index: &Index<'_>) -> Result<Vec<RunDoc>, Memory>
+    ensures rows { IfOk result (λ docs. map row_of_doc docs.items ≡ index.now.parts.rows) }
+    ensures lawful { AreLawful index.now.parts }
+{
+    let mut docs = Vec::new(alloc);
+    for document in 0..index.doc_count() {
+        let name = String::from_str(alloc, index.name(document))?;
+        let tokens = index.token_count(document);
+        docs.push(RunDoc { name, tokens })?;
+    }
+    Ok(docs)
+}
+
+/// The document of the last posting, or 0 where there is none. Positions are passed over.
+pub(crate) fn last_document(postings: Postings<'_>) -> u32
+    ensures { EndsAt result postings.entry }
+{
+    let mut left = postings;
+    let mut last = 0;
+    while let Some(posting) = left.next() {
+        last = posting.document;
+    }
+    last
+}

@@ -1,0 +1,193 @@
+//! An opened index as a source of its postings.
+
+use crate::index_head::{copied, documents, last_document};
+use ix_file::Index;
+use ix_run::{ListError, Listed, RunHead, Source};
+use ix_text::Memory;
+use ix_vbyte::cursor::Postings;
+use std::alloc::Global;
+use std::marker::Model;
+
+/// The terms and the postings of an opened index, in order; its lists stay where they are.
+///
+/// Its one error is `Memory`, where positions find no room. The source then stands where it stood, and `positions`
+/// holds anything.
+#[derive(Drop)]
+pub struct IndexSource<'a> {
+    index: &'a Index<'a>,
+    head: RunHead,
+    // the number of the term that comes next
+    number: u32,
+    // the term at hand
+    term: Option<&'a str>,
+    // the postings of the term at hand that are left
+    postings: Postings<'a>,
+}
+
+impl<'a> Model for IndexSource<'a> {
+    ghost use Rattle.std.specs.Prelude.{map, drop};
+    ghost use Rattle.std.specs.Option.{option_copied};
+    ghost use Rattle.ix_text.specs.PartsLaws.{AreLawful};
+    ghost use Rattle.ix_run.specs.Heads.{heading_of};
+    ghost use Rattle.ix_run.specs.Runs.{coded};
+    ghost use Rattle.ix_run.specs.RunSources.{IsAtPlace, SourceValue};
+
+    ghost Value = { SourceValue };
+
+    ghost view = { λ source. record { heading = heading_of source.head; terms = map coded (drop source.number source.index.now.parts.entries); term = option_copied source.term; postings = source.postings } };
+
+    ghost invariant = { λ source. IsAtPlace (record { heading = heading_of source.head; terms = map coded (drop source.number source.index.now.parts.entries); term = option_copied source.term; postings = source.postings }) × AreLawful source.index.now.parts };
+}
+
+impl<'a> IndexSource<'a> {
+    ghost use Rattle.std.specs.Prelude.{◌≡◌, ◌≤◌, ◌+◌, ◌^◌, List, [], length, IfOk};
+    ghost use Rattle.ix_text.specs.Collections.{Collection};
+    ghost use Rattle.ix_text.specs.Parts.{ArePartsOf, DictionaryEntry};
+    ghost use Rattle.ix_run.specs.Heads.{parts_with};
+    ghost use Rattle.ix_run.specs.Runs.{run_value};
+    ghost use Rattle.ix_run.specs.RunSources.{HasGiven, HasLeft, unread};
+    ghost use Rattle.ix_run.specs.Sources.{IsUnread};
+
+    /// The source of an index, of which nothing was asked yet: that of a run of the same collection, whose documents
+    /// count from `first` on. That number with the number of the documents is at most 2^28.
+    ///
+    /// `Memory` where the names and the stop terms find no room.
+    pub fn new(alloc: Global, index: &'a Index<'a>, first: u32) -> Result<IndexSource<'a>, Memory>
+        requires { first + length index.now.parts.rows ≤ 2 ^ 28 }
+        ensures value { IfOk result (λ source. source ≡ unread (run_value first index.now.parts)) }
+        ensures unread { IfOk result (IsUnread HasGiven) }
+        ensures yields { IfOk result (λ source. (collection : Collection)
+            → ArePartsOf collection index.now.parts
+            → (entries : List DictionaryEntry) → HasLeft source [] entries
+            → ArePartsOf collection (parts_with source.heading entries)) }
+    {
+        Ok(IndexSource {
+            head: RunHead {
+                first,
+                stop: copied(alloc, index.stop())?,
+                docs: documents(alloc, index)?,
+            },
+            index,
+            number: 0,
+            term: None,
+            postings: Postings::new(&[], 0),
+        })
+    }
+}
+
+impl<'a> Source for IndexSource<'a> {
+    ghost use Rattle.std.specs.Prelude.{◌≡◌, ◌≤◌, ℕ, List, Some, None, Ok, false, IsOk, IsSome, IfOk, IfErr, OnErr, OnOk, MatchBool, MatchOption};
+    ghost use Rattle.ix_run.specs.RunSources.{HasGiven, HasLeft, IsAtEnd, IsAtEndOfTerm};
+    ghost use Rattle.ix_run.specs.Sources.{BeginsTerm, EndsPostings, EndsTerms, GivesList, GivesPosting};
+
+    type Error = Memory;
+
+    ghost heading = { λ source. source.heading };
+
+    ghost current = { λ source. source.term };
+
+    ghost yields = { HasLeft };
+
+    ghost gives = { HasGiven };
+
+    ghost is_drained = { IsAtEndOfTerm };
+
+    ghost is_ended = { IsAtEnd };
+
+    fn head(&self) -> &RunHead {
+        &self.head
+    }
+
+    /// Goes on to the next term. False: there is none, now and at each later call. Never refused, and takes no memory.
+    fn next_term(&mut self) -> Result<bool, Memory>
+        ensures heading { self.new.heading ≡ self.old.heading }
+        ensures begun { IfOk result (λ more. MatchBool more
+            ((term : List ℕ) × (self.new.term ≡ Some term) × BeginsTerm HasLeft HasGiven IsAtEndOfTerm self.old self.new term)
+            ((self.new.term ≡ None) × IsAtEnd self.new × EndsTerms HasLeft HasGiven IsAtEndOfTerm self.old self.new)) }
+        ensures ended { IsAtEnd self.old → (result ≡ Ok false) × IsAtEnd self.new }
+
+        // It is never refused.
+        ensures granted { IsOk result }
+    {
+        if self.number >= self.index.term_count() {
+            self.term = None;
+            self.postings = Postings::new(&[], 0);
+            return Ok(false);
+        }
+        self.term = Some(self.index.term(self.number));
+        self.postings = self.index.list(self.number);
+        self.number += 1;
+        Ok(true)
+    }
+
+    fn term(&self) -> &str {
+        self.term.unwrap()
+    }
+
+    /// The document of the next posting of the term at hand, whose positions are put into `positions` in place of what
+    /// it held. None: there is no further one, now and at each later call for this term. `Memory` where the positions
+    /// find no room, which leaves the source as it was.
+    fn next_posting(&mut self, positions: &mut Vec<u32>) -> Result<Option<u32>, Memory>
+        requires { IsSome self.old.term }
+        ensures heading { self.new.heading ≡ self.old.heading }
+        ensures current { self.new.term ≡ self.old.term }
+        ensures given { IfOk result (λ found. MatchOption found
+            (IsAtEndOfTerm self.new × EndsPostings HasLeft HasGiven self.old self.new)
+            (λ document. GivesPosting HasLeft HasGiven self.old self.new (document, positions.new.items))) }
+        ensures drained { IsAtEndOfTerm self.old → result ≡ Ok None }
+
+        // What a refusal leaves.
+        ensures kept { OnErr result (self.new ≡ self.old) }
+    {
+        let mut postings = self.postings.again();
+        let Some(posting) = postings.next() else {
+            return Ok(None);
+        };
+        posting.read_positions(positions)?;
+        self.postings = postings;
+        Ok(Some(posting.document))
+    }
+
+    /// Appends all postings of the term at hand that are left, coded as one list: their documents counted in the
+    /// whole collection, and the first gap taken from `next`, which is one above the document before them, or 0. Only
+    /// that gap is coded anew. `ListError::Memory` where the list finds no room, which leaves the source and `out` as
+    /// they were.
+    fn take_list(&mut self, next: u32, out: &mut Vec<u8>) -> Result<Listed, ListError<Memory>>
+        requires at_hand { IsSome self.old.term }
+        requires low { next ≤ self.old.heading.first }
+        ensures heading { self.new.heading ≡ self.old.heading }
+        ensures current { self.new.term ≡ self.old.term }
+        ensures drained { OnOk result (IsAtEndOfTerm self.new) }
+        ensures given { IfOk result (λ listed. GivesList HasLeft HasGiven self.old self.new
+            self.old.heading.first next listed.documents listed.next
+            out.old.items out.new.items) }
+        ensures refused { OnErr result (out.new.items ≡ out.old.items) }
+
+        // What a refusal leaves, and which it is.
+        ensures kept { OnErr result (self.new ≡ self.old) }
+        ensures error { IfErr result (λ error. error ≡ ListError.Memory) }
+    {
+        let documents = self.postings.len() as u32;
+        if documents == 0 {
+            return Ok(Listed { documents, next });
+        }
+        let first = self.head.first;
+        let last = last_document(self.postings.again());
+        if self.postings.push_shifted(out, first, next).is_err() {
+            return Err(ListError::Memory);
+        }
+        self.postings = Postings::new(&[], 0);
+        Ok(Listed {
+            documents,
+            next: first + last + 1,
+        })
+    }
+
+    ghost drained_without_term = { λ source none some. absurd (some none) };
+
+    ghost given_lawfully = { λ source finished at_hand given. given.lawful };
+
+    ghost given_of_term = { λ source finished at_hand given. given.of_term };
+
+    ghost yielded_lawfully = { λ source finished at_hand postings entries given left. given.completed postings entries left };
+}

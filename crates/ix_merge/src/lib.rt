@@ -1,0 +1,19 @@
+//! Merging: sources of sorted postings, whose documents together have each number once, become the index text of their
+//! concatenation, term by term, and no document is read again.
+#![tactic(auto)]
+
+mod concatenation;
+mod entry;
+mod index_head;
+mod index_source;
+mod merge_error;
+mod overview;
+mod terms;
+#[cfg(test)]
+mod tests;
+mod tournament;
+mod turn;
+
+pub use concatenation::merge;
+pub use index_source::IndexSource;
+pub use merge_error::MergeError;

@@ -1,0 +1,81 @@
+//! A source's turn in a merge: its term at hand is told, with its documents, and its next term is read.
+ghost use Rattle.std.specs.Prelude.{◌≡◌, ◌≢◌, ◌+◌, ℕ, List, Option, IfOk, IfErr, OnOk, OnErr, IsSome, is_some, string_bytes};
+ghost use Rattle.ix_text.specs.Parts.{DictionaryEntry};
+ghost use Rattle.ix_file.specs.Told.{Told};
+ghost use Rattle.ix_file.specs.Writers.{WasTold, sink_name};
+ghost use Rattle.ix_merge.specs.Merging.{IsRefusalOf};
+ghost use Rattle.ix_merge.specs.Turns.{HasToldSome, HasTurned, MayTurn, MayTurnSomehow};
+
+use crate::MergeError;
+use crate::entry::EntryAtHand;
+use ix_file::{IndexWriter, PutError};
+use ix_run::{ListError, Source};
+use std::io::Write;
+
+/// Tells the term at hand of a source, with the documents that it has of it, and goes on to the source's next term.
+/// False: there is none. `place` is where the source stands among those that are merged.
+pub(crate) fn take_turn<S: Source, W: Write>(
+    place: usize,
+    source: &mut S,
+    entry: &mut EntryAtHand,
+    writer: &mut IndexWriter<'_, W>,
+) -> Result<bool, MergeError<S::Error>>
+    requires at_hand { IsSome (S.current source.old) }
+    requires may { MayTurnSomehow S.heading S.current S.gives W.contents source.old
+        (string_bytes entry.old.term) entry.old.next writer.old }
+    ensures same_writer { sink_name writer.new ≡ sink_name writer.old }
+    ensures heading { S.heading source.new ≡ S.heading source.old }
+    ensures more { IfOk result (λ more. more ≡ is_some (S.current source.new)) }
+    ensures turned { (before : Option (List ℕ)) (told : Told) (given : List DictionaryEntry)
+        → WasTold W.contents before writer.old told
+        → MayTurn S.heading S.current S.gives source.old given told
+        (string_bytes entry.old.term) entry.old.next
+        → OnOk result (HasTurned S.heading S.current S.yields S.gives W.contents before
+        source.old source.new given told (string_bytes entry.old.term) entry.old.next
+        writer.new (string_bytes entry.new.term) entry.new.next) }
+    ensures some { (before : Option (List ℕ)) (told : Told) (given : List DictionaryEntry)
+        → WasTold W.contents before writer.old told
+        → MayTurn S.heading S.current S.gives source.old given told
+        (string_bytes entry.old.term) entry.old.next
+        → OnErr result (HasToldSome S.heading S.current W.contents before source.old given told
+        (string_bytes entry.old.term) entry.old.next writer.new) }
+    ensures refused { IfErr result (λ error. IsRefusalOf (place + 1) error) }
+{
+    if let Err(error) = entry.begin(source.term(), writer) {
+        return Err(put_error(error));
+    }
+    entry.list.clear();
+    let listed = match source.take_list(entry.next, &mut entry.list) {
+        Ok(listed) => listed,
+        Err(error) => return Err(list_error(place, error)),
+    };
+    if let Err(error) = writer.list(listed.documents, listed.next, &entry.list) {
+        return Err(put_error(error));
+    }
+    entry.next = listed.next;
+    source
+        .next_term()
+        .map_err(|error| MergeError::Source(place, error))
+}
+
+/// The refusal of a writer that had refused nothing.
+pub(crate) fn put_error<E>(error: PutError) -> MergeError<E>
+    requires { error ≢ PutError.Failed }
+    ensures { IsRefusalOf 0 result }
+{
+    match error {
+        PutError::Write => MergeError::Write,
+        PutError::Memory => MergeError::Memory,
+        PutError::Failed => unreachable!(),
+    }
+}
+
+/// The refusal of the source at a place.
+fn list_error<E>(place: usize, error: ListError<E>) -> MergeError<E>
+    ensures { IsRefusalOf (place + 1) result }
+{
+    match error {
+        ListError::Memory => MergeError::Memory,
+        ListError::Source(error) => MergeError::Source(place, error),
+    }
+}
