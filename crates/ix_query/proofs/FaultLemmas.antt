@@ -1,16 +1,18 @@
 -- Where a fault of the grammar is found, no query begins with the lexemes up to it, and some query with those before it.
-use Rattle.std.proofs.Common.{◌≡◌, ℕ, List, [], ◌∷◌, ◌++◌, length, Bool, true, false, cond, Option, Some, None, ok_or, Result, Ok, Err, nat_lt, ◌==◌, refl, ap, subst, ◌∙◌, ◌⊎◌, inl, inr, append_assoc}
+use Rattle.std.proofs.Common.{◌≡◌, ℕ, List, [], ◌∷◌, ◌++◌, length, Bool, true, false, cond, Option, Some, None, ok_or, Result, Ok, Err, nat_lt, ◌==◌, refl, sym, ap, subst, ◌∙◌, ◌⊎◌, inl, inr, append_assoc, append-nil, codes}
 use Rattle.ix_query.specs.declared.error.QueryError.{QueryError}
 use Rattle.ix_query.specs.declared.error.QueryError.TheVariants.{Empty, Unexpected, End, Deep, NoWord, OnlyStopWords, BareStar, StarInPhrase, NearWord, LongTerm}
-use Rattle.ix_query.specs.declared.query.Query.{Query}
-use Rattle.ix_query.specs.declared.query.Query.TheVariants as tree
+use Rattle.ix_query.specs.declared.tree.Tree.{Tree}
+use Rattle.ix_query.specs.declared.tree.Tree.TheVariants as tree
 use Rattle.ix_query.specs.QueryErrors.{◌>>=◌}
 use Rattle.ix_query.specs.Lexemes.{Sign, Lexeme, At}
 use Rattle.std.specs.List.{list_any, list_all}
 use Rattle.unicode_segmentation.specs.Word.{words}
 use Rattle.ix_text.specs.TokenLists.{Entry}
 use Rattle.ix_query.specs.Judgement.{is_star, is_long_word, strip_holes, plain, quoted, beside, phrase_reading, entries_reading, entry_reading, only_term}
-use Rattle.ix_query.specs.Faults.{BeginsQuery, HasRun, IsFirstUnexpected}
+use Rattle.ix_gram.specs.Patterns.{pieces_of}
+use Rattle.ix_query.specs.Faults.{BeginsQuery, BeginsWithNear, EndsWithNear, IsFirstRefused, IsFirstUnexpected, IsJudgement, IsNear, IsRefused, IsTooDeep}
+use Rattle.ix_query.specs.Faults as faults
 use Rattle.ix_query.specs.Machine.{Frame, Negating, Inside, Place, Operand, Operator, AfterRun, AfterNear, Pending, State, start, behind_nots, filled, joined, closed, at_operand, at_operator, after_run, after_near, ended, finish, step, tree_from, tree_of}
 use Rattle.ix_query.proofs.SoundLemmas.{IsSettled, pending_at, state_at, filled_at, sound}
 use Rattle.ix_query.proofs.CompleteLemmas.{NotNear, run_turn, complete}
@@ -104,7 +106,7 @@ module _ (stop : List (List ℕ)) where
   behaves_then o (Ok x) f h k = k x refl
   behaves_then o (Err e) f h k = judged_behaves o e (h.refused e refl)
 
-  opened_behaves : (o : ℕ) (b : Bool) (frames : List Frame) (before parts : List Query) → Behaves stop o (cond b (Ok (state_at Operand frames before parts)) (Err Deep))
+  opened_behaves : (o : ℕ) (b : Bool) (frames : List Frame) (before parts : List Tree) → Behaves stop o (cond b (Ok (state_at Operand frames before parts)) (Err Deep))
   opened_behaves o true frames before parts = tt
   opened_behaves o false frames before parts = tt
 
@@ -113,7 +115,7 @@ module _ (stop : List (List ℕ)) where
   settled_behind (Negating ∷ frames) = settled_behind frames
   settled_behind (Inside xs ys ∷ frames) = tt
 
-  closed_behaves : (o : ℕ) (frames : List Frame) (part : Query) → Behaves stop o (closed o frames part)
+  closed_behaves : (o : ℕ) (frames : List Frame) (part : Tree) → Behaves stop o (closed o frames part)
   closed_behaves o [] part = refl
   closed_behaves o (Negating ∷ frames) part = refl
   closed_behaves o (Inside xs ys ∷ frames) part = settled_behind frames
@@ -150,41 +152,46 @@ module _ (stop : List (List ℕ)) where
   -- lexemes that complete what is read to a query
   record Completion (state : State) : Type 0 where
     more : List Lexeme
-    query : Query
+    query : Tree
     not_near : NotNear more
     turns : tree_from stop state more ≡ Ok query
 
-  closing : (frames : List Frame) (before parts : List Query) (part : Query) → Completion (filled_at frames before parts part)
+  closing : (frames : List Frame) (before parts : List Tree) (part : Tree) → Completion (filled_at frames before parts part)
   closing [] before parts part = record { more = []; query = joined (pending_at [] before (parts ++ part ∷ [])); not_near = tt; turns = refl }
   closing (Negating ∷ frames) before parts part = closing frames before parts (tree.Not part)
   closing (Inside xs ys ∷ frames) before parts part = let c = closing frames xs ys (joined (pending_at frames before (parts ++ part ∷ []))) in
       record { more = At 0 Sign.Close ∷ c.more; query = c.query; not_near = tt; turns = c.turns }
 
-  closing_operator : (frames : List Frame) (before parts : List Query) → IsSettled frames → Completion (state_at Operator frames before parts)
+  closing_operator : (frames : List Frame) (before parts : List Tree) → IsSettled frames → Completion (state_at Operator frames before parts)
   closing_operator [] before parts s = record { more = []; query = joined (pending_at [] before parts); not_near = tt; turns = refl }
   closing_operator (Negating ∷ frames) before parts s = absurd s
   closing_operator (Inside xs ys ∷ frames) before parts s = let c = closing frames xs ys (joined (pending_at frames before parts)) in
       record { more = At 0 Sign.Close ∷ c.more; query = c.query; not_near = tt; turns = c.turns }
 
-  closing_run : (words : List ℕ) (frames : List Frame) (before parts : List Query) (part : Query) → plain stop words ≡ Ok part → Completion (state_at (AfterRun words) frames before parts)
+  closing_run : (words : List ℕ) (frames : List Frame) (before parts : List Tree) (part : Tree) → plain stop words ≡ Ok part → Completion (state_at (AfterRun words) frames before parts)
   closing_run words frames before parts part e = let c = closing frames before parts part in
       record { more = c.more; query = c.query; not_near = c.not_near; turns = run_turn stop c.more words frames before parts part c.not_near e ∙ c.turns }
 
-  closing_near : (first : List ℕ) (distance : ℕ) (frames : List Frame) (before parts : List Query) (words : List ℕ) → beside stop words ≡ Ok first → Completion (state_at (AfterNear first distance) frames before parts)
+  closing_near : (first : List ℕ) (distance : ℕ) (frames : List Frame) (before parts : List Tree) (words : List ℕ) → beside stop words ≡ Ok first → Completion (state_at (AfterNear first distance) frames before parts)
   closing_near first distance frames before parts words e = let c = closing frames before parts (tree.Near first first distance) in
       record { more = At 0 (Sign.Run words) ∷ c.more; query = c.query; not_near = tt; turns = rw e c.turns }
 
   -- the run that waits is a query
   abbrev IsRead : Place → Type 0
-  IsRead (AfterRun words) = (part : Query) × (plain stop words ≡ Ok part)
+  IsRead (AfterRun words) = (part : Tree) × (plain stop words ≡ Ok part)
   IsRead place = Unit {0}
 
-  completion : HasRun stop → (place : Place) (pending : Pending) → IsReached stop place pending → IsRead place → Completion (record { place = place; pending = pending })
-  completion some Operand pending r p = let c = closing_run some.run pending.frames pending.ors pending.ands some.query some.judged in
-      record { more = At 0 (Sign.Run some.run) ∷ c.more; query = c.query; not_near = tt; turns = c.turns }
-  completion some Operator pending r p = closing_operator pending.frames pending.ors pending.ands r
-  completion some (AfterRun words) pending r p = closing_run words pending.frames pending.ors pending.ands p.0 p.1
-  completion some (AfterNear first distance) pending r p = closing_near first distance pending.frames pending.ors pending.ands r.0 r.1
+  -- a run that is a query under every stop list
+  any_run : plain stop (codes "a*") ≡ Ok (tree.Pattern (pieces_of (codes "a*")))
+  unfolding plain
+  any_run = refl
+
+  completion : (place : Place) (pending : Pending) → IsReached stop place pending → IsRead place → Completion (record { place = place; pending = pending })
+  completion Operand pending r p = let c = closing_run (codes "a*") pending.frames pending.ors pending.ands (tree.Pattern (pieces_of (codes "a*"))) any_run in
+      record { more = At 0 (Sign.Run (codes "a*")) ∷ c.more; query = c.query; not_near = tt; turns = c.turns }
+  completion Operator pending r p = closing_operator pending.frames pending.ors pending.ands r
+  completion (AfterRun words) pending r p = closing_run words pending.frames pending.ors pending.ands p.0 p.1
+  completion (AfterNear first distance) pending r p = closing_near first distance pending.frames pending.ors pending.ands r.0 r.1
 
   -- ---- where the turns stop
 
@@ -201,51 +208,125 @@ module _ (stop : List (List ℕ)) where
   bind_err (Ok x) f e h = inr (x, refl, h)
   bind_err (Err d) f e h = inl (cc)
 
-  -- The turns come from the state to another over some lexemes, whatever follows.
-  record Comes (state : State) (front : List Lexeme) (place : Place) (pending : Pending) : Type 0 where
-    reached : IsReached stop place pending
-    turns : (more : List Lexeme) → tree_from stop state (front ++ more) ≡ tree_from stop (record { place = place; pending = pending }) more
+  -- ---- from the start on
 
-  -- They stop with a fault at a lexeme, or at the end.
-  data Stops (state : State) (e : QueryError) (lexemes : List Lexeme) : Type 0 where
-    at_lexeme : (before : List Lexeme) (o : ℕ) (sign : Sign) (after : List Lexeme) (place : Place) (pending : Pending) → lexemes ≡ before ++ At o sign ∷ after → Comes state before place pending → step stop (record { place = place; pending = pending }) (At o sign) ≡ Err e → Stops state e lexemes
-    at_end : (place : Place) (pending : Pending) → Comes state lexemes place pending → finish stop (record { place = place; pending = pending }) ≡ Err e → Stops state e lexemes
-
-  comes_on : (state next : State) (lexeme : Lexeme) (front : List Lexeme) (place : Place) (pending : Pending) → step stop state lexeme ≡ Ok next → Comes next front place pending → Comes state (lexeme ∷ front) place pending
-  comes_on state next lexeme front place pending e c = record { reached = c.reached; turns = λ more. rw e (c.turns more) }
-
-  stops_on : (state next : State) (lexeme : Lexeme) (e : QueryError) (rest : List Lexeme) → step stop state lexeme ≡ Ok next → Stops next e rest → Stops state e (lexeme ∷ rest)
-  stops_on state next lexeme e rest turn (at_lexeme before o sign after place pending whole comes fault) = at_lexeme (lexeme ∷ before) o sign after place pending (ap (λ xs. lexeme ∷ xs) whole) (comes_on state next lexeme before place pending turn comes) fault
-  stops_on state next lexeme e rest turn (at_end place pending comes fault) = at_end place pending (comes_on state next lexeme rest place pending turn comes) fault
-
-  stops_turn : (rest : List Lexeme) (later : (next : State) (e : QueryError) → IsReached stop next.place next.pending → tree_from stop next rest ≡ Err e → Stops next e rest) →
-      (lexeme : Lexeme) (state : State) (e : QueryError) → IsReached stop state.place state.pending → tree_from stop state (lexeme ∷ rest) ≡ Err e → Stops state e (lexeme ∷ rest)
-  stops_turn rest later (At o sign) state e r h = elim (bind_err (step stop state (At o sign)) (λ next. tree_from stop next rest) e h) [
-    | inl fault ↦ at_lexeme [] o sign rest state.place state.pending refl (record { reached = r; turns = λ more. refl }) fault
-    | inr later_fault ↦ stops_on state later_fault.0 (At o sign) e rest later_fault.1 (later later_fault.0 e (reached_after o _ later_fault.0 later_fault.1 (behaves o sign state.place state.pending)) later_fault.2)
-  ]
-
-  stops : (lexemes : List Lexeme) (state : State) (e : QueryError) → IsReached stop state.place state.pending → tree_from stop state lexemes ≡ Err e → Stops state e lexemes
-  stops [] state e r h = at_end state.place state.pending (record { reached = r; turns = λ more. refl }) h
-  stops (lexeme ∷ rest) state e r h = stops_turn rest (stops rest) lexeme state e r h
-
-  -- ---- the two laws
-
-  tree_of_from : (lexemes : List Lexeme) (query : Query) → tree_of stop lexemes ≡ Ok query → tree_from stop start lexemes ≡ Ok query
+  tree_of_from : (lexemes : List Lexeme) (query : Tree) → tree_of stop lexemes ≡ Ok query → tree_from stop start lexemes ≡ Ok query
   unfolding tree_of
   tree_of_from [] query e = absurd (cc)
   tree_of_from (lexeme ∷ rest) query e = e
 
-  from_tree_of : (lexemes : List Lexeme) (query : Query) → tree_from stop start lexemes ≡ Ok query → tree_of stop lexemes ≡ Ok query
+  from_tree_of : (lexemes : List Lexeme) (query : Tree) → tree_from stop start lexemes ≡ Ok query → tree_of stop lexemes ≡ Ok query
   unfolding tree_of
   from_tree_of [] query e = absurd (cc)
   from_tree_of (lexeme ∷ rest) query e = e
 
-  begins : (front : List Lexeme) (place : Place) (pending : Pending) → Comes start front place pending → IsRead place → HasRun stop → BeginsQuery stop front
-  begins front place pending comes p some = let c = completion some place pending comes.reached p in
+  ends_last : (front : List Lexeme) (last : Lexeme) → EndsWithNear (front ++ last ∷ []) → IsNear last
+  ends_last [] last h = h
+  ends_last (first ∷ []) last h = h
+  ends_last (first ∷ second ∷ front) last h = ends_last (second ∷ front) last h
+
+  near_last : (front : List Lexeme) (last : Lexeme) → IsNear last → EndsWithNear (front ++ last ∷ [])
+  near_last [] last h = h
+  near_last (first ∷ []) last h = h
+  near_last (first ∷ second ∷ front) last h = near_last (second ∷ front) last h
+
+  -- the run that waits is the last of the lexemes, and a query begins with those before it
+  record IsRunLast (front : List Lexeme) (words : List ℕ) : Type 0 where
+    before : List Lexeme
+    offset : ℕ
+    whole : front ≡ before ++ At offset (Sign.Run words) ∷ []
+    begun : BeginsQuery stop before
+    apart : ¬ (EndsWithNear before)
+
+  -- what the lexemes that were taken end with
+  abbrev IsBehind : List Lexeme → Place → Type 0
+  IsBehind front Operand = ¬ (EndsWithNear front)
+  IsBehind front Operator = Unit {0}
+  IsBehind front (AfterRun words) = IsRunLast front words
+  IsBehind front (AfterNear first distance) = EndsWithNear front
+
+  -- The turns come from the start to a state over some lexemes, whatever follows.
+  record Comes (front : List Lexeme) (place : Place) (pending : Pending) : Type 0 where
+    reached : IsReached stop place pending
+    behind : IsBehind front place
+    turns : (more : List Lexeme) → tree_from stop start (front ++ more) ≡ tree_from stop (record { place = place; pending = pending }) more
+
+  begins : (front : List Lexeme) (place : Place) (pending : Pending) → Comes front place pending → IsRead place → BeginsQuery stop front
+  begins front place pending comes p = let c = completion place pending comes.reached p in
       record { more = c.more; query = c.query; derived = sound stop c.query (front ++ c.more) (from_tree_of (front ++ c.more) c.query (comes.turns c.more ∙ c.turns)) }
 
-  begins_none : (before : List Lexeme) (lexeme : Lexeme) (place : Place) (pending : Pending) (e : QueryError) → Comes start before place pending → step stop (record { place = place; pending = pending }) lexeme ≡ Err e → BeginsQuery stop (before ++ lexeme ∷ []) → ⊥
+  -- what a turn comes to ends with its lexeme
+  abbrev Follows : List Lexeme → Result State QueryError → Type 0
+  Follows front (Ok state) = IsBehind front state.place
+  Follows front (Err e) = Unit {0}
+
+  follows_then : {A : Type 0} (front : List Lexeme) (r : Result A QueryError) (f : A → Result State QueryError) → ((x : A) → Follows front (f x)) → Follows front (r >>= f)
+  follows_then front (Ok x) f h = h x
+  follows_then front (Err e) f h = tt
+
+  opened_follows : (front : List Lexeme) (b : Bool) (frames : List Frame) (before parts : List Tree) → ¬ (EndsWithNear front) → Follows front (cond b (Ok (state_at Operand frames before parts)) (Err Deep))
+  opened_follows front true frames before parts h = h
+  opened_follows front false frames before parts h = tt
+
+  closed_follows : (front : List Lexeme) (o : ℕ) (frames : List Frame) (part : Tree) → Follows front (closed o frames part)
+  closed_follows front o [] part = tt
+  closed_follows front o (Negating ∷ frames) part = tt
+  closed_follows front o (Inside xs ys ∷ frames) part = tt
+
+  operand_follows : (front : List Lexeme) (o : ℕ) (sign : Sign) (pending : Pending) → BeginsQuery stop front → ¬ (EndsWithNear front) → Follows (front ++ At o sign ∷ []) (at_operand stop pending (At o sign))
+  operand_follows front o Sign.Open pending begun apart = opened_follows (front ++ At o Sign.Open ∷ []) (nat_lt (length pending.frames) 64) (Inside pending.ors pending.ands ∷ pending.frames) [] [] (ends_last front (At o Sign.Open))
+  operand_follows front o Sign.Not pending begun apart = opened_follows (front ++ At o Sign.Not ∷ []) (nat_lt (length pending.frames) 64) (Negating ∷ pending.frames) pending.ors pending.ands (ends_last front (At o Sign.Not))
+  operand_follows front o (Sign.Quoted words) pending begun apart = follows_then (front ++ At o (Sign.Quoted words) ∷ []) (quoted stop words) _ (λ part. tt)
+  operand_follows front o (Sign.Run words) pending begun apart = record { before = front; offset = o; whole = refl; begun = begun; apart = apart }
+  operand_follows front o _ pending begun apart = tt
+
+  operator_follows : (front : List Lexeme) (o : ℕ) (sign : Sign) (pending : Pending) → Follows (front ++ At o sign ∷ []) (at_operator pending (At o sign))
+  operator_follows front o Sign.And pending = ends_last front (At o Sign.And)
+  operator_follows front o Sign.Or pending = ends_last front (At o Sign.Or)
+  operator_follows front o Sign.Close pending = closed_follows (front ++ At o Sign.Close ∷ []) o pending.frames (joined pending)
+  operator_follows front o _ pending = tt
+
+  run_follows : (front : List Lexeme) (o : ℕ) (sign : Sign) (words : List ℕ) (pending : Pending) → Follows (front ++ At o sign ∷ []) (after_run stop words pending (At o sign))
+  run_follows front o (Sign.Near distance) words pending = follows_then (front ++ At o (Sign.Near distance) ∷ []) (beside stop words) _ (λ first. near_last front (At o (Sign.Near distance)) tt)
+  run_follows front o sign words pending = follows_then (front ++ At o sign ∷ []) (plain stop words) _ (λ part. operator_follows front o sign (filled pending part))
+
+  near_follows : (front : List Lexeme) (o : ℕ) (sign : Sign) (first : List ℕ) (distance : ℕ) (pending : Pending) → Follows (front ++ At o sign ∷ []) (after_near stop first distance pending (At o sign))
+  near_follows front o (Sign.Run words) first distance pending = follows_then (front ++ At o (Sign.Run words) ∷ []) (beside stop words) _ (λ second. tt)
+  near_follows front o _ first distance pending = tt
+
+  follows : (front : List Lexeme) (o : ℕ) (sign : Sign) (place : Place) (pending : Pending) → Comes front place pending → Follows (front ++ At o sign ∷ []) (step stop (record { place = place; pending = pending }) (At o sign))
+  follows front o sign Operand pending comes = operand_follows front o sign pending (begins front Operand pending comes tt) comes.behind
+  follows front o sign Operator pending comes = operator_follows front o sign pending
+  follows front o sign (AfterRun words) pending comes = run_follows front o sign words pending
+  follows front o sign (AfterNear first distance) pending comes = near_follows front o sign first distance pending
+
+  followed : (front : List Lexeme) (r : Result State QueryError) (state : State) → r ≡ Ok state → Follows front r → IsBehind front state.place
+  followed front r state e f = rw e at f
+
+  comes_start : Comes [] Operand start.pending
+  comes_start = record { reached = tt; behind = λ h. h; turns = λ more. refl }
+
+  comes_on : (front : List Lexeme) (place : Place) (pending : Pending) (o : ℕ) (sign : Sign) (next : State) → Comes front place pending → step stop (record { place = place; pending = pending }) (At o sign) ≡ Ok next → Comes (front ++ At o sign ∷ []) next.place next.pending
+  comes_on front place pending o sign next comes e = record {
+    reached = reached_after o _ next e (behaves o sign place pending);
+    behind = followed (front ++ At o sign ∷ []) _ next e (follows front o sign place pending comes);
+    turns = λ more. ap (tree_from stop start) (append_assoc front (At o sign ∷ []) more) ∙ comes.turns (At o sign ∷ more) ∙ ap (λ r. r >>= λ state. tree_from stop state more) e;
+  }
+
+  -- They stop with a fault at a lexeme, or at the end.
+  data Stops (e : QueryError) (lexemes : List Lexeme) : Type 0 where
+    at_lexeme : (before : List Lexeme) (o : ℕ) (sign : Sign) (after : List Lexeme) (place : Place) (pending : Pending) → lexemes ≡ before ++ At o sign ∷ after → Comes before place pending → step stop (record { place = place; pending = pending }) (At o sign) ≡ Err e → Stops e lexemes
+    at_end : (place : Place) (pending : Pending) → Comes lexemes place pending → finish stop (record { place = place; pending = pending }) ≡ Err e → Stops e lexemes
+
+  stops : (rest front : List Lexeme) (place : Place) (pending : Pending) (e : QueryError) → Comes front place pending → tree_from stop (record { place = place; pending = pending }) rest ≡ Err e → Stops e (front ++ rest)
+  stops [] front place pending e comes h = subst (Stops e) (sym (append-nil front)) (at_end place pending comes h)
+  stops (At o sign ∷ rest) front place pending e comes h =
+      elim (bind_err (step stop (record { place = place; pending = pending }) (At o sign)) (λ next. tree_from stop next rest) e h) [
+        | inl fault ↦ at_lexeme front o sign rest place pending refl comes fault
+        | inr later ↦ subst (Stops e) (append_assoc front (At o sign ∷ []) rest) (stops rest (front ++ At o sign ∷ []) later.0.place later.0.pending e (comes_on front place pending o sign later.0 comes later.1) later.2)
+      ]
+
+  begins_none : (before : List Lexeme) (lexeme : Lexeme) (place : Place) (pending : Pending) (e : QueryError) → Comes before place pending → step stop (record { place = place; pending = pending }) lexeme ≡ Err e → BeginsQuery stop (before ++ lexeme ∷ []) → ⊥
   begins_none before lexeme place pending e comes fault b =
       let read = tree_of_from ((before ++ lexeme ∷ []) ++ b.more) b.query (complete stop ((before ++ lexeme ∷ []) ++ b.more) b.query b.derived) in
       let same = ap (tree_from stop start) (append_assoc before (lexeme ∷ []) b.more) in
@@ -272,7 +353,7 @@ module _ (stop : List (List ℕ)) where
   read_at_end e (AfterNear first distance) pending g h = tt
 
   -- the end is no unexpected lexeme
-  ended_only_ends : (frames : List Frame) (part : Query) (offset : ℕ) → ended frames part ≡ Err (Unexpected offset) → ⊥
+  ended_only_ends : (frames : List Frame) (part : Tree) (offset : ℕ) → ended frames part ≡ Err (Unexpected offset) → ⊥
   ended_only_ends [] part offset h = cc
   ended_only_ends (frame ∷ frames) part offset h = cc
 
@@ -282,12 +363,12 @@ module _ (stop : List (List ℕ)) where
   finish_only_ends (AfterRun run) pending offset h = let r = read_then (plain stop run) _ (Unexpected offset) (judged_plain stop run) tt h in ended_only_ends _ _ offset r.2
   finish_only_ends (AfterNear first distance) pending offset h = cc
 
-  start_stops : (lexemes : List Lexeme) (e : QueryError) → tree_of stop lexemes ≡ Err e → (e ≡ Empty → ⊥) → Stops start e lexemes
+  start_stops : (lexemes : List Lexeme) (e : QueryError) → tree_of stop lexemes ≡ Err e → (e ≡ Empty → ⊥) → Stops e lexemes
   unfolding tree_of
   start_stops [] e h some = absurd (some (cc))
-  start_stops (lexeme ∷ rest) e h some = stops (lexeme ∷ rest) start e tt h
+  start_stops (lexeme ∷ rest) e h some = stops (lexeme ∷ rest) [] Operand start.pending e comes_start h
 
-  first_unexpected : (offset : ℕ) (lexemes : List Lexeme) → Stops start (Unexpected offset) lexemes → IsFirstUnexpected stop lexemes offset
+  first_unexpected : (offset : ℕ) (lexemes : List Lexeme) → Stops (Unexpected offset) lexemes → IsFirstUnexpected stop lexemes offset
   first_unexpected offset lexemes (at_end place pending comes fault) = absurd (finish_only_ends place pending offset fault)
   first_unexpected offset lexemes (at_lexeme before o sign after place pending whole comes fault) =
       let same = blames o offset _ fault (behaves o sign place pending) in
@@ -297,15 +378,167 @@ module _ (stop : List (List ℕ)) where
         after = after;
         whole = rw same whole;
         too_far = rw same (begins_none before (At o sign) place pending (Unexpected offset) comes fault);
-        so_far = λ some. begins before place pending comes (read_before o (Unexpected offset) sign place pending tt fault) some;
+        so_far = begins before place pending comes (read_before o (Unexpected offset) sign place pending tt fault);
       }
 
   pub unexpected : (lexemes : List Lexeme) (offset : ℕ) → tree_of stop lexemes ≡ Err (Unexpected offset) → IsFirstUnexpected stop lexemes offset
   unexpected lexemes offset h = first_unexpected offset lexemes (start_stops lexemes (Unexpected offset) h (λ p. cc))
 
-  early_end : (lexemes : List Lexeme) → Stops start End lexemes → HasRun stop → BeginsQuery stop lexemes
-  early_end lexemes (at_end place pending comes fault) some = begins lexemes place pending comes (read_at_end End place pending tt fault) some
-  early_end lexemes (at_lexeme before o sign after place pending whole comes fault) some = absurd (never_ends o _ fault (behaves o sign place pending))
+  early_end : (lexemes : List Lexeme) → Stops End lexemes → BeginsQuery stop lexemes
+  early_end lexemes (at_end place pending comes fault) = begins lexemes place pending comes (read_at_end End place pending tt fault)
+  early_end lexemes (at_lexeme before o sign after place pending whole comes fault) = absurd (never_ends o _ fault (behaves o sign place pending))
 
-  pub too_soon : (lexemes : List Lexeme) → tree_of stop lexemes ≡ Err End → HasRun stop → BeginsQuery stop lexemes
+  pub too_soon : (lexemes : List Lexeme) → tree_of stop lexemes ≡ Err End → BeginsQuery stop lexemes
   too_soon lexemes h = early_end lexemes (start_stops lexemes End h (λ p. cc))
+
+  -- ---- one bracket or NOT too many
+
+  closed_not_deep : (o : ℕ) (frames : List Frame) (part : Tree) → closed o frames part ≡ Err Deep → ⊥
+  closed_not_deep o [] part h = cc
+  closed_not_deep o (Negating ∷ frames) part h = cc
+  closed_not_deep o (Inside xs ys ∷ frames) part h = cc
+
+  operator_not_deep : (o : ℕ) (sign : Sign) (pending : Pending) → at_operator pending (At o sign) ≡ Err Deep → ⊥
+  operator_not_deep o Sign.Close pending h = closed_not_deep o pending.frames (joined pending) h
+  operator_not_deep o _ pending h = cc
+
+  ended_not_deep : (frames : List Frame) (part : Tree) → ended frames part ≡ Err Deep → ⊥
+  ended_not_deep [] part h = cc
+  ended_not_deep (frame ∷ frames) part h = cc
+
+  finish_not_deep : (place : Place) (pending : Pending) → finish stop (record { place = place; pending = pending }) ≡ Err Deep → ⊥
+  finish_not_deep Operand pending h = cc
+  finish_not_deep Operator pending h = ended_not_deep pending.frames (joined pending) h
+  finish_not_deep (AfterRun words) pending h = let r = read_then (plain stop words) _ Deep (judged_plain stop words) tt h in ended_not_deep _ _ r.2
+  finish_not_deep (AfterNear first distance) pending h = cc
+
+  operand_deep : (o : ℕ) (sign : Sign) (pending : Pending) → at_operand stop pending (At o sign) ≡ Err Deep → (sign ≡ Sign.Open) ⊎ (sign ≡ Sign.Not)
+  operand_deep o Sign.Open pending h = inl refl
+  operand_deep o Sign.Not pending h = inr refl
+  operand_deep o (Sign.Quoted words) pending h = let r = read_then (quoted stop words) _ Deep (judged_quoted stop words) tt h in let no = r.2 in absurd (cc)
+  operand_deep o _ pending h = absurd (cc)
+
+  near_not_deep : (o : ℕ) (sign : Sign) (first : List ℕ) (distance : ℕ) (pending : Pending) → after_near stop first distance pending (At o sign) ≡ Err Deep → ⊥
+  near_not_deep o (Sign.Run words) first distance pending h = let r = read_then (beside stop words) _ Deep (judged_beside stop words) tt h in let no = r.2 in cc
+  near_not_deep o _ first distance pending h = cc
+
+  run_not_deep : (o : ℕ) (sign : Sign) (words : List ℕ) (pending : Pending) → after_run stop words pending (At o sign) ≡ Err Deep → ⊥
+  run_not_deep o (Sign.Near distance) words pending h = let r = read_then (beside stop words) _ Deep (judged_beside stop words) tt h in let no = r.2 in cc
+  run_not_deep o sign words pending h = let r = read_then (plain stop words) _ Deep (judged_plain stop words) tt h in operator_not_deep o sign (filled pending r.0) r.2
+
+  deep_at : (lexemes before : List Lexeme) (o : ℕ) (sign : Sign) (after : List Lexeme) (place : Place) (pending : Pending) → lexemes ≡ before ++ At o sign ∷ after → Comes before place pending → step stop (record { place = place; pending = pending }) (At o sign) ≡ Err Deep → IsTooDeep stop lexemes
+  deep_at lexemes before o sign after Operand pending whole comes fault = record {
+    before = before;
+    offset = o;
+    sign = sign;
+    after = after;
+    whole = whole;
+    opens = operand_deep o sign pending fault;
+    too_far = begins_none before (At o sign) Operand pending Deep comes fault;
+    so_far = λ words part e.
+        begins (before ++ At o (Sign.Run words) ∷ []) (AfterRun words) pending
+        (comes_on before Operand pending o (Sign.Run words) (record { place = AfterRun words; pending = pending }) comes refl) (part, e);
+  }
+  deep_at lexemes before o sign after Operator pending whole comes fault = absurd (operator_not_deep o sign pending fault)
+  deep_at lexemes before o sign after (AfterRun words) pending whole comes fault = absurd (run_not_deep o sign words pending fault)
+  deep_at lexemes before o sign after (AfterNear first distance) pending whole comes fault = absurd (near_not_deep o sign first distance pending fault)
+
+  deep_stop : (lexemes : List Lexeme) → Stops Deep lexemes → IsTooDeep stop lexemes
+  deep_stop lexemes (at_end place pending comes fault) = absurd (finish_not_deep place pending fault)
+  deep_stop lexemes (at_lexeme before o sign after place pending whole comes fault) = deep_at lexemes before o sign after place pending whole comes fault
+
+  pub too_deep : (lexemes : List Lexeme) → tree_of stop lexemes ≡ Err Deep → IsTooDeep stop lexemes
+  too_deep lexemes h = deep_stop lexemes (start_stops lexemes Deep h (λ p. cc))
+
+  -- ---- a run or a quoted text that is refused
+
+  abbrev fails : (A : Type 0) → QueryError → Result A QueryError
+  fails A d = Err d
+
+  other_fault : {A : Type 0} (d e : QueryError) → fails A d ≡ Err e → (IsJudgement d → ⊥) → IsJudgement e → ⊥
+  other_fault d e is never judgement = let same : e ≡ d = cc in never (subst IsJudgement same judgement)
+
+  opened_judges : (e : QueryError) (b : Bool) (state : State) → cond b (Ok state) (Err Deep) ≡ Err e → IsJudgement e → ⊥
+  opened_judges e true state h j = cc
+  opened_judges e false state h j = other_fault Deep e h (λ no. no) j
+
+  closed_judges : (e : QueryError) (o : ℕ) (frames : List Frame) (part : Tree) → closed o frames part ≡ Err e → IsJudgement e → ⊥
+  closed_judges e o [] part h j = other_fault (Unexpected o) e h (λ no. no) j
+  closed_judges e o (Negating ∷ frames) part h j = other_fault (Unexpected o) e h (λ no. no) j
+  closed_judges e o (Inside xs ys ∷ frames) part h j = cc
+
+  operator_judges : (e : QueryError) (o : ℕ) (sign : Sign) (pending : Pending) → at_operator pending (At o sign) ≡ Err e → IsJudgement e → ⊥
+  operator_judges e o Sign.And pending h j = cc
+  operator_judges e o Sign.Or pending h j = cc
+  operator_judges e o Sign.Close pending h j = closed_judges e o pending.frames (joined pending) h j
+  operator_judges e o _ pending h j = other_fault (Unexpected o) e h (λ no. no) j
+
+  ended_judges : (e : QueryError) (frames : List Frame) (part : Tree) → ended frames part ≡ Err e → IsJudgement e → ⊥
+  ended_judges e [] part h j = cc
+  ended_judges e (frame ∷ frames) part h j = other_fault End e h (λ no. no) j
+
+  refused_operand : (e : QueryError) (lexemes before : List Lexeme) (o : ℕ) (sign : Sign) (after : List Lexeme) (pending : Pending) → lexemes ≡ before ++ At o sign ∷ after → Comes before Operand pending → at_operand stop pending (At o sign) ≡ Err e → IsJudgement e → IsFirstRefused stop lexemes e
+  refused_operand e lexemes before o Sign.Open after pending whole comes h j = absurd (opened_judges e (nat_lt (length pending.frames) 64) _ h j)
+  refused_operand e lexemes before o Sign.Not after pending whole comes h j = absurd (opened_judges e (nat_lt (length pending.frames) 64) _ h j)
+  refused_operand e lexemes before o (Sign.Quoted words) after pending whole comes h j =
+      elim (bind_err (quoted stop words) _ e h) [
+        | inl fault ↦ record { before = before; offset = o; sign = Sign.Quoted words; after = after; whole = whole; so_far = begins before Operand pending comes tt; refused = faults.text fault }
+        | inr more ↦ let no = more.2 in absurd (cc)
+      ]
+  refused_operand e lexemes before o (Sign.Run words) after pending whole comes h j = absurd (cc)
+  refused_operand e lexemes before o _ after pending whole comes h j = absurd (other_fault (Unexpected o) e h (λ no. no) j)
+
+  -- the run that waits is refused
+  refused_last : (e : QueryError) (lexemes front : List Lexeme) (words : List ℕ) (after : List Lexeme) → lexemes ≡ front ++ after → (last : IsRunLast front words) → IsRefused stop e last.before after (Sign.Run words) → IsFirstRefused stop lexemes e
+  refused_last e lexemes front words after whole last refused = record {
+    before = last.before;
+    offset = last.offset;
+    sign = Sign.Run words;
+    after = after;
+    whole = whole ∙ ap (λ l. l ++ after) last.whole ∙ append_assoc last.before (At last.offset (Sign.Run words) ∷ []) after;
+    so_far = last.begun;
+    refused = refused;
+  }
+
+  refused_run : (e : QueryError) (lexemes before : List Lexeme) (o : ℕ) (sign : Sign) (after : List Lexeme) (words : List ℕ) (pending : Pending) → lexemes ≡ before ++ At o sign ∷ after → Comes before (AfterRun words) pending → after_run stop words pending (At o sign) ≡ Err e → IsJudgement e → IsFirstRefused stop lexemes e
+  refused_run e lexemes before o (Sign.Near distance) after words pending whole comes h j =
+      elim (bind_err (beside stop words) _ e h) [
+        | inl fault ↦ refused_last e lexemes before words (At o (Sign.Near distance) ∷ after) whole comes.behind (faults.beside_near (inr tt) fault)
+        | inr more ↦ let no = more.2 in absurd (cc)
+      ]
+  refused_run e lexemes before o sign after words pending whole comes h j =
+      elim (bind_err (plain stop words) _ e h) [
+        | inl fault ↦ refused_last e lexemes before words (At o sign ∷ after) whole comes.behind (faults.run comes.behind.apart (λ no. no) fault)
+        | inr more ↦ absurd (operator_judges e o sign (filled pending more.0) more.2 j)
+      ]
+
+  refused_near : (e : QueryError) (lexemes before : List Lexeme) (o : ℕ) (sign : Sign) (after : List Lexeme) (first : List ℕ) (distance : ℕ) (pending : Pending) → lexemes ≡ before ++ At o sign ∷ after → Comes before (AfterNear first distance) pending → after_near stop first distance pending (At o sign) ≡ Err e → IsJudgement e → IsFirstRefused stop lexemes e
+  refused_near e lexemes before o (Sign.Run words) after first distance pending whole comes h j =
+      elim (bind_err (beside stop words) _ e h) [
+        | inl fault ↦ record { before = before; offset = o; sign = Sign.Run words; after = after; whole = whole; so_far = begins before (AfterNear first distance) pending comes tt; refused = faults.beside_near (inl comes.behind) fault }
+        | inr more ↦ let no = more.2 in absurd (cc)
+      ]
+  refused_near e lexemes before o _ after first distance pending whole comes h j = absurd (other_fault (Unexpected o) e h (λ no. no) j)
+
+  refused_at : (e : QueryError) (lexemes before : List Lexeme) (o : ℕ) (sign : Sign) (after : List Lexeme) (place : Place) (pending : Pending) → lexemes ≡ before ++ At o sign ∷ after → Comes before place pending → step stop (record { place = place; pending = pending }) (At o sign) ≡ Err e → IsJudgement e → IsFirstRefused stop lexemes e
+  refused_at e lexemes before o sign after Operand pending whole comes h j = refused_operand e lexemes before o sign after pending whole comes h j
+  refused_at e lexemes before o sign after Operator pending whole comes h j = absurd (operator_judges e o sign pending h j)
+  refused_at e lexemes before o sign after (AfterRun words) pending whole comes h j = refused_run e lexemes before o sign after words pending whole comes h j
+  refused_at e lexemes before o sign after (AfterNear first distance) pending whole comes h j = refused_near e lexemes before o sign after first distance pending whole comes h j
+
+  refused_at_end : (e : QueryError) (lexemes : List Lexeme) (place : Place) (pending : Pending) → Comes lexemes place pending → finish stop (record { place = place; pending = pending }) ≡ Err e → IsJudgement e → IsFirstRefused stop lexemes e
+  refused_at_end e lexemes Operand pending comes h j = absurd (other_fault End e h (λ no. no) j)
+  refused_at_end e lexemes Operator pending comes h j = absurd (ended_judges e pending.frames (joined pending) h j)
+  refused_at_end e lexemes (AfterRun words) pending comes h j =
+      elim (bind_err (plain stop words) _ e h) [
+        | inl fault ↦ refused_last e lexemes lexemes words [] (sym (append-nil lexemes)) comes.behind (faults.run comes.behind.apart (λ no. no) fault)
+        | inr more ↦ absurd (ended_judges e _ _ more.2 j)
+      ]
+  refused_at_end e lexemes (AfterNear first distance) pending comes h j = absurd (other_fault End e h (λ no. no) j)
+
+  refused_stop : (e : QueryError) (lexemes : List Lexeme) → Stops e lexemes → IsJudgement e → IsFirstRefused stop lexemes e
+  refused_stop e lexemes (at_end place pending comes fault) j = refused_at_end e lexemes place pending comes fault j
+  refused_stop e lexemes (at_lexeme before o sign after place pending whole comes fault) j = refused_at e lexemes before o sign after place pending whole comes fault j
+
+  pub refused_first : (lexemes : List Lexeme) (e : QueryError) → IsJudgement e → tree_of stop lexemes ≡ Err e → IsFirstRefused stop lexemes e
+  refused_first lexemes e j h = refused_stop e lexemes (start_stops lexemes e h (λ p. subst IsJudgement p j)) j

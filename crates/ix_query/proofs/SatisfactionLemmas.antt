@@ -3,47 +3,28 @@ use Rattle.std.proofs.Common.{◌≡◌, ℕ, zero, suc, ◌+◌, ◌<◌, ◌�
 use Rattle.std.proofs.lemmas.Bool.{cases_lt}
 use Rattle.std.proofs.lemmas.List.{get_or_read}
 use Rattle.std.specs.Prelude.{All, Any, ◌↔◌}
-use Rattle.std.specs.List.{AllByRecursion}
 use Rattle.ix_text.specs.TokenLists.{Entry}
-use Rattle.ix_query.specs.declared.query.Query.{Query}
-use Rattle.ix_query.specs.declared.query.Query.TheOpen.{Query-F}
-use Rattle.ix_query.specs.declared.query.Query.TheFolds.{rec-roll-Query, map-Query}
-use Rattle.ix_query.specs.declared.query.Query.TheVariants.{Phrase, Near, Pattern, And, Or, Not, rolls-Phrase, rolls-Near, rolls-Pattern, rolls-And, rolls-Or, rolls-Not}
+use Rattle.ix_query.specs.declared.tree.Tree.{Tree}
+use Rattle.ix_query.specs.declared.tree.Tree.TheOpen.{Tree-F}
+use Rattle.ix_query.specs.declared.tree.Tree.TheFolds.{rec-roll-Tree, map-Tree}
+use Rattle.ix_query.specs.declared.tree.Tree.TheVariants.{Phrase, Near, Pattern, And, Or, Not, rolls-Phrase, rolls-Near, rolls-Pattern, rolls-And, rolls-Or, rolls-Not}
+use Rattle.ix_query.proofs.TreeLemmas.{along, every_seen, every_part, both_through}
 use Rattle.ix_query.specs.Satisfaction.{Satisfies, IsAsked, HoldsOfOne, HasPhrase, AreNear, HasMatch}
 
--- two facts that are one hold together
-along : (A B : Type 0) → A ≡ B → A ↔ B
-along A B e = (λ a. coe 0 1 (i. e i) a, λ b. coe 1 0 (i. e i) b)
-
--- what holds of each part, and of one, is the same where the parts are seen by a function
-every_seen : {X Y : Type 0} (v : X → Y) (k : Y → Type 0) (xs : List X) → AllByRecursion (λ x. k (v x)) xs ≡ AllByRecursion k (map v xs)
-every_seen v k [] = refl
-every_seen v k (x ∷ xs) = ap (λ (rest : Type 0). k (v x) × rest) (every_seen v k xs)
-
+-- what holds of one part is the same where the parts are seen by a function
 one_seen : {X Y : Type 0} (v : X → Y) (k : Y → Type 0) (xs : List X) → HoldsOfOne (λ x. k (v x)) xs ≡ HoldsOfOne k (map v xs)
 one_seen v k [] = refl
 one_seen v k (x ∷ xs) = ap (λ (rest : Type 0). k (v x) ⊎ rest) (one_seen v k xs)
 
-natural : (tokens : List Entry) (X : Type 0) (v : X → Query) (k : Query → Type 0) (x : Query-F X) → IsAsked tokens X v (λ p. k (v p)) x ≡ IsAsked tokens Query (λ y. y) k (map-Query X Query v x)
-natural tokens X v k (Query-F.Phrase parts) = refl
-natural tokens X v k (Query-F.Near first second limit) = refl
-natural tokens X v k (Query-F.Pattern pieces) = refl
-natural tokens X v k (Query-F.And parts) = every_seen v k parts
-natural tokens X v k (Query-F.Or parts) = one_seen v k parts
-natural tokens X v k (Query-F.Not part) = refl
+natural : (tokens : List Entry) (X : Type 0) (v : X → Tree) (k : Tree → Type 0) (x : Tree-F X) → IsAsked tokens X v (λ p. k (v p)) x ≡ IsAsked tokens Tree (λ y. y) k (map-Tree X Tree v x)
+natural tokens X v k (Tree-F.Phrase parts) = refl
+natural tokens X v k (Tree-F.Near first second limit) = refl
+natural tokens X v k (Tree-F.Pattern pieces) = refl
+natural tokens X v k (Tree-F.And parts) = every_seen v k parts
+natural tokens X v k (Tree-F.Or parts) = one_seen v k parts
+natural tokens X v k (Tree-F.Not part) = refl
 
--- each part, and one part, in std's words
-every_at : {X : Type 0} (P : X → Type 0) (x : X) (xs : List X) → P x → All P xs → All P (x ∷ xs)
-every_at P x xs here there zero d below = here
-every_at P x xs here there (suc k) d below = there k d (omega arith)
-
-every_part : {X : Type 0} (P : X → Type 0) (xs : List X) → AllByRecursion P xs ↔ All P xs
-every_part P [] = (λ _ k d below. absurd (omega arith), λ _. tt)
-every_part P (x ∷ xs) = (
-  λ h. every_at P x xs h.0 ((every_part P xs).0 h.1),
-  λ all. (all 0 x (omega arith), (every_part P xs).1 (λ k d below. all (suc k) d (omega arith))),
-)
-
+-- one part, in std's words
 one_behind : {X : Type 0} (P : X → Type 0) (x : X) (xs : List X) → Any P xs → Any P (x ∷ xs)
 one_behind P x xs (k, y, below, is, p) = (suc k, y, omega arith, is, p)
 
@@ -58,32 +39,23 @@ one_part P (x ∷ xs) = (
   λ any. one_among P x xs (one_part P xs).1 any,
 )
 
-both_through : {A B C : Type 0} → B ↔ C → A ↔ B → A ↔ C
-both_through g f = (λ a. g.0 (f.0 a), λ c. f.1 (g.1 c))
-
 pub satisfies-Phrase : (tokens : List Entry) (parts : List (Option (List ℕ))) → Satisfies tokens (Phrase parts) ↔ HasPhrase tokens parts
-satisfies-Phrase tokens parts = along _ _ (ap (Satisfies tokens) (sym (rolls-Phrase parts)) ∙ rec-roll-Query (Type 0) (IsAsked tokens) (natural tokens) (Query-F.Phrase parts))
+satisfies-Phrase tokens parts = along _ _ (ap (Satisfies tokens) (sym (rolls-Phrase parts)) ∙ rec-roll-Tree (Type 0) (IsAsked tokens) (natural tokens) (Tree-F.Phrase parts))
 
 pub satisfies-Near : (tokens : List Entry) (first second : List ℕ) (limit : ℕ) → Satisfies tokens (Near first second limit) ↔ AreNear tokens first second limit
-satisfies-Near tokens first second limit = along _ _ (ap (Satisfies tokens) (sym (rolls-Near first second limit)) ∙ rec-roll-Query (Type 0) (IsAsked tokens) (natural tokens) (Query-F.Near first second limit))
+satisfies-Near tokens first second limit = along _ _ (ap (Satisfies tokens) (sym (rolls-Near first second limit)) ∙ rec-roll-Tree (Type 0) (IsAsked tokens) (natural tokens) (Tree-F.Near first second limit))
 
 pub satisfies-Pattern : (tokens : List Entry) (pieces : List (List ℕ)) → Satisfies tokens (Pattern pieces) ↔ HasMatch tokens pieces
-satisfies-Pattern tokens pieces = along _ _ (ap (Satisfies tokens) (sym (rolls-Pattern pieces)) ∙ rec-roll-Query (Type 0) (IsAsked tokens) (natural tokens) (Query-F.Pattern pieces))
+satisfies-Pattern tokens pieces = along _ _ (ap (Satisfies tokens) (sym (rolls-Pattern pieces)) ∙ rec-roll-Tree (Type 0) (IsAsked tokens) (natural tokens) (Tree-F.Pattern pieces))
 
-pub satisfies-And : (tokens : List Entry) (parts : List Query) → Satisfies tokens (And parts) ↔ All (Satisfies tokens) parts
-satisfies-And tokens parts = both_through (every_part (Satisfies tokens) parts) (along _ _ (ap (Satisfies tokens) (sym (rolls-And parts)) ∙ rec-roll-Query (Type 0) (IsAsked tokens) (natural tokens) (Query-F.And parts)))
+pub satisfies-And : (tokens : List Entry) (parts : List Tree) → Satisfies tokens (And parts) ↔ All (Satisfies tokens) parts
+satisfies-And tokens parts = both_through (every_part (Satisfies tokens) parts) (along _ _ (ap (Satisfies tokens) (sym (rolls-And parts)) ∙ rec-roll-Tree (Type 0) (IsAsked tokens) (natural tokens) (Tree-F.And parts)))
 
-pub satisfies-Or : (tokens : List Entry) (parts : List Query) → Satisfies tokens (Or parts) ↔ Any (Satisfies tokens) parts
-satisfies-Or tokens parts = both_through (one_part (Satisfies tokens) parts) (along _ _ (ap (Satisfies tokens) (sym (rolls-Or parts)) ∙ rec-roll-Query (Type 0) (IsAsked tokens) (natural tokens) (Query-F.Or parts)))
+pub satisfies-Or : (tokens : List Entry) (parts : List Tree) → Satisfies tokens (Or parts) ↔ Any (Satisfies tokens) parts
+satisfies-Or tokens parts = both_through (one_part (Satisfies tokens) parts) (along _ _ (ap (Satisfies tokens) (sym (rolls-Or parts)) ∙ rec-roll-Tree (Type 0) (IsAsked tokens) (natural tokens) (Tree-F.Or parts)))
 
-pub satisfies-Not : (tokens : List Entry) (part : Query) → Satisfies tokens (Not part) ↔ ¬ (Satisfies tokens part)
-satisfies-Not tokens part = along _ _ (ap (Satisfies tokens) (sym (rolls-Not part)) ∙ rec-roll-Query (Type 0) (IsAsked tokens) (natural tokens) (Query-F.Not part))
-
--- an answer to what a form of query asks is one to the query
-pub judged : (tokens : List Entry) (query form : Query) (answer : Bool) {F : Type 0} → query ≡ form → Satisfies tokens form ↔ F → (answer ≡ true) ↔ F → (answer ≡ true) ↔ Satisfies tokens query
-judged tokens query form answer is asks told =
-    let P : Query → Type 0 = Satisfies tokens in
-    (λ t. subst P (sym is) (asks.1 (told.0 t)), λ h. told.1 (asks.0 (subst P is h)))
+pub satisfies-Not : (tokens : List Entry) (part : Tree) → Satisfies tokens (Not part) ↔ ¬ (Satisfies tokens part)
+satisfies-Not tokens part = along _ _ (ap (Satisfies tokens) (sym (rolls-Not part)) ∙ rec-roll-Tree (Type 0) (IsAsked tokens) (natural tokens) (Tree-F.Not part))
 
 -- the other answer is one to the other question
 pub negated : (answer : Bool) {P : Type 0} → (answer ≡ true) ↔ P → (not answer ≡ true) ↔ ¬ P

@@ -9,7 +9,7 @@ use Rattle.std.specs.Prelude.{◌↔◌, Contains, AllPairs, slice_get, option_m
 use Rattle.std.specs.List.Sorted.{IsStrictlyIncreasing}
 use Rattle.ix_text.specs.Collections.{Collection, Document, NamedText, collection_of}
 use Rattle.ix_text.specs.TokenLists.{token_list}
-use Rattle.ix_query.specs.declared.query.Query.{Query}
+use Rattle.ix_query.specs.declared.tree.Tree.{Tree}
 use Rattle.ix_query.specs.Satisfaction.{Satisfies}
 use Rattle.ix_query.specs.Scans.{IsScan, SatisfiesAt}
 
@@ -56,7 +56,7 @@ one_list (x ∷ xs) (y ∷ ys) p q there back =
     ap₂ (λ (n : ℕ) (ns : List ℕ). n ∷ ns) same
     (one_list xs ys (tail_pairs x xs p) (tail_pairs y ys q) (λ n h. past_head x y n xs ys p same there h) (λ n h. past_head y x n ys xs q (sym same) back h))
 
-pub one_scan : (collection : Collection) (query : Query) (numbers others : List ℕ) → IsScan collection query numbers → IsScan collection query others → numbers ≡ others
+pub one_scan : (collection : Collection) (query : Tree) (numbers others : List ℕ) → IsScan collection query numbers → IsScan collection query others → numbers ≡ others
 one_scan collection query numbers others a b =
     one_list numbers others (AllPairs-from_increasing numbers a.ascending) (AllPairs-from_increasing others b.ascending)
     (λ n h. (b.exact n).1 ((a.exact n).0 h)) (λ n h. (a.exact n).1 ((b.exact n).0 h))
@@ -64,13 +64,13 @@ one_scan collection query numbers others a b =
 -- ---- one more document
 
 -- the numbers so far, of the documents before i
-pub record IsScanBefore (collection : Collection) (query : Query) (i : ℕ) (numbers : List ℕ) : Type 0 where
+pub record IsScanBefore (collection : Collection) (query : Tree) (i : ℕ) (numbers : List ℕ) : Type 0 where
   pub ascending : IsStrictlyIncreasing numbers
   pub low : (number : ℕ) → Contains numbers number → number < i
   pub sound : (number : ℕ) → Contains numbers number → SatisfiesAt collection query number
   pub complete : (number : ℕ) → number < i → SatisfiesAt collection query number → Contains numbers number
 
-pub scan_begins : (collection : Collection) (query : Query) → IsScanBefore collection query 0 []
+pub scan_begins : (collection : Collection) (query : Tree) → IsScanBefore collection query 0 []
 scan_begins collection query = record {
   ascending = λ k below. absurd (omega arith);
   low = λ n h. absurd (none_in_nil n h);
@@ -91,7 +91,7 @@ increasing_push xs y up low k below =
           let less : get_or xs k 0 < y = low (get_or xs k 0) (k, omega arith, get_or_default xs k (get_or xs k 0) 0 (omega arith)) in omega (arith, first, second)
     ]
 
-pub scan_yes : (collection : Collection) (query : Query) (i : ℕ) (numbers : List ℕ) → SatisfiesAt collection query i → IsScanBefore collection query i numbers → IsScanBefore collection query (i + 1) (numbers ++ i ∷ [])
+pub scan_yes : (collection : Collection) (query : Tree) (i : ℕ) (numbers : List ℕ) → SatisfiesAt collection query i → IsScanBefore collection query i numbers → IsScanBefore collection query (i + 1) (numbers ++ i ∷ [])
 scan_yes collection query i numbers here before = record {
   ascending = increasing_push numbers i before.ascending before.low;
   low = λ n h. elim (Contains-push_cases numbers i n h) [ inl was ↦ let less = before.low n was in omega arith | inr e ↦ omega arith ];
@@ -102,7 +102,7 @@ scan_yes collection query i numbers here before = record {
   ];
 }
 
-pub scan_no : (collection : Collection) (query : Query) (i : ℕ) (numbers : List ℕ) → ¬ (SatisfiesAt collection query i) → IsScanBefore collection query i numbers → IsScanBefore collection query (i + 1) numbers
+pub scan_no : (collection : Collection) (query : Tree) (i : ℕ) (numbers : List ℕ) → ¬ (SatisfiesAt collection query i) → IsScanBefore collection query i numbers → IsScanBefore collection query (i + 1) numbers
 scan_no collection query i numbers lacks before = record {
   ascending = before.ascending;
   low = λ n h. let less = before.low n h in omega arith;
@@ -113,7 +113,7 @@ scan_no collection query i numbers lacks before = record {
   ];
 }
 
-scan_ends : (collection : Collection) (query : Query) (i : ℕ) (numbers : List ℕ) → length collection.documents ≤ i → IsScanBefore collection query i numbers → IsScan collection query numbers
+scan_ends : (collection : Collection) (query : Tree) (i : ℕ) (numbers : List ℕ) → length collection.documents ≤ i → IsScanBefore collection query i numbers → IsScan collection query numbers
 scan_ends collection query i numbers all before = record {
   ascending = before.ascending;
   exact = λ n. (before.sound n, λ h. before.complete n (let within = slice_get_within collection.documents n h.document h.numbered in omega arith) h);
@@ -123,7 +123,7 @@ scan_ends collection query i numbers all before = record {
 abbrev pub document_of : List (List ℕ) → NamedText → Document
 document_of stop d = record { name = d.name; tokens = token_list stop d.text }
 
-pub at_document : {X : Type 0} (stop : List (List ℕ)) (f : X → NamedText) (xs : List X) (i : ℕ) (x : X) (query : Query) → i < length xs → x ≡ get_or xs i x → SatisfiesAt (collection_of stop (map f xs)) query i ↔ Satisfies (token_list stop (f x).text) query
+pub at_document : {X : Type 0} (stop : List (List ℕ)) (f : X → NamedText) (xs : List X) (i : ℕ) (x : X) (query : Tree) → i < length xs → x ≡ get_or xs i x → SatisfiesAt (collection_of stop (map f xs)) query i ↔ Satisfies (token_list stop (f x).text) query
 unfolding collection_of
 at_document stop f xs i x query within is =
     let here : slice_get (map (document_of stop) (map f xs)) i ≡ Some (document_of stop (f x)) = slice_get-map (document_of stop) (map f xs) i ∙ ap (option_map (document_of stop)) (slice_get-map f xs i ∙ ap (option_map f) (slice_get_read xs (length xs) i x refl within is)) in (
@@ -132,7 +132,7 @@ at_document stop f xs i x query within is =
       λ h. record { document = document_of stop (f x); numbered = here; satisfied = h },
     )
 
-pub scan_of_all : {X : Type 0} (stop : List (List ℕ)) (f : X → NamedText) (xs : List X) (query : Query) (i : ℕ) (numbers : List ℕ) → length xs ≤ i → IsScanBefore (collection_of stop (map f xs)) query i numbers → IsScan (collection_of stop (map f xs)) query numbers
+pub scan_of_all : {X : Type 0} (stop : List (List ℕ)) (f : X → NamedText) (xs : List X) (query : Tree) (i : ℕ) (numbers : List ℕ) → length xs ≤ i → IsScanBefore (collection_of stop (map f xs)) query i numbers → IsScan (collection_of stop (map f xs)) query numbers
 unfolding collection_of
 scan_of_all stop f xs query i numbers all before =
     let size : length (map (document_of stop) (map f xs)) ≡ length xs = length-map (map f xs) (document_of stop) ∙ length-map xs f in

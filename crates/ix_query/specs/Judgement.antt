@@ -8,8 +8,8 @@ use Rattle.ix_text.specs.TokenLists.{Entry, entry_of_term}
 use Rattle.ix_query.specs.declared.error.QueryError.{QueryError}
 use Rattle.ix_query.specs.declared.error.QueryError.TheVariants.{NoWord, OnlyStopWords, BareStar, StarInPhrase, NearWord, LongTerm}
 use Rattle.ix_query.specs.QueryErrors.{◌>>=◌}
-use Rattle.ix_query.specs.declared.query.Query.{Query}
-use Rattle.ix_query.specs.declared.query.Query.TheVariants.{Phrase, Pattern}
+use Rattle.ix_query.specs.declared.tree.Tree.{Tree}
+use Rattle.ix_query.specs.declared.tree.Tree.TheVariants.{Phrase, Pattern}
 
 abbrev pub is_star : ℕ → Bool
 is_star byte = byte == 42
@@ -37,11 +37,11 @@ unfoldable pub entries_reading : List (List ℕ) → List (List ℕ) → Result 
 entries_reading stop words = if list_any is_long_word words then Err LongTerm else Ok (map (λ word. entry_of_term stop (term_of_word word)) words)
 
 -- terms and holes as a phrase, where a term is left
-abbrev pub phrase_of : List Entry → Result Query QueryError
+abbrev pub phrase_of : List Entry → Result Tree QueryError
 phrase_of entries = if length entries == 0 then Err OnlyStopWords else Ok (Phrase entries)
 
 -- the phrase of the words of a text: their terms and holes, without the holes at both ends
-unfoldable pub phrase_reading : List (List ℕ) → List ℕ → Result Query QueryError
+unfoldable pub phrase_reading : List (List ℕ) → List ℕ → Result Tree QueryError
 phrase_reading stop text =
     if length (words text) == 0 then Err NoWord
     else entries_reading stop (words text) >>= λ entries. phrase_of (strip_holes entries)
@@ -52,15 +52,15 @@ only_term stop (word ∷ []) = entry_reading stop word >>= λ entry. ok_or entry
 only_term stop words = Err NearWord
 
 -- the pattern of a text with a star
-abbrev pub pattern_reading : List ℕ → Result Query QueryError
+abbrev pub pattern_reading : List ℕ → Result Tree QueryError
 pattern_reading text = if list_all is_star text then Err BareStar else Ok (Pattern (pieces_of text))
 
 -- a run that stands beside no NEAR
-unfoldable pub plain : (stop : List (List ℕ)) → (run : List ℕ) → Result Query QueryError
+unfoldable pub plain : (stop : List (List ℕ)) → (run : List ℕ) → Result Tree QueryError
 plain stop run = if list_any is_star run then pattern_reading run else phrase_reading stop run
 
 -- a quoted text
-unfoldable pub quoted : (stop : List (List ℕ)) → (text : List ℕ) → Result Query QueryError
+unfoldable pub quoted : (stop : List (List ℕ)) → (text : List ℕ) → Result Tree QueryError
 quoted stop text = if list_any is_star text then Err StarInPhrase else phrase_reading stop text
 
 -- a run beside NEAR

@@ -3,9 +3,9 @@ use Rattle.std.specs.Prelude.{◌≡◌, ℕ, ◌+◌, ◌-◌, ◌≤◌, ◌�
 use Rattle.std.specs.List.{AllByRecursion}
 use Rattle.ix_text.specs.TokenLists.{Entry}
 use Rattle.ix_gram.specs.Patterns.{Matches}
-use Rattle.ix_query.specs.declared.query.Query.{Query}
-use Rattle.ix_query.specs.declared.query.Query.TheOpen.{Query-F}
-use Rattle.ix_query.specs.declared.query.Query.TheFolds.{rec-Query}
+use Rattle.ix_query.specs.declared.tree.Tree.{Tree}
+use Rattle.ix_query.specs.declared.tree.Tree.TheOpen.{Tree-F}
+use Rattle.ix_query.specs.declared.tree.Tree.TheFolds.{rec-Tree}
 
 -- the entry at the position is the term
 abbrev pub StandsAt : List Entry → ℕ → List ℕ → Type 0
@@ -38,14 +38,14 @@ HoldsOfOne P [] = ⊥
 HoldsOfOne P (x ∷ xs) = P x ⊎ HoldsOfOne P xs
 
 -- what a query asks, where it is known what each of its parts asks
-abbrev pub IsAsked : List Entry → (X : Type 0) → (X → Query) → (X → Type 0) → Query-F X → Type 0
-IsAsked tokens X whole asked (Query-F.Phrase parts) = HasPhrase tokens parts
-IsAsked tokens X whole asked (Query-F.Near first second limit) = AreNear tokens first second limit
-IsAsked tokens X whole asked (Query-F.Pattern pieces) = HasMatch tokens pieces
-IsAsked tokens X whole asked (Query-F.And parts) = AllByRecursion asked parts
-IsAsked tokens X whole asked (Query-F.Or parts) = HoldsOfOne asked parts
-IsAsked tokens X whole asked (Query-F.Not part) = ¬ (asked part)
+abbrev pub IsAsked : List Entry → (X : Type 0) → (X → Tree) → (X → Type 0) → Tree-F X → Type 0
+IsAsked tokens X whole asked (Tree-F.Phrase parts) = HasPhrase tokens parts
+IsAsked tokens X whole asked (Tree-F.Near first second limit) = AreNear tokens first second limit
+IsAsked tokens X whole asked (Tree-F.Pattern pieces) = HasMatch tokens pieces
+IsAsked tokens X whole asked (Tree-F.And parts) = AllByRecursion asked parts
+IsAsked tokens X whole asked (Tree-F.Or parts) = HoldsOfOne asked parts
+IsAsked tokens X whole asked (Tree-F.Not part) = ¬ (asked part)
 
 -- the token list is one that the query asks for
-abbrev pub Satisfies : List Entry → Query → Type 0
-Satisfies tokens = rec-Query (Type 0) (IsAsked tokens)
+abbrev pub Satisfies : List Entry → Tree → Type 0
+Satisfies tokens = rec-Tree (Type 0) (IsAsked tokens)

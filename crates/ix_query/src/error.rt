@@ -5,49 +5,36 @@ ghost use Rattle.ix_query.specs.declared.error.QueryError.TheVariants.{Memory};
 ghost use Rattle.ix_query.specs.QueryErrors.{number_of};
 
 use std::alloc::{AllocError, AllocFailed};
-use thiserror::Error;
+use std::{error, fmt};
 
 /// Why a text is not read as a query. Offsets are bytes of the text, from 0.
-#[derive(Clone, Copy, Debug, PartialEq, Eq, Error)]
+#[derive(Clone, Copy, Debug, PartialEq, Eq)]
 pub enum QueryError {
     /// The text has no lexeme.
-    #[error("Empty")]
     Empty,
     /// The lexeme at this offset cannot stand there.
-    #[error("Unexpected({0})")]
     Unexpected(usize),
     /// The text ends where a lexeme must follow.
-    #[error("End")]
     End,
     /// A quotation mark has no other after it.
-    #[error("OpenQuote")]
     OpenQuote,
     /// A run begins with `NEAR/`, and the rest is no number from 1 to 65535 without leading zeros.
-    #[error("BadNear")]
     BadNear,
     /// A run or a quoted text has no word.
-    #[error("NoWord")]
     NoWord,
     /// All words of a run or a quoted text are stop words.
-    #[error("OnlyStopWords")]
     OnlyStopWords,
     /// A pattern is nothing but stars.
-    #[error("BareStar")]
     BareStar,
     /// A star stands in a quoted text.
-    #[error("StarInPhrase")]
     StarInPhrase,
     /// A run beside NEAR has a star, is not exactly one word, or is a stop word.
-    #[error("NearWord")]
     NearWord,
     /// A term has more than 255 bytes.
-    #[error("LongTerm")]
     LongTerm,
     /// More than 64 brackets and NOTs would be open at once.
-    #[error("Deep")]
     Deep,
     /// Memory ran out.
-    #[error("Memory")]
     Memory,
 }
 
@@ -73,6 +60,33 @@ impl QueryError {
         }
     }
 }
+
+impl fmt::Display for QueryError {
+    ghost use Rattle.std.specs.Prelude.{Some};
+    ghost use Rattle.ix_query.specs.ErrorNames.{name_of};
+
+    ghost output = { λ error. Some (name_of error) };
+
+    fn fmt<W: fmt::Write>(&self, f: &mut fmt::Formatter<W>) -> fmt::Result {
+        match self {
+            QueryError::Empty => f.write_str("Empty"),
+            QueryError::Unexpected(offset) => write!(f, "Unexpected({offset})"),
+            QueryError::End => f.write_str("End"),
+            QueryError::OpenQuote => f.write_str("OpenQuote"),
+            QueryError::BadNear => f.write_str("BadNear"),
+            QueryError::NoWord => f.write_str("NoWord"),
+            QueryError::OnlyStopWords => f.write_str("OnlyStopWords"),
+            QueryError::BareStar => f.write_str("BareStar"),
+            QueryError::StarInPhrase => f.write_str("StarInPhrase"),
+            QueryError::NearWord => f.write_str("NearWord"),
+            QueryError::LongTerm => f.write_str("LongTerm"),
+            QueryError::Deep => f.write_str("Deep"),
+            QueryError::Memory => f.write_str("Memory"),
+        }
+    }
+}
+
+impl error::Error for QueryError {}
 
 impl From<AllocError> for QueryError {
     ghost from_gives = { λ _ e. e ≡ Memory };

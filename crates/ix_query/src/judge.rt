@@ -4,12 +4,14 @@ ghost use Rattle.std.specs.Prelude.{◌≡◌, true, map, reverse, IfOk, if◌th
 ghost use Rattle.std.specs.List.{list_any};
 ghost use Rattle.unicode_segmentation.specs.Word.{words};
 ghost use Rattle.ix_text.specs.TokenLists.{entry_of_term};
-ghost use Rattle.ix_query.specs.Judgement.{is_star, entry_reading, entries_reading, phrase_reading, drop_holes, strip_holes, pattern_reading, plain as plain_run, quoted as quoted_text, beside as beside_near};
+ghost use Rattle.ix_query.specs.Judgement.{is_star, entry_reading, entries_reading, phrase_reading};
+ghost use Rattle.ix_query.specs.Judgement.{drop_holes, strip_holes, pattern_reading};
+ghost use Rattle.ix_query.specs.Judgement.{plain as plain_run, quoted as quoted_text};
+ghost use Rattle.ix_query.specs.Judgement.{beside as beside_near};
 ghost use Rattle.ix_query.specs.QueryErrors.{Gives};
 
 use crate::error::QueryError;
-use crate::query::{Query, Term};
-use crate::tree::Items;
+use crate::tree::{Items, Term, Tree};
 use ix_gram::{Pattern, PatternError};
 use ix_text::{StopList, term_of};
 use std::alloc::{AllocError, Global};
@@ -58,7 +60,8 @@ fn entry(alloc: Global, stop: &StopList, word: &str) -> Result<Option<Term>, Que
 }
 
 fn entries(alloc: Global, stop: &StopList, words: &[&str]) -> Result<Vec<Option<Term>>, QueryError>
-    ensures { Gives (λ list. list.items) result (entries_reading stop.now (map (λ word. word.now) words.now)) }
+    ensures { Gives (λ list. list.items) result
+        (entries_reading stop.now (map (λ word. word.now) words.now)) }
 {
     let mut entries = Vec::new(alloc);
     for word in words {
@@ -88,7 +91,7 @@ fn strip(mut entries: Vec<Option<Term>>) -> Vec<Option<Term>>
 
 // The phrase of the words of a text.
 #[tactic(auto, unfolding(crate::specs::Judgement::phrase_reading))]
-fn phrase(alloc: Global, stop: &StopList, text: &str) -> Result<Query, QueryError>
+fn phrase(alloc: Global, stop: &StopList, text: &str) -> Result<Tree, QueryError>
     ensures { Gives (λ query. query) result (phrase_reading stop.now text.now) }
 {
     let words = words_of(alloc, text)?;
@@ -99,30 +102,30 @@ fn phrase(alloc: Global, stop: &StopList, text: &str) -> Result<Query, QueryErro
     if entries.is_empty() {
         return Err(QueryError::OnlyStopWords);
     }
-    Ok(Query::Phrase(Items::from_vec(entries)))
+    Ok(Tree::Phrase(Items::from_vec(entries)))
 }
 
 // The pattern of a run with a star.
-fn pattern(alloc: Global, run: &str) -> Result<Query, QueryError>
+fn pattern(alloc: Global, run: &str) -> Result<Tree, QueryError>
     requires { list_any is_star run.now ≡ true }
     ensures { Gives (λ query. query) result (pattern_reading run.now) }
 {
     match Pattern::read(alloc, run) {
-        Ok(pattern) => Ok(Query::Pattern(pattern)),
+        Ok(pattern) => Ok(Tree::Pattern(pattern)),
         Err(PatternError::BareStar) => Err(QueryError::BareStar),
         Err(PatternError::Memory) => Err(QueryError::Memory),
         Err(PatternError::NoStar) => unreachable!("the run has a star"),
     }
 }
 
-/// What a run that stands beside no NEAR stands for: with a star the pattern of its pieces, else the phrase of
-/// its words.
+/// What a run that stands beside no NEAR stands for: with a star the pattern of its pieces, else
+/// the phrase of its words.
 ///
 /// # Errors
-/// `BareStar` for nothing but stars; without a star `NoWord`, `LongTerm` and `OnlyStopWords`, tested in this
-/// order; or `Memory`.
+/// `BareStar` for nothing but stars; without a star `NoWord`, `LongTerm` and `OnlyStopWords`,
+/// tested in this order; or `Memory`.
 #[tactic(auto, unfolding(crate::specs::Judgement::plain))]
-pub fn plain(alloc: Global, stop: &StopList, run: &str) -> Result<Query, QueryError>
+pub fn plain(alloc: Global, stop: &StopList, run: &str) -> Result<Tree, QueryError>
     ensures { Gives (λ query. query) result (plain_run stop.now run.now) }
 {
     if has_star(run) {
@@ -137,7 +140,7 @@ pub fn plain(alloc: Global, stop: &StopList, run: &str) -> Result<Query, QueryEr
 /// # Errors
 /// `StarInPhrase`, `NoWord`, `LongTerm` and `OnlyStopWords`, tested in this order; or `Memory`.
 #[tactic(auto, unfolding(crate::specs::Judgement::quoted))]
-pub fn quoted(alloc: Global, stop: &StopList, text: &str) -> Result<Query, QueryError>
+pub fn quoted(alloc: Global, stop: &StopList, text: &str) -> Result<Tree, QueryError>
     ensures { Gives (λ query. query) result (quoted_text stop.now text.now) }
 {
     if has_star(text) {
@@ -149,8 +152,8 @@ pub fn quoted(alloc: Global, stop: &StopList, text: &str) -> Result<Query, Query
 /// What a run beside NEAR stands for: the term of its one word.
 ///
 /// # Errors
-/// `NearWord` for a star or another number of words than one, then `LongTerm`, then `NearWord` for a stop
-/// word; or `Memory`.
+/// `NearWord` for a star or another number of words than one, then `LongTerm`, then `NearWord` for
+/// a stop word; or `Memory`.
 #[tactic(auto, unfolding(crate::specs::Judgement::beside))]
 pub fn beside(alloc: Global, stop: &StopList, run: &str) -> Result<Term, QueryError>
     ensures { Gives (λ term. term) result (beside_near stop.now run.now) }
@@ -169,16 +172,16 @@ pub fn beside(alloc: Global, stop: &StopList, run: &str) -> Result<Term, QueryEr
 mod tests {
     use super::{beside, plain, quoted};
     use crate::error::QueryError;
-    use crate::query::Query;
+    use crate::tree::Tree;
     use ix_text::StopList;
     use std::alloc::Global;
     use std::test::Fail;
 
     // The terms of a phrase, with `_` for a hole, or the query or the error as it is printed.
-    fn shown(alloc: Global, read: Result<Query, QueryError>) -> Result<String, Fail> {
+    fn shown(alloc: Global, read: Result<Tree, QueryError>) -> Result<String, Fail> {
         let mut shown = String::new(alloc);
         match read {
-            Ok(Query::Phrase(entries)) => {
+            Ok(Tree::Phrase(entries)) => {
                 for entry in entries.as_slice() {
                     match entry {
                         Some(term) => shown.push_str(term.as_str())?,

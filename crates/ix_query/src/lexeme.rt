@@ -1,8 +1,11 @@
 //! Lexemes: what the text of a query is cut into.
 
-ghost use Rattle.std.specs.Prelude.{◌≡◌, ◌<◌, drop, length, map, position, slice_index, option_map, [], ◌++◌, IfOk, IfErr, OnOk, IsCharBoundary};
+ghost use Rattle.std.specs.Prelude.{◌≡◌, ◌<◌, drop, length, map, position, slice_index, option_map};
+ghost use Rattle.std.specs.Prelude.{[], ◌++◌, IfOk, IfErr, OnOk, IsCharBoundary};
 ghost use Rattle.std.specs.List.{before_first, position_or_len};
-ghost use Rattle.ix_query.specs.Lexemes.{sign_of, lexeme_of, front_of, ends_run, near_reading, run_reading, run_front, quoted_reading, front_reading, with_sign, lexemes_of};
+ghost use Rattle.ix_query.specs.Lexemes.{sign_of, lexeme_of, front_of, ends_run, near_reading};
+ghost use Rattle.ix_query.specs.Lexemes.{run_reading, run_front, quoted_reading, front_reading};
+ghost use Rattle.ix_query.specs.Lexemes.{with_sign, lexemes_of};
 ghost use Rattle.ix_query.specs.QueryErrors.{Gives};
 
 use crate::error::QueryError;
@@ -133,7 +136,8 @@ fn read_quoted(text: &str) -> Result<Front<'_>, QueryError>
 #[tactic(auto, unfolding(crate::specs::Lexemes::front_reading))]
 fn read_front(text: &str) -> Result<Front<'_>, QueryError>
     requires { 0 < length text.now }
-    ensures reading { Gives front_of result (front_reading (slice_index text.now 0) (drop 1 text.now)) }
+    ensures reading { Gives front_of result
+        (front_reading (slice_index text.now 0) (drop 1 text.now)) }
     ensures cut { IfOk result (λ front. IsCharBoundary text.now front.taken) }
     ensures progress { IfOk result (λ front. 0 < front.taken) }
 {
@@ -161,7 +165,9 @@ fn keep<'a>(
     offset: usize,
     sign: Option<Sign<'a>>,
 ) -> Result<(), QueryError>
-    ensures kept { OnOk result (map lexeme_of found.new.items ≡ map lexeme_of found.old.items ++ with_sign offset (option_map sign_of sign.entry) []) }
+    ensures kept { OnOk result
+        (map lexeme_of found.new.items
+        ≡ map lexeme_of found.old.items ++ with_sign offset (option_map sign_of sign.entry) []) }
     ensures memory { IfErr result (λ error. error ≡ QueryError.Memory) }
 {
     if let Some(sign) = sign {

@@ -1,4 +1,4 @@
-//! From lexemes to a tree, one turn a lexeme, with what is open on a stack of its own.
+//! From a text to its tree: one turn a lexeme, with what is open on a stack of its own.
 
 ghost use Rattle.std.specs.Prelude.{◌≡◌, [], ◌∷◌, ◌++◌, map, Ok, IfOk, IfErr};
 ghost use Rattle.ix_query.specs.QueryErrors.{Gives};
@@ -9,14 +9,11 @@ ghost use Rattle.ix_query.specs.Parsing.{frame_of, frames_of, pending_of, place_
 
 use crate::error::QueryError;
 use crate::judge::{beside, plain, quoted};
-use crate::lexeme::{Lexeme, Sign};
-use crate::query::{Query, Term};
-use crate::tree::{Boxed, Items};
+use crate::lexeme::{Lexeme, Sign, lexemes};
+use crate::proper::MAX_OPEN;
+use crate::tree::{Boxed, Items, Term, Tree};
 use ix_text::StopList;
 use std::alloc::Global;
-
-/// How many brackets and NOTs may be open at once.
-const MAX_OPEN: usize = 64;
 
 /// What is open.
 #[derive(Drop)]
@@ -24,10 +21,7 @@ enum Frame {
     /// A NOT whose operand is not yet read.
     Negating,
     /// A bracket, with the parts that were read before it.
-    Inside {
-        ors: Items<Query>,
-        ands: Items<Query>,
-    },
+    Inside { ors: Items<Tree>, ands: Items<Tree> },
 }
 
 /// Where the reading stands.
@@ -48,8 +42,8 @@ enum Place<'a> {
 #[derive(Drop)]
 struct Pending {
     frames: Items<Frame>,
-    ors: Items<Query>,
-    ands: Items<Query>,
+    ors: Items<Tree>,
+    ands: Items<Tree>,
 }
 
 #[derive(Drop)]
@@ -58,9 +52,18 @@ struct State<'a> {
     pending: Pending,
 }
 
+/// The tree of a text, or its first fault: a fault of the lexemes comes before any of the grammar.
+#[tactic(auto, unfolding(crate::specs::Machine::query_of))]
+pub fn parse_text(alloc: Global, text: &str, stop: &StopList) -> Result<Tree, QueryError>
+    ensures { Gives (λ q. q) result (machine.query_of stop.now text.now) }
+{
+    let lexemes = lexemes(alloc, text)?;
+    parse_lexemes(alloc, stop, &lexemes)
+}
+
 /// The tree of the lexemes, or their first fault.
 #[tactic(auto, unfolding(crate::specs::Machine::tree_of))]
-pub fn tree(alloc: Global, stop: &StopList, lexemes: &[Lexeme<'_>]) -> Result<Query, QueryError>
+fn parse_lexemes(alloc: Global, stop: &StopList, lexemes: &[Lexeme<'_>]) -> Result<Tree, QueryError>
     ensures { Gives (λ q. q) result (machine.tree_of stop.now (map lexeme_of lexemes.now)) }
 {
     let Some((first, rest)) = lexemes.split_first() else {
@@ -94,7 +97,8 @@ fn step<'a>(
     state: State<'a>,
     lexeme: Lexeme<'a>,
 ) -> Result<State<'a>, QueryError>
-    ensures { Gives state_of result (machine.step stop.now (state_of state.entry) (lexeme_of lexeme.entry)) }
+    ensures { Gives state_of result
+        (machine.step stop.now (state_of state.entry) (lexeme_of lexeme.entry)) }
 {
     let State { place, pending } = state;
     match place {
@@ -108,7 +112,7 @@ fn step<'a>(
 }
 
 /// The end of the lexemes.
-fn finish(alloc: Global, stop: &StopList, state: State<'_>) -> Result<Query, QueryError>
+fn finish(alloc: Global, stop: &StopList, state: State<'_>) -> Result<Tree, QueryError>
     ensures { Gives (λ q. q) result (machine.finish stop.now (state_of state.entry)) }
 {
     let State { place, pending } = state;
@@ -130,7 +134,8 @@ impl Pending {
         stop: &StopList,
         lexeme: Lexeme<'a>,
     ) -> Result<State<'a>, QueryError>
-        ensures { Gives state_of result (machine.at_operand stop.now (pending_of self) (lexeme_of lexeme.entry)) }
+        ensures { Gives state_of result
+            (machine.at_operand stop.now (pending_of self) (lexeme_of lexeme.entry)) }
     {
         match lexeme.sign {
             Sign::Open => {
@@ -157,7 +162,8 @@ impl Pending {
 
     /// A lexeme behind an operand.
     fn at_operator<'a>(self, alloc: Global, lexeme: Lexeme<'_>) -> Result<State<'a>, QueryError>
-        ensures { Gives state_of result (machine.at_operator (pending_of self) (lexeme_of lexeme.entry)) }
+        ensures { Gives state_of result
+            (machine.at_operator (pending_of self) (lexeme_of lexeme.entry)) }
     {
         match lexeme.sign {
             Sign::And => Ok(State {
@@ -187,7 +193,8 @@ impl Pending {
         words: &str,
         lexeme: Lexeme<'_>,
     ) -> Result<State<'a>, QueryError>
-        ensures { Gives state_of result (machine.after_run stop.now words.now (pending_of self) (lexeme_of lexeme.entry)) }
+        ensures { Gives state_of result
+            (machine.after_run stop.now words.now (pending_of self) (lexeme_of lexeme.entry)) }
     {
         if let Sign::Near(distance) = lexeme.sign {
             let first = beside(alloc, stop, words)?;
@@ -209,12 +216,14 @@ impl Pending {
         distance: u32,
         lexeme: Lexeme<'_>,
     ) -> Result<State<'a>, QueryError>
-        ensures { Gives state_of result (machine.after_near stop.now first distance (pending_of self) (lexeme_of lexeme.entry)) }
+        ensures { Gives state_of result
+            (machine.after_near stop.now first distance (pending_of self)
+            (lexeme_of lexeme.entry)) }
     {
         match lexeme.sign {
             Sign::Run(words) => {
                 let second = beside(alloc, stop, words)?;
-                let part = Query::Near {
+                let part = Tree::Near {
                     first,
                     second,
                     distance,
@@ -230,7 +239,7 @@ impl Pending {
     }
 
     /// An operand was read: the innermost NOTs take it.
-    fn filled(self, alloc: Global, part: Query) -> Result<Pending, QueryError>
+    fn filled(self, alloc: Global, part: Tree) -> Result<Pending, QueryError>
         ensures { Gives pending_of result (Ok (machine.filled (pending_of self) part)) }
     {
         let Pending {
@@ -257,8 +266,9 @@ impl Pending {
     }
 
     /// The end of the lexemes, behind an operand.
-    fn ended(self) -> Result<Query, QueryError>
-        ensures { Gives (λ q. q) result (machine.ended (frames_of self.frames) (machine.joined (pending_of self))) }
+    fn ended(self) -> Result<Tree, QueryError>
+        ensures { Gives (λ q. q) result
+            (machine.ended (frames_of self.frames) (machine.joined (pending_of self))) }
     {
         let Pending { frames, ors, ands } = self;
         if frames.is_empty() {
@@ -273,8 +283,8 @@ impl Pending {
 fn opened<'a>(
     mut frames: Items<Frame>,
     frame: Frame,
-    ors: Items<Query>,
-    ands: Items<Query>,
+    ors: Items<Tree>,
+    ands: Items<Tree>,
 ) -> Result<State<'a>, QueryError>
     ensures { Gives state_of result (machine.opened (frames_of frames) (frame_of frame) ors ands) }
 {
@@ -293,7 +303,7 @@ fn closed<'a>(
     alloc: Global,
     offset: usize,
     mut frames: Items<Frame>,
-    part: Query,
+    part: Tree,
 ) -> Result<State<'a>, QueryError>
     ensures { Gives state_of result (machine.closed offset (frames_of frames) part) }
 {
@@ -313,52 +323,52 @@ fn closed<'a>(
 fn under_nots(
     alloc: Global,
     mut frames: Items<Frame>,
-    mut part: Query,
-) -> Result<(Items<Frame>, Query), QueryError>
+    mut part: Tree,
+) -> Result<(Items<Frame>, Tree), QueryError>
     ensures frames { IfOk result (λ r. frames_of r.0 ≡ machine.behind_nots (frames_of frames)) }
     ensures part { IfOk result (λ r. r.1 ≡ machine.under_nots (frames_of frames) part) }
     ensures memory { IfErr result (λ e. e ≡ QueryError.Memory) }
 {
     while let Some(Frame::Negating) = frames.as_slice().last() {
         frames.pop();
-        part = Query::Not(Boxed::new(alloc, part)?);
+        part = Tree::Not(Boxed::new(alloc, part)?);
     }
     Ok((frames, part))
 }
 
 /// The tree of a bracket's parts.
-fn joined(ors: Items<Query>, ands: Items<Query>) -> Result<Query, QueryError>
-    ensures { Gives (λ q. q) result (Ok (joined_by Query.Or (ors ++ joined_by Query.And ands ∷ []))) }
+fn joined(ors: Items<Tree>, ands: Items<Tree>) -> Result<Tree, QueryError>
+    ensures { Gives (λ q. q) result (Ok (joined_by Tree.Or (ors ++ joined_by Tree.And ands ∷ []))) }
 {
     Ok(any_of(completed(ors, ands)?))
 }
 
 /// The complete parts between ORs, with the last one.
-fn completed(mut ors: Items<Query>, ands: Items<Query>) -> Result<Items<Query>, QueryError>
-    ensures { Gives (λ parts. parts) result (Ok (ors ++ joined_by Query.And ands ∷ [])) }
+fn completed(mut ors: Items<Tree>, ands: Items<Tree>) -> Result<Items<Tree>, QueryError>
+    ensures { Gives (λ parts. parts) result (Ok (ors ++ joined_by Tree.And ands ∷ [])) }
 {
     ors.push(all_of(ands))?;
     Ok(ors)
 }
 
 /// One part is itself, and several are joined by AND.
-fn all_of(mut parts: Items<Query>) -> Query
-    ensures { result ≡ joined_by Query.And parts }
+fn all_of(mut parts: Items<Tree>) -> Tree
+    ensures { result ≡ joined_by Tree.And parts }
 {
     if parts.len() == 1 {
         parts.remove(0)
     } else {
-        Query::And(parts)
+        Tree::And(parts)
     }
 }
 
 /// One part is itself, and several are joined by OR.
-fn any_of(mut parts: Items<Query>) -> Query
-    ensures { result ≡ joined_by Query.Or parts }
+fn any_of(mut parts: Items<Tree>) -> Tree
+    ensures { result ≡ joined_by Tree.Or parts }
 {
     if parts.len() == 1 {
         parts.remove(0)
     } else {
-        Query::Or(parts)
+        Tree::Or(parts)
     }
 }

@@ -1,46 +1,55 @@
 //! What a query asks of a token list.
 
-ghost use Rattle.std.specs.Prelude.{◌≡◌, ◌-◌, ◌≤◌, ℕ, List, Option, Some, map, All, Any, IsTrue, IsSomeAnd, ◌↔◌, option_map, string_bytes, if◌then◌else◌};
+ghost use Rattle.std.specs.Prelude.{◌≡◌, ◌-◌, ◌≤◌, ℕ, List, Option, Some, map, All, Any, IsTrue};
+ghost use Rattle.std.specs.Prelude.{IsSomeAnd, ◌↔◌, option_map, string_bytes, if◌then◌else◌};
 ghost use Rattle.ix_text.specs.TokenLists.{Entry};
 ghost use Rattle.ix_gram.specs.Patterns.{Matches};
-ghost use Rattle.ix_query.specs.declared.query.Query.{Query as Tree};
-ghost use Rattle.ix_query.specs.declared.query.Query.TheVariants as asks;
-ghost use Rattle.ix_query.specs.Satisfaction.{Satisfies, StandsAt, HasPhraseAt, HasPhrase, AreNear, HasMatch};
+ghost use Rattle.ix_query.specs.declared.tree.Tree.{Tree};
+ghost use Rattle.ix_query.specs.declared.tree.Tree.TheVariants as asks;
+ghost use Rattle.ix_query.specs.Satisfaction.{Satisfies, StandsAt, HasPhraseAt, HasPhrase, AreNear};
+ghost use Rattle.ix_query.specs.Satisfaction.{HasMatch};
 
-use crate::query::{Query, Term};
+use crate::tree::{Term, Tree};
 use ix_gram::Pattern;
 
 /// A law: what each kind of query asks of a token list.
 pub fn what_queries_ask()
-    ensures phrase { (tokens : List Entry) (parts : List (Option (List ℕ))) → Satisfies tokens (asks.Phrase parts) ↔ HasPhrase tokens parts }
-    ensures near { (tokens : List Entry) (first second : List ℕ) (limit : ℕ) → Satisfies tokens (asks.Near first second limit) ↔ AreNear tokens first second limit }
-    ensures pattern { (tokens : List Entry) (pieces : List (List ℕ)) → Satisfies tokens (asks.Pattern pieces) ↔ HasMatch tokens pieces }
-    ensures both { (tokens : List Entry) (parts : List Tree) → Satisfies tokens (asks.And parts) ↔ All (Satisfies tokens) parts }
-    ensures either { (tokens : List Entry) (parts : List Tree) → Satisfies tokens (asks.Or parts) ↔ Any (Satisfies tokens) parts }
-    ensures other { (tokens : List Entry) (part : Tree) → Satisfies tokens (asks.Not part) ↔ ¬ (Satisfies tokens part) }
+    ensures phrase { (tokens : List Entry) (parts : List (Option (List ℕ))) →
+        Satisfies tokens (asks.Phrase parts) ↔ HasPhrase tokens parts }
+    ensures near { (tokens : List Entry) (first second : List ℕ) (limit : ℕ) →
+        Satisfies tokens (asks.Near first second limit) ↔ AreNear tokens first second limit }
+    ensures pattern { (tokens : List Entry) (pieces : List (List ℕ)) →
+        Satisfies tokens (asks.Pattern pieces) ↔ HasMatch tokens pieces }
+    ensures both { (tokens : List Entry) (parts : List Tree) →
+        Satisfies tokens (asks.And parts) ↔ All (Satisfies tokens) parts }
+    ensures either { (tokens : List Entry) (parts : List Tree) →
+        Satisfies tokens (asks.Or parts) ↔ Any (Satisfies tokens) parts }
+    ensures other { (tokens : List Entry) (part : Tree) →
+        Satisfies tokens (asks.Not part) ↔ ¬ (Satisfies tokens part) }
 {}
 
-/// Whether a query asks for a token list, whose entries are terms or nothing (IIR 1.3, 2.4.2). Takes no memory.
+/// Whether a query asks for a token list, whose entries are terms or nothing (IIR 1.3, 2.4.2).
+/// Takes no memory.
 #[cycle(satisfies)]
-pub fn satisfies(tokens: &[Option<String>], query: &Query) -> bool
+pub fn satisfies(tokens: &[Option<String>], query: &Tree) -> bool
     ensures { IsTrue result ↔ Satisfies (map (option_map string_bytes) tokens.now) query.now }
 {
     match query {
-        Query::Phrase(parts) => has_phrase(tokens, parts.as_slice()),
-        Query::Near {
+        Tree::Phrase(parts) => has_phrase(tokens, parts.as_slice()),
+        Tree::Near {
             first,
             second,
             distance,
         } => are_near(tokens, first.as_str(), second.as_str(), *distance),
-        Query::Pattern(pattern) => has_match(tokens, pattern),
-        Query::And(parts) => satisfies_each(tokens, parts.as_slice()),
-        Query::Or(parts) => satisfies_one(tokens, parts.as_slice()),
-        Query::Not(part) => !satisfies(tokens, part.get()),
+        Tree::Pattern(pattern) => has_match(tokens, pattern),
+        Tree::And(parts) => satisfies_each(tokens, parts.as_slice()),
+        Tree::Or(parts) => satisfies_one(tokens, parts.as_slice()),
+        Tree::Not(part) => !satisfies(tokens, part.get()),
     }
 }
 
 #[cycle(satisfies)]
-fn satisfies_each(tokens: &[Option<String>], parts: &[Query]) -> bool
+fn satisfies_each(tokens: &[Option<String>], parts: &[Tree]) -> bool
     ensures { IsTrue result ↔ All (Satisfies (map (option_map string_bytes) tokens.now)) parts.now }
 {
     for part in parts {
@@ -52,7 +61,7 @@ fn satisfies_each(tokens: &[Option<String>], parts: &[Query]) -> bool
 }
 
 #[cycle(satisfies)]
-fn satisfies_one(tokens: &[Option<String>], parts: &[Query]) -> bool
+fn satisfies_one(tokens: &[Option<String>], parts: &[Tree]) -> bool
     ensures { IsTrue result ↔ Any (Satisfies (map (option_map string_bytes) tokens.now)) parts.now }
 {
     for part in parts {
@@ -91,7 +100,8 @@ fn begins_with(tokens: &[Option<String>], parts: &[Option<Term>]) -> bool
 
 /// Whether the term stands at the position.
 fn stands_at(tokens: &[Option<String>], position: usize, term: &str) -> bool
-    ensures { IsTrue result ↔ StandsAt (map (option_map string_bytes) tokens.now) position term.now }
+    ensures { IsTrue result ↔
+        StandsAt (map (option_map string_bytes) tokens.now) position term.now }
 {
     match tokens.get(position) {
         Some(entry) => is_term(entry, term),
@@ -108,9 +118,11 @@ fn is_term(entry: &Option<String>, term: &str) -> bool
     }
 }
 
-/// Whether the two terms stand at two positions that differ by no more than the limit. One pass over the tokens.
+/// Whether the two terms stand at two positions that differ by no more than the limit. One pass
+/// over the tokens.
 fn are_near(tokens: &[Option<String>], first: &str, second: &str, limit: u32) -> bool
-    ensures { IsTrue result ↔ AreNear (map (option_map string_bytes) tokens.now) first.now second.now limit }
+    ensures { IsTrue result ↔
+        AreNear (map (option_map string_bytes) tokens.now) first.now second.now limit }
 {
     let mut last_first = None;
     let mut last_second = None;
@@ -159,7 +171,8 @@ fn has_match(tokens: &[Option<String>], pattern: &Pattern) -> bool
 }
 
 fn is_match(entry: &Option<String>, pattern: &Pattern) -> bool
-    ensures { IsTrue result ↔ IsSomeAnd (option_map string_bytes entry.now) (λ term. Matches term pattern.now) }
+    ensures { IsTrue result ↔
+        IsSomeAnd (option_map string_bytes entry.now) (λ term. Matches term pattern.now) }
 {
     match entry {
         Some(token) => pattern.matches(token.as_str()),

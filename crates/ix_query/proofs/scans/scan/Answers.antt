@@ -6,7 +6,7 @@ use Rattle.ix_query.proofs.scans.scan.Goals.{then-satisfies+in_ok-push, else-sat
 
 pub loop-number-preserved : goal.loop-number-preserved
 loop-number-preserved c =
-    let told = rw (c.deref.ensures.value, c.in_ok-count.ensures.front) at c.satisfies.ensures in
+    let told = rw (c.deref.ensures.value, c.in_ok-count.ensures.front, c.tree.ensures.same) at c.satisfies.ensures in
     let here = at_document c.args.stop.now named_text c.args.documents.now c.loop-number.number c.index-documents-number.result c.args.query.now c.loop-number-test.true c.index-documents-number.is in
     elim c.if-satisfies.branch [
       | then-satisfies+in_ok-push w ↦

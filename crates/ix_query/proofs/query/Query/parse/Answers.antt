@@ -1,32 +1,28 @@
--- The lexemes give what the text gives, and a fault of the lexemes is the text's.
+-- What is read of the text is what the query asks.
+use Rattle.std.proofs.Common.{sym, ◌∙◌}
 use Rattle.std.proofs.lemmas.Result.{err_from_is_err_and}
-use Rattle.ix_query.specs.Lexemes.{lexemes_of}
-use Rattle.ix_query.specs.Machine.{tree_of, query_of}
-use Rattle.ix_query.proofs.Readings.{fails_bind}
-use Rattle.ix_query.proofs.GrammarLemmas.{found_by, only_by}
+use Rattle.ix_query.proofs.GrammarLemmas.{found, only, only_by}
+use Rattle.ix_query.proofs.ProperLemmas.{reads_proper}
 use Rattle.ix_query.proofs.query.Query.parse.Goals as goal
 
-exact : goal.returns-clause-exact
-unfolding query_of
-exact c = rw c.in_ok-lexemes.ensures (rw c.deref.ensures.value at c.tree.ensures)
-
-pub returns-clause-exact : goal.returns-clause-exact
-returns-clause-exact = exact
-
-pub returns-clause-found : goal.returns-clause-found
-returns-clause-found c = found_by c.args.stop.now c.args.text.now c.tree.result (exact c)
-
-pub returns-clause-only : goal.returns-clause-only
-returns-clause-only c = only_by c.args.stop.now c.args.text.now c.tree.result (exact c)
-
-exact_fault : goal.returns-in_err-lexemes-clause-exact
-unfolding query_of
+exact_fault : goal.returns-in_err-tree-clause-exact
 exact_fault c =
     let p = err_from_is_err_and c.from_residual.result c.from_residual.ensures.1 in
-    rw (p.1, p.2) (fails_bind c.in_err-lexemes.field-0.0 (lexemes_of c.args.text.now) (tree_of c.args.stop.now) c.in_err-lexemes.ensures)
+    rw (p.1, p.2) c.in_err-tree.ensures
 
-pub returns-in_err-lexemes-clause-exact : goal.returns-in_err-lexemes-clause-exact
-returns-in_err-lexemes-clause-exact = exact_fault
+pub returns-in_err-tree-clause-exact : goal.returns-in_err-tree-clause-exact
+returns-in_err-tree-clause-exact = exact_fault
 
-pub returns-in_err-lexemes-clause-only : goal.returns-in_err-lexemes-clause-only
-returns-in_err-lexemes-clause-only c = only_by c.args.stop.now c.args.text.now c.from_residual.result (exact_fault c)
+pub returns-in_err-tree-clause-only : goal.returns-in_err-tree-clause-only
+returns-in_err-tree-clause-only c = only_by c.args.stop.now c.args.text.now c.from_residual.result (exact_fault c)
+
+pub invariant_of-result : goal.invariant_of-result
+invariant_of-result c =
+    reads_proper c.args.stop.now c.args.text.now c.in_ok-tree.tree
+    (found c.args.stop.now c.args.text.now c.in_ok-tree.tree c.in_ok-tree.ensures)
+
+pub returns-clause-found : goal.returns-clause-found
+returns-clause-found c = found c.args.stop.now c.args.text.now c.in_ok-tree.tree c.in_ok-tree.ensures
+
+pub returns-clause-only : goal.returns-clause-only
+returns-clause-only c = λ query reads. sym (only c.args.stop.now c.args.text.now query reads) ∙ c.in_ok-tree.ensures

@@ -1,0 +1,9 @@
+use Rattle.std.proofs.Common.{◌-◌, ◌^◌, [], ◌∷◌}
+use Rattle.ix_query.proofs.PassLemmas.{Narrowed}
+use Rattle.ix_query.proofs.answers.common.common_of_two.Given as goal
+
+abbrev pub invariant-loop-number : goal.invariant-loop-number
+invariant-loop-number g l = Narrowed g.N.Numbers.has l.initial.first l.first (l.initial.second ∷ []) (l.second ∷ []) l.low l.least
+
+abbrev pub decreases-loop-number : goal.decreases-loop-number
+decreases-loop-number g l = 2 ^ 32 - l.least
