@@ -1,0 +1,17 @@
+pub mod BlockLemmas
+pub mod BlockMaking
+pub mod BlockPieces
+pub mod BlockRunLemmas
+pub mod BuiltBlocks
+pub mod Consecutive
+pub mod LowestLemmas
+pub mod OutcomeLemmas
+pub mod RunMerging
+pub mod ShareLemmas
+pub mod ShiftCounts
+pub mod ShiftLemmas
+pub mod Sums
+pub mod TakingLemmas
+pub mod TeamLemmas
+pub mod WholeBuild
+pub mod WorkLemmas

@@ -1,0 +1,65 @@
+-- The errors of building a collection: their numbers, and for what each one stands.
+use Rattle.std.specs.Prelude.{ℕ, ◌<◌}
+use Rattle.ix_merge.specs.declared.merge_error.MergeError.{MergeError}
+use Rattle.ix_merge.specs.declared.merge_error.MergeError.TheVariants as merge
+use Rattle.ix_build.specs.declared.build_error.BuildError.{BuildError}
+use Rattle.ix_build.specs.declared.build_error.BuildError.TheVariants.{Thread, Spill, Write, Memory}
+use Rattle.ix_build.specs.declared.by_error.ByError.{ByError}
+use Rattle.ix_build.specs.declared.by_error.ByError.TheVariants as by
+use Rattle.ix_build.specs.declared.errors.MakeError.TheVariants as make
+
+-- an error's place in the list of these errors, from 1
+abbrev pub build_error_number : BuildError → ℕ
+build_error_number (Thread worker) = 1
+build_error_number (Spill place) = 2
+build_error_number Write = 3
+build_error_number Memory = 4
+
+-- the errors of a merge of consecutive blocks
+abbrev pub MayComeOfMerge : {E : Type 0} → MergeError E → Type 0
+MayComeOfMerge (merge.Gap number) = ⊥
+MayComeOfMerge (merge.Overlap number) = ⊥
+MayComeOfMerge merge.StopDiffers = ⊥
+MayComeOfMerge (merge.Source place error) = Unit {0}
+MayComeOfMerge merge.TooLarge = ⊥
+MayComeOfMerge merge.Write = Unit {0}
+MayComeOfMerge merge.Memory = Unit {0}
+
+-- the errors of makers that make the runs of consecutive blocks and refuse none
+abbrev pub MayComeOfBlocks : ByError → Type 0
+MayComeOfBlocks (by.Thread worker) = Unit {0}
+MayComeOfBlocks (by.Make place make.Refused) = ⊥
+MayComeOfBlocks (by.Make place make.Memory) = Unit {0}
+MayComeOfBlocks (by.Merge error) = MayComeOfMerge error
+MayComeOfBlocks by.Memory = Unit {0}
+
+-- a merge's refused write, or want of memory
+abbrev pub told_of_merge : {E : Type 0} → MergeError E → BuildError
+told_of_merge (merge.Gap number) = Memory
+told_of_merge (merge.Overlap number) = Memory
+told_of_merge merge.StopDiffers = Memory
+told_of_merge (merge.Source place error) = Memory
+told_of_merge merge.TooLarge = Memory
+told_of_merge merge.Write = Write
+told_of_merge merge.Memory = Memory
+
+-- the error as it is told: a thread that was not started, a merge's refused write, or want of memory
+abbrev pub told_of : ByError → BuildError
+told_of (by.Thread worker) = Thread worker
+told_of (by.Make place error) = Memory
+told_of (by.Merge error) = told_of_merge error
+told_of by.Memory = Memory
+
+-- which errors come: `Thread` of one of so many workers, and `Spill` never
+abbrev pub IsBuildRefusal : ℕ → BuildError → Type 0
+IsBuildRefusal workers (Thread worker) = worker < workers
+IsBuildRefusal workers (Spill place) = ⊥
+IsBuildRefusal workers Write = Unit {0}
+IsBuildRefusal workers Memory = Unit {0}
+
+-- the errors that come before a byte is written
+abbrev pub IsBeforeWriting : BuildError → Type 0
+IsBeforeWriting (Thread worker) = Unit {0}
+IsBeforeWriting (Spill place) = ⊥
+IsBeforeWriting Write = ⊥
+IsBeforeWriting Memory = ⊥

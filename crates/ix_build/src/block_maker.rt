@@ -1,0 +1,154 @@
+//! A maker of runs, which inverts blocks of documents.
+
+ghost use Rattle.std.specs.Prelude.{◌≡◌, ◌+◌, ◌^◌, ◌≤◌, [], map, length, Some, IfSome, IfNone, slice_get};
+ghost use Rattle.ix_text.specs.Collections.{collection_of, token_count};
+ghost use Rattle.ix_text.specs.Docs.{named_text};
+ghost use Rattle.ix_text.specs.Sizes.{AreSmall};
+ghost use Rattle.ix_build.specs.Blocks.{AscendUpTo};
+
+use crate::errors::MakeError;
+use crate::maker::{Asked, Maker};
+use ix_run::{Run, RunError, invert};
+use ix_text::{Doc, Memory, StopList, tokens_are_no_more_than_bytes};
+use std::alloc::Global;
+
+/// Inverts the block of a place (IIR 4.3). Documents, stop list and bounds are borrowed, and no text is copied. The
+/// block of place k has the documents from bound k up to bound k + 1.
+#[derive(Drop)]
+pub(crate) struct BlockMaker<'a> {
+    alloc: Global,
+    docs: &'a [Doc<'a>],
+    stop: &'a StopList,
+    bounds: &'a [usize],
+    asked: Vec<Asked>,
+    ghost ascending: { AscendUpTo (length docs.now) bounds.now },
+    ghost few_documents: { length docs.now ≤ 2 ^ 28 },
+    ghost few_tokens: { token_count (collection_of stop.now (map named_text docs.now)) ≤ 2 ^ 28 },
+}
+
+impl<'a> BlockMaker<'a> {
+    /// A maker of the blocks of small documents, which was asked for no place yet. Takes no memory.
+    pub(crate) fn new(
+        alloc: Global,
+        docs: &'a [Doc<'a>],
+        stop: &'a StopList,
+        bounds: &'a [usize],
+    ) -> BlockMaker<'a>
+        requires ascending { AscendUpTo (length docs.now) bounds.now }
+        requires small { AreSmall (map named_text docs.now) }
+        ensures documents { result.docs.now ≡ docs.now }
+        ensures stop { result.stop.now ≡ stop.now }
+        ensures bounds { result.bounds.now ≡ bounds.now }
+        ensures asked { result.asked.items ≡ [] }
+    {
+        tokens_are_no_more_than_bytes();
+        BlockMaker {
+            alloc,
+            docs,
+            stop,
+            bounds,
+            asked: Vec::new(alloc),
+        }
+    }
+}
+
+/// The bound of a place and the next one, or none where the place has no block.
+fn block_at(bounds: &[usize], place: usize) -> Option<(usize, usize)>
+    ensures some { IfSome result (λ block. (slice_get bounds.now place ≡ Some block.0)
+        × (slice_get bounds.now (place + 1) ≡ Some block.1)) }
+    ensures none { IfNone result (length bounds.now ≤ place + 1) }
+{
+    if place >= bounds.len().saturating_sub(1) {
+        return None;
+    }
+    Some((bounds[place], bounds[place + 1]))
+}
+
+impl<'a> Maker for BlockMaker<'a> {
+    ghost use Rattle.std.specs.Prelude.{◌-◌, vec_len};
+    ghost use Rattle.std.specs.Vec.{vec_capacity};
+    ghost use Rattle.ix_build.specs.BlockRuns.{GivesRun, StaysMakerOf};
+    ghost use Rattle.ix_build.specs.BlockRunLaws.{stays_itself, stays_on};
+
+    type Piece = Run;
+
+    ghost askings = { λ maker. maker.asked.items };
+
+    ghost spare = { λ maker. vec_capacity maker.asked - vec_len maker.asked };
+
+    ghost gives = { GivesRun };
+
+    ghost follows = { StaysMakerOf };
+
+    ghost follows_itself = { stays_itself };
+
+    ghost follows_on = { stays_on };
+
+    fn reserve(&mut self, places: usize) -> Result<(), Memory> {
+        self.asked.reserve(places)
+    }
+
+    fn room(&self) -> usize {
+        self.asked.capacity() - self.asked.len()
+    }
+
+    fn make(&mut self, place: usize) -> Result<Run, MakeError> {
+        let Some((from, to)) = block_at(self.bounds, place) else {
+            let error = Some(MakeError::Refused);
+            self.asked.push_reserved(Asked { place, error });
+            return Err(MakeError::Refused);
+        };
+        match invert(self.alloc, &self.docs[from..to], self.stop, from as u32) {
+            Ok(run) => {
+                self.asked.push_reserved(Asked { place, error: None });
+                Ok(run)
+            }
+            Err(RunError::Memory) => {
+                let error = Some(MakeError::Memory);
+                self.asked.push_reserved(Asked { place, error });
+                Err(MakeError::Memory)
+            }
+            // There are too few documents and tokens for that.
+            Err(RunError::TooLarge) => unreachable!(),
+        }
+    }
+
+    fn asked(&self) -> &[Asked] {
+        self.asked.as_slice()
+    }
+}
+
+#[cfg(test)]
+mod tests {
+    use super::*;
+    use crate::blocks::bounds_of;
+    use crate::plan::Cut;
+    use ix_text::Collection;
+    use std::test::Fail;
+
+    #[test]
+    fn runs_of_blocks_of_two(rt: HostRuntime) -> Result<(), Fail> {
+        let text = "a\tx y\nb\ty\nc\t\nd\ty x y\ne\tx\n";
+        let runs: [&[u8]; 3] = [
+            b"PIIXRUN1\0\0\0\0\x02\0\0\0\x80\x81a\x82\x81b\x81\x81x\x81\x83\x81\x81\x81\x81y\x82\x86\x81\x81\x82\x81\x81\x81\x80",
+            b"PIIXRUN1\x02\0\0\0\x02\0\0\0\x80\x81c\x80\x81d\x83\x81x\x81\x83\x82\x81\x82\x81y\x81\x84\x82\x82\x81\x82\x80",
+            b"PIIXRUN1\x04\0\0\0\x01\0\0\0\x80\x81e\x81\x81x\x81\x83\x81\x81\x81\x80",
+        ];
+        let collection = Collection::read(rt.alloc(), text.as_bytes())?;
+        let docs = collection.docs();
+        let stop = StopList::empty(rt.alloc());
+        let bounds = bounds_of(rt.alloc(), docs, Cut::Docs(2))?;
+        let mut maker = BlockMaker::new(rt.alloc(), docs, &stop, bounds.as_slice());
+        for (place, want) in runs.iter().enumerate() {
+            maker.reserve(1)?;
+            let run = maker.make(place)?;
+            let mut out = Vec::new(rt.alloc());
+            run.write_to(&mut out)?;
+            assert_eq!(rt; out.as_slice(), *want);
+        }
+        maker.reserve(1)?;
+        assert_eq!(rt; maker.make(3).err(), Some(MakeError::Refused));
+        assert_eq!(rt; maker.asked().len(), 4);
+        Ok(())
+    }
+}

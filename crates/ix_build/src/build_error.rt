@@ -1,0 +1,57 @@
+//! Why a collection is not built.
+ghost use Rattle.std.specs.Prelude.{◌≡◌};
+
+use crate::by_error::ByError;
+use crate::errors::MakeError;
+use ix_merge::MergeError;
+use thiserror::Error;
+
+/// Why a collection is not built.
+#[derive(Clone, Copy, Debug, PartialEq, Eq, Error)]
+pub enum BuildError {
+    /// The thread of the worker with this number, from 0, could not be started.
+    #[error("Thread({0})")]
+    Thread(usize),
+    /// The run of the block at this place, from 0, was not kept or not given back. It does not come while runs are
+    /// kept in memory.
+    #[error("Spill({0})")]
+    Spill(usize),
+    /// A write or the flush was refused.
+    #[error("Write")]
+    Write,
+    /// Memory was refused.
+    #[error("Memory")]
+    Memory,
+}
+
+impl BuildError {
+    ghost use Rattle.ix_build.specs.BuildErrors.{MayComeOfBlocks, build_error_number, told_of};
+
+    /// The error's number in the list of these errors, from 1.
+    pub fn number(&self) -> u8
+        ensures { result ≡ build_error_number self.now }
+    {
+        match self {
+            BuildError::Thread(_) => 1,
+            BuildError::Spill(_) => 2,
+            BuildError::Write => 3,
+            BuildError::Memory => 4,
+        }
+    }
+
+    /// The error of makers of blocks as an error of the whole. Blocks one after another are never refused for what
+    /// they are.
+    pub(crate) fn of(error: ByError) -> BuildError
+        requires { MayComeOfBlocks error }
+        ensures { result ≡ told_of error }
+    {
+        match error {
+            ByError::Thread(worker) => BuildError::Thread(worker),
+            ByError::Make(_, MakeError::Refused) => unreachable!(),
+            ByError::Make(_, MakeError::Memory) | ByError::Memory => BuildError::Memory,
+            ByError::Merge(MergeError::Write) => BuildError::Write,
+            ByError::Merge(MergeError::Source(_, _) | MergeError::Memory) => BuildError::Memory,
+            ByError::Merge(_) => unreachable!(),
+        }
+    }
+}

@@ -1,0 +1,36 @@
+//! Building an index text in threads (IIR 4.3): a collection is cut into blocks, makers, each driven by a worker of its
+//! own, take the blocks of a claim board until none is open, and the runs that they make are merged.
+#![tactic(auto)]
+
+mod block_maker;
+mod blocks;
+mod build_error;
+mod building;
+mod built;
+mod by_error;
+mod by_makers;
+mod errors;
+mod laws;
+mod lowest;
+mod maker;
+mod merged_runs;
+mod outcome;
+mod plan;
+mod promise;
+mod shared_work;
+mod team;
+#[cfg(test)]
+mod tests;
+mod worker;
+
+pub use build_error::BuildError;
+pub use building::build;
+pub use built::Built;
+pub use by_error::ByError;
+pub use by_makers::build_by;
+pub use errors::{MakeError, WorkError};
+pub use laws::each_place_is_of_one_maker;
+pub use maker::{Asked, Maker};
+pub use outcome::Outcome;
+pub use plan::{Cut, Plan, Runs};
+pub use shared_work::work_all;

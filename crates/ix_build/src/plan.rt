@@ -1,0 +1,112 @@
+//! Plans: how a collection is cut into blocks, by how many workers these are made, and where their runs are kept.
+
+use std::marker::Model;
+
+/// How documents, in their order, are cut into blocks. Its number is at least 1 in a plan.
+#[derive(Clone, Copy, Debug, PartialEq, Eq)]
+pub enum Cut {
+    /// So many documents a block. The last block may have fewer.
+    Docs(u32),
+    /// A block is closed by the document that brings its texts up to this many bytes; names do not count. The last
+    /// block is what is left then, unless nothing is.
+    Bytes(u32),
+}
+
+impl Cut {
+    ghost use Rattle.std.specs.Prelude.{◌≡◌};
+    ghost use Rattle.ix_build.specs.Blocks.{cut_number};
+
+    /// The documents or bytes with which a block is full.
+    pub(crate) fn number(self) -> u32
+        ensures { result ≡ cut_number self }
+    {
+        match self {
+            Cut::Docs(count) => count,
+            Cut::Bytes(count) => count,
+        }
+    }
+}
+
+/// Where the runs of the blocks are kept until they are merged.
+#[derive(Debug, Drop)]
+pub enum Runs {
+    /// In memory.
+    Memory,
+}
+
+/// How a collection is built: its cut into blocks, the number of workers, and where the runs are kept.
+#[derive(Debug, Drop)]
+pub struct Plan {
+    cut: Cut,
+    workers: usize,
+    runs: Runs,
+}
+
+impl Model for Plan {
+    ghost use Rattle.ix_build.specs.Plans.{PlanValue, IsPlan, plan_of};
+
+    ghost Value = { PlanValue };
+
+    ghost view = { λ plan. plan_of plan.cut plan.workers };
+
+    ghost invariant = { λ plan. IsPlan (plan_of plan.cut plan.workers) };
+}
+
+impl Plan {
+    ghost use Rattle.std.specs.Prelude.{◌≡◌, ◌<◌, ◌≤◌};
+    ghost use Rattle.std.specs.Option.{SomeIff};
+    ghost use Rattle.ix_build.specs.Blocks.{cut_number};
+    ghost use Rattle.ix_build.specs.Plans.{IsPlan, plan_of};
+
+    /// The plan of these, or none where the cut's number is 0 or the workers are not 1 to 64.
+    pub fn new(cut: Cut, workers: usize, runs: Runs) -> Option<Plan>
+        ensures { SomeIff result (IsPlan (plan_of cut workers)) (plan_of cut workers) }
+    {
+        if cut.number() == 0 || workers == 0 || workers > 64 {
+            return None;
+        }
+        Some(Plan { cut, workers, runs })
+    }
+
+    /// The cut into blocks, whose number is at least 1.
+    pub fn cut(&self) -> Cut
+        ensures cut { result ≡ self.now.cut }
+        ensures some { 0 < cut_number result }
+    {
+        self.cut
+    }
+
+    /// The number of workers, 1 to 64.
+    pub fn workers(&self) -> usize
+        ensures workers { result ≡ self.now.workers }
+        ensures few { (0 < result) × (result ≤ 64) }
+    {
+        self.workers
+    }
+}
+
+#[cfg(test)]
+mod tests {
+    use super::*;
+    use std::test::Fail;
+
+    #[test]
+    fn plans_are_in_range(rt: HostRuntime) -> Result<(), Fail> {
+        for (workers, lawful) in [(0, false), (1, true), (64, true), (65, false)] {
+            assert_eq!(rt;
+                Plan::new(Cut::Docs(2), workers, Runs::Memory).is_some(),
+                lawful
+            );
+            assert_eq!(rt;
+                Plan::new(Cut::Bytes(1), workers, Runs::Memory).is_some(),
+                lawful
+            );
+        }
+        assert!(rt; Plan::new(Cut::Docs(0), 1, Runs::Memory).is_none());
+        assert!(rt; Plan::new(Cut::Bytes(0), 1, Runs::Memory).is_none());
+        let plan = Plan::new(Cut::Bytes(7), 3, Runs::Memory).ok_or("none")?;
+        assert_eq!(rt; plan.cut(), Cut::Bytes(7));
+        assert_eq!(rt; plan.workers(), 3);
+        Ok(())
+    }
+}
