@@ -7,7 +7,7 @@ use Rattle.std.specs.List.{flat_map}
 use Rattle.ix_text.specs.Collections.{Document, NamedText, collection_of}
 use Rattle.ix_text.specs.CollectionText.{IsCollectionText, line_of}
 use Rattle.ix_text.specs.TokenLists.{token_list}
-use Rattle.ix_query.specs.declared.query.Query.{Query}
+use Rattle.ix_query.specs.declared.tree.Tree.{Tree}
 use Rattle.ix_query.specs.Scans.{IsScan}
 
 -- a line has a byte
@@ -23,7 +23,7 @@ few_documents text documents is =
     omega (arith, is.size, lines, length-lines documents)
 
 -- the numbers of a scan are numbers of documents
-pub numbers_below : (stop : List (List ℕ)) (documents : List NamedText) (query : Query) (numbers : List ℕ) → IsScan (collection_of stop documents) query numbers → All (λ number. number < length documents) numbers
+pub numbers_below : (stop : List (List ℕ)) (documents : List NamedText) (query : Tree) (numbers : List ℕ) → IsScan (collection_of stop documents) query numbers → All (λ number. number < length documents) numbers
 unfolding collection_of
 numbers_below stop documents query numbers scanned = λ k d below.
     let view = λ (d : NamedText). let document : Document = record { name = d.name; tokens = token_list stop d.text } in document in

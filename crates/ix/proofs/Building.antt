@@ -1,5 +1,5 @@
 -- Chains that build a command for `clap`.
-use Rattle.std.proofs.Common.{◌≡◌, ◌∙◌, ap, ap₂, refl, ◌||◌, Bor, Option}
+use Rattle.std.proofs.Common.{◌≡◌, ◌∙◌, ap, ap₂, ◌||◌}
 use Rattle.clap.specs.Built.{AddsArg, AddsSubcommand}
 use Rattle.clap.specs.Simple.{App, app_of, app_of_fields, with_rule, with_subcommand}
 use Rattle.clap.specs.Walk.{Rule, Text}
@@ -24,10 +24,3 @@ adds_subcommand adds old below = adds.shape below.local ∙ ap₂ with_subcomman
 pub sets : (old new : Command) {app : App} (f : Command-F Command → Command-F Command) (g : App → App) → ((r : Command-F Command) → app_of_fields (f r) ≡ g (app_of_fields r))
     → fields_of new ≡ f (fields_of old) → app_of old ≡ app → app_of new ≡ g app
 sets old new f g same changes was = ap app_of_fields changes ∙ (same (fields_of old) ∙ ap g was)
-
--- a parse does not read what a command says about itself, or the name of its program
-abbrev pub same_app : App → App
-same_app app = app
-
-pub about_set : (old new : Command) {app : App} (text : Option (Bor Text)) → fields_of new ≡ record (fields_of old) { about = text } → app_of old ≡ app → app_of new ≡ app
-about_set old new text changes was = sets old new (λ r. record r { about = text }) same_app (λ r. refl) changes was

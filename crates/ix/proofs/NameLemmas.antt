@@ -1,4 +1,4 @@
--- The lines of names, one document more.
+-- The lines of names, one more; and where the names of documents stand.
 use Rattle.std.proofs.Common.{◌≡◌, ℕ, ◌+◌, ◌<◌, List, ◌++◌, map, length, take, get_or, Some, slice_get, refl, ap, ◌∙◌, append-nil}
 use Rattle.std.proofs.lemmas.Grind.{flat_map-append}
 use Rattle.std.proofs.lemmas.List.{take_more}
@@ -6,11 +6,18 @@ use Rattle.std.proofs.lemmas.Option.{slice_get-map, slice_get_read}
 use Rattle.std.specs.List.{flat_map}
 use Rattle.std.specs.Option.{option_map}
 use Rattle.ix_text.specs.Collections.{NamedText}
-use Rattle.ix.specs.NameLines.{name_line, name_lines}
+use Rattle.ix.specs.NameLines.{name_line, name_lines, names_read}
 
--- the line of a document more, which the caller read from its own list
-pub name_lines_more : {X : Type 0} (view : X → NamedText) (documents : List X) (numbers : List ℕ) (i : ℕ) (document : X) → i < length numbers → get_or numbers i 0 < length documents → document ≡ get_or documents (get_or numbers i 0) document → name_lines (map view documents) (take (i + 1) numbers) ≡ name_lines (map view documents) (take i numbers) ++ name_line (Some (view document))
-name_lines_more view documents numbers i document within known is =
-    let line = λ (number : ℕ). name_line (slice_get (map view documents) number) in
-    let found = slice_get-map view documents (get_or numbers i 0) ∙ ap (option_map view) (slice_get_read documents (length documents) (get_or numbers i 0) document refl known is) in
+-- the line of a name more
+pub name_lines_more : (names : List (List ℕ)) (numbers : List ℕ) (i : ℕ) (name : List ℕ) → i < length numbers → slice_get names (get_or numbers i 0) ≡ Some name
+    → name_lines names (take (i + 1) numbers) ≡ name_lines names (take i numbers) ++ name_line (Some name)
+name_lines_more names numbers i name within found =
+    let line = λ (number : ℕ). name_line (slice_get names number) in
     ap (flat_map line) (take_more numbers i 0 within) ∙ flat_map-append line (take i numbers) _ ∙ ap (λ xs. flat_map line (take i numbers) ++ xs) (append-nil _ ∙ ap name_line found)
+
+-- the name of a document that the caller read from its own list
+pub name_of_read : {X : Type 0} (view : X → NamedText) (documents : List X) (number : ℕ) (document : X) → number < length documents → document ≡ get_or documents number document
+    → slice_get (names_read (map view documents)) number ≡ Some (view document).name
+name_of_read view documents number document known is =
+    let name = λ (d : NamedText). d.name in
+    slice_get-map name (map view documents) number ∙ ap (option_map name) (slice_get-map view documents number ∙ ap (option_map view) (slice_get_read documents (length documents) number document refl known is))

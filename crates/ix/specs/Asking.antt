@@ -5,20 +5,20 @@ use Rattle.ix_text.specs.CollectionText.{IsCollectionText}
 use Rattle.ix_text.specs.CollectionFaults.{IsCollectionFault}
 use Rattle.ix_text.specs.Collections.{NamedText, collection_of}
 use Rattle.ix_text.specs.Sinks.{AppendsFront}
-use Rattle.ix_query.specs.declared.query.Query.{Query}
+use Rattle.ix_query.specs.declared.tree.Tree.{Tree}
 use Rattle.ix_query.specs.Grammar.{Reads}
 use Rattle.ix_query.specs.Scans.{IsScan}
 use Rattle.ix_query.specs.Machine.{query_of}
 use Rattle.ix_text.specs.declared.collection.CollectionError.{CollectionError}
 use Rattle.ix_text.specs.declared.collection.CollectionError.TheVariants as collection
 use Rattle.ix_query.specs.QueryErrors.{Fails}
-use Rattle.ix.specs.NameLines.{name_lines}
+use Rattle.ix.specs.NameLines.{name_lines, names_read}
 use Rattle.ix.specs.declared.ask.AskError.{AskError}
 use Rattle.ix.specs.declared.ask.AskError.TheVariants as asking
 
 -- The query reads as a tree, and these are the numbers of exactly the documents that satisfy it, ascending.
 pub record AreFound (stop : List (List ℕ)) (query : List ℕ) (documents : List NamedText) (numbers : List ℕ) : Type 0 where
-  pub tree : Query
+  pub tree : Tree
   pub parsed : Reads stop query tree
   pub scanned : IsScan (collection_of stop documents) tree numbers
 
@@ -28,7 +28,7 @@ pub record IsAnswer (text : List ℕ) (stop : List (List ℕ)) (query lines : Li
   pub numbers : List ℕ
   pub read : IsCollectionText text documents
   pub found : AreFound stop query documents numbers
-  pub named : lines ≡ name_lines documents numbers
+  pub named : lines ≡ name_lines (names_read documents) numbers
   pub counted : count ≡ length numbers
 
 -- The answer went out whole.

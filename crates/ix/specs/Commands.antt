@@ -1,11 +1,16 @@
 -- The commands of the program, with their options and operands, as `clap` reads them.
-use Rattle.std.specs.Prelude.{◌∷◌, [], Some, codes, true}
+use Rattle.std.specs.Prelude.{◌∷◌, [], ℤ, Some, codes, pos, true}
 use Rattle.clap.specs.Simple.{App, Shape, built, new_app, new_rule, new_shape, with_subcommand}
 use Rattle.clap.specs.Walk.{Rule, Text}
+use Rattle.clap.specs.declared.builder.value_parser.ValueParser.TheVariants.{Signed}
 
 -- `--name VALUE` or `--name=VALUE`, which may be left out
 abbrev pub option_rule : Text → Rule
 option_rule name = record (new_rule name) { long = Some name; value_names = 1 }
+
+-- the same, where the value is a number in a range
+abbrev pub number_rule : Text → ℤ → ℤ → Rule
+number_rule name low high = record (option_rule name) { parser = Some (Signed low high) }
 
 -- a word in its place, which may not be left out
 abbrev pub operand_rule : Text → Rule
@@ -17,6 +22,51 @@ ask_shape = record (new_shape (codes "ask")) {
   rules = option_rule (codes "stop")
       ∷ operand_rule (codes "COLLECTION")
       ∷ operand_rule (codes "QUERY")
+      ∷ [];
+}
+
+-- `build [--stop FILE] [--block N] [--workers W] COLLECTION INDEX`
+abbrev pub build_shape : Shape
+build_shape = record (new_shape (codes "build")) {
+  rules = option_rule (codes "stop")
+      ∷ number_rule (codes "block") (pos 1) (pos 268435456)
+      ∷ number_rule (codes "workers") (pos 1) (pos 64)
+      ∷ operand_rule (codes "COLLECTION")
+      ∷ operand_rule (codes "INDEX")
+      ∷ [];
+}
+
+-- `search INDEX QUERY`
+abbrev pub search_shape : Shape
+search_shape = record (new_shape (codes "search")) {
+  rules = operand_rule (codes "INDEX")
+      ∷ operand_rule (codes "QUERY")
+      ∷ [];
+}
+
+-- `terms INDEX PATTERN`
+abbrev pub terms_shape : Shape
+terms_shape = record (new_shape (codes "terms")) {
+  rules = operand_rule (codes "INDEX")
+      ∷ operand_rule (codes "PATTERN")
+      ∷ [];
+}
+
+-- `run [--stop FILE] [--first D] COLLECTION RUN`
+abbrev pub run_shape : Shape
+run_shape = record (new_shape (codes "run")) {
+  rules = option_rule (codes "stop")
+      ∷ number_rule (codes "first") (pos 0) (pos 268435456)
+      ∷ operand_rule (codes "COLLECTION")
+      ∷ operand_rule (codes "RUN")
+      ∷ [];
+}
+
+-- `upgrade OLD NEW`
+abbrev pub upgrade_shape : Shape
+upgrade_shape = record (new_shape (codes "upgrade")) {
+  rules = operand_rule (codes "OLD")
+      ∷ operand_rule (codes "NEW")
       ∷ [];
 }
 
@@ -36,7 +86,9 @@ program = record (new_app (codes "ix")) {
 }
 
 unfoldable pub ix_app : App
-ix_app = with_subcommand program ask_shape
+ix_app =
+    with_subcommand (with_subcommand (with_subcommand (with_subcommand (with_subcommand (with_subcommand program ask_shape) search_shape) terms_shape)
+    run_shape) upgrade_shape) build_shape
 
 -- the same with the help flag at both levels and what the rules left out
 abbrev pub ix_built : App

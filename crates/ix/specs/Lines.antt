@@ -1,14 +1,20 @@
 -- Which line the words are, by the matches that `clap` defines for them.
-use Rattle.std.specs.Prelude.{◌≡◌, List, [], Option, Some, codes, map, option_map}
+use Rattle.std.specs.Prelude.{◌≡◌, ◌^◌, ◌<◌, ℕ, List, [], Option, Some, codes, map, option_map, pos}
+use Rattle.std.specs.Option.{option_map_or}
+use Rattle.std.specs.Str.Parse.{digits_value, without_leading_plus}
 use Rattle.std.specs.Borrow.{Bor}
 use Rattle.clap.specs.Simple.{subcommand_of, subcommand_rows_of}
-use Rattle.clap.specs.Walk.{Row, Text, first_of}
+use Rattle.clap.specs.Lexer.{without_minus}
+use Rattle.clap.specs.Values.{IsSignedIn}
+use Rattle.clap.specs.Walk.{Row, Text, first_of, one_of}
 use Rattle.clap.specs.Faults.{fault_of}
 use Rattle.clap.specs.Words.{IsAmong, kind_of}
 use Rattle.clap.specs.declared.parser.matches.ArgMatches.{ArgMatches}
+use Rattle.ix_build.specs.Plans.{PlanValue}
+use Rattle.ix_build.specs.declared.plan.Cut.TheVariants.{Docs}
 use Rattle.ix.specs.Commands.{ix_app}
 use Rattle.ix.specs.declared.command_line.Line.{Line}
-use Rattle.ix.specs.declared.command_line.Line.TheVariants.{Ask}
+use Rattle.ix.specs.declared.command_line.Line.TheVariants.{Ask, Build, Run, Search, Terms, Upgrade}
 use Rattle.ix.specs.declared.command_line.error.LineError.{LineError}
 use Rattle.ix.specs.declared.command_line.error.LineError.TheVariants.{Clap, Memory}
 
@@ -26,6 +32,30 @@ HasText id rows field = option_map (λ text. text.now) field ≡ first_of id row
 abbrev pub HasOperand : Text → List Row → Bor Text → Type 0
 HasOperand id rows field = first_of id rows ≡ Some field.now
 
+-- the number that a text is written as
+abbrev pub number_of : Text → ℕ
+number_of text = digits_value 10 (without_leading_plus text)
+
+-- the number of an option, or this one where the words do not give it
+abbrev pub HasNumberOr : Text → ℕ → List Row → ℕ → Type 0
+HasNumberOr id otherwise rows field = field ≡ option_map_or number_of (one_of id rows) otherwise
+
+-- The text that `clap` reads is that of a number in some range, which 32 bits hold.
+pub record IsNumberText (text : Text) : Type 0 where
+  pub word : Text
+  pub low : ℕ
+  pub high : ℕ
+  pub read : text ≡ without_minus word
+  pub small : high < 2 ^ 32
+  pub in_range : IsSignedIn (pos low) (pos high) word
+
+-- The plan is that of the options `--block`, else 1024, and `--workers`, else 4.
+pub record HasPlan (rows : List Row) (plan : PlanValue) : Type 0 where
+  pub block : ℕ
+  pub given : HasNumberOr (codes "block") 1024 rows block
+  pub cut : plan.cut ≡ Docs block
+  pub workers : HasNumberOr (codes "workers") 4 rows plan.workers
+
 -- ---- a line
 
 -- the line is that of the command with this name, and its fields have what the rows have
@@ -34,6 +64,25 @@ Holds name rows (Ask stop collection query) = (name ≡ codes "ask")
     × HasText (codes "stop") rows stop
     × HasOperand (codes "COLLECTION") rows collection
     × HasOperand (codes "QUERY") rows query
+Holds name rows (Build stop plan collection index) = (name ≡ codes "build")
+    × HasText (codes "stop") rows stop
+    × HasPlan rows plan
+    × HasOperand (codes "COLLECTION") rows collection
+    × HasOperand (codes "INDEX") rows index
+Holds name rows (Search index query) = (name ≡ codes "search")
+    × HasOperand (codes "INDEX") rows index
+    × HasOperand (codes "QUERY") rows query
+Holds name rows (Terms index pattern) = (name ≡ codes "terms")
+    × HasOperand (codes "INDEX") rows index
+    × HasOperand (codes "PATTERN") rows pattern
+Holds name rows (Run stop first collection run) = (name ≡ codes "run")
+    × HasText (codes "stop") rows stop
+    × HasNumberOr (codes "first") 0 rows first
+    × HasOperand (codes "COLLECTION") rows collection
+    × HasOperand (codes "RUN") rows run
+Holds name rows (Upgrade old new) = (name ≡ codes "upgrade")
+    × HasOperand (codes "OLD") rows old
+    × HasOperand (codes "NEW") rows new
 
 -- `clap` has no fault to find with the words, and they name a command with these matches
 abbrev pub Names : List Text → Text → List Row → Type 0

@@ -1,12 +1,20 @@
--- What `ask` writes: the names of documents, each with LF.
-use Rattle.std.specs.Prelude.{ℕ, List, [], ◌∷◌, ◌++◌, flat_map, slice_get, Option, None, Some}
-use Rattle.ix_text.specs.Collections.{NamedText}
+-- What `ask` and `search` write: the names of documents, each with LF.
+use Rattle.std.specs.Prelude.{ℕ, List, [], ◌∷◌, ◌++◌, flat_map, map, slice_get, Option, None, Some}
+use Rattle.ix_text.specs.Collections.{Document, NamedText}
 
--- the line of a document
-abbrev pub name_line : Option NamedText → List ℕ
+-- the names of documents as they are read
+abbrev pub names_read : List NamedText → List (List ℕ)
+names_read = map (λ document. document.name)
+
+-- the names of documents as they are indexed
+abbrev pub names_indexed : List Document → List (List ℕ)
+names_indexed = map (λ document. document.name)
+
+-- the line of a name
+abbrev pub name_line : Option (List ℕ) → List ℕ
 name_line None = []
-name_line (Some document) = document.name ++ 10 ∷ []
+name_line (Some name) = name ++ 10 ∷ []
 
--- the lines of the documents of these numbers, in this order
-abbrev pub name_lines : List NamedText → List ℕ → List ℕ
-name_lines documents numbers = flat_map (λ number. name_line (slice_get documents number)) numbers
+-- the lines of the names with these numbers, in this order
+abbrev pub name_lines : List (List ℕ) → List ℕ → List ℕ
+name_lines names numbers = flat_map (λ number. name_line (slice_get names number)) numbers

@@ -1,9 +1,20 @@
--- As which refusal of the program a refused question is told.
-use Rattle.std.specs.Prelude.{◌≡◌, codes}
+-- Refusals: what each of them tells, and the line that is printed.
+use Rattle.std.specs.Prelude.{◌≡◌, ℕ, ◌⊎◌, ◌/◌, ◌%◌, List, [], ◌∷◌, ◌++◌, flat_map, Option, None, Some, IfSome, codes, decimal, if◌then◌else◌, encode_utf8}
+use Rattle.std.specs.Char.{digit_char, is_control}
+use Rattle.std.specs.Str.{chars}
+use Rattle.clap.specs.Walk.{Text}
+use Rattle.ix_query.specs.QueryErrors.{number_of}
+use Rattle.ix_text.specs.Sinks.{AppendsFront}
 use Rattle.ix.specs.declared.ask.AskError.{AskError}
 use Rattle.ix.specs.declared.ask.AskError.TheVariants as asking
+use Rattle.ix.specs.declared.search.SearchError.{SearchError}
+use Rattle.ix.specs.declared.search.SearchError.TheVariants as searching
+use Rattle.ix.specs.declared.listing.ListingError.{ListingError}
+use Rattle.ix.specs.declared.listing.ListingError.TheVariants as listing
 use Rattle.ix.specs.declared.refusal.Refusal.{Refusal}
 use Rattle.ix.specs.declared.refusal.Refusal.TheVariants as refusal
+
+-- ---- what a refusal tells
 
 -- the refusal tells the error in its own area, with what it wraps; what cannot be written is the standard output
 abbrev pub Tells : AskError → Refusal → Type 0
@@ -12,3 +23,76 @@ Tells (asking.Query error) told = told ≡ refusal.Query error
 Tells asking.Write (refusal.Write path) = path.now ≡ codes "-"
 Tells asking.Write _ = ⊥
 Tells asking.Memory told = told ≡ refusal.Memory
+
+-- the same of a question to an index
+abbrev pub TellsSearch : SearchError → Refusal → Type 0
+TellsSearch (searching.Query error) told = told ≡ refusal.Query error
+TellsSearch searching.Write (refusal.Write path) = path.now ≡ codes "-"
+TellsSearch searching.Write _ = ⊥
+TellsSearch searching.Memory told = told ≡ refusal.Memory
+
+-- the same of a listing of terms
+abbrev pub TellsListing : ListingError → Refusal → Type 0
+TellsListing (listing.Pattern error) told = told ≡ refusal.Pattern error
+TellsListing listing.Write (refusal.Write path) = path.now ≡ codes "-"
+TellsListing listing.Write _ = ⊥
+TellsListing listing.Memory told = told ≡ refusal.Memory
+
+-- the refusal tells that the file of this path cannot be read, or that memory ran out
+abbrev pub IsUnread : Text → Refusal → Type 0
+IsUnread path (refusal.Read named) = named.now ≡ path
+IsUnread path refusal.Memory = Unit {0}
+IsUnread path _ = ⊥
+
+-- the refusal tells that the file of this path cannot be written, or that memory ran out
+abbrev pub IsUnsaved : Text → Refusal → Type 0
+IsUnsaved path (refusal.Write named) = named.now ≡ path
+IsUnsaved path refusal.Memory = Unit {0}
+IsUnsaved path _ = ⊥
+
+-- ---- its line
+
+-- area, number and name; not stated where the name is that of an error of a collection text, a stop text, a query, an
+-- index text, a pattern, a run, a build or a merge
+abbrev pub text_of : Refusal → Option Text
+text_of refusal.Arguments = Some (codes "arguments refused")
+text_of (refusal.Collection error) = None
+text_of (refusal.Stop error) = None
+text_of (refusal.Query error) = None
+text_of (refusal.Index error) = None
+text_of (refusal.Pattern error) = None
+text_of (refusal.Run error) = None
+text_of (refusal.Build error) = None
+text_of (refusal.Merge error) = None
+text_of (refusal.Read path) = Some (codes "file 1: Read(" ++ path.now ++ codes ")")
+text_of (refusal.Write path) = Some (codes "file 2: Write(" ++ path.now ++ codes ")")
+text_of (refusal.NotUtf8 path) = Some (codes "file 3: NotUtf8(" ++ path.now ++ codes ")")
+text_of refusal.Memory = Some (codes "memory 1: Memory")
+
+-- a control character as `\x` and two hexadecimal digits, and any other as it is
+abbrev pub shown_char : ℕ → Text
+shown_char c =
+    if is_control c then codes "\\x" ++ (encode_utf8 (digit_char (c / 16)) ++ encode_utf8 (digit_char (c % 16)))
+    else encode_utf8 c
+
+-- the text with its control characters shown
+unfoldable pub shown : Text → Text
+shown text = flat_map shown_char (chars text)
+
+-- the line of the refusal, where its text is stated
+abbrev pub IsLineOf : Refusal → Text → Type 0
+IsLineOf told line = IfSome (text_of told) (λ text. line ≡ codes "ix: " ++ (shown text ++ 10 ∷ []))
+
+-- the error output gained the line of this refusal, or a beginning of it where a write was refused
+pub record GainsLine (told : Refusal) (old new : Option Text) : Type 0 where
+  pub line : Text
+  pub spelled : IsLineOf told line
+  pub gained : AppendsFront old new line
+
+-- the line of want of memory
+abbrev pub out_of_memory_line : Text
+out_of_memory_line = codes "ix: memory 1: Memory" ++ 10 ∷ []
+
+-- The refusal was told; where there is no memory for its line, it is told as want of memory.
+abbrev pub IsTold : Refusal → Option Text → Option Text → Type 0
+IsTold told old new = GainsLine told old new ⊎ AppendsFront old new out_of_memory_line

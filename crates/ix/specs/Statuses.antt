@@ -1,58 +1,98 @@
--- What an exit status says: that help was asked for, or that a question was answered and its names went out.
-use Rattle.std.specs.Prelude.{◌≡◌, ℕ, ◌<◌, ◌⊎◌, List, [], Option, None}
-use Rattle.std.specs.Io.KnownBytes.{Keeps}
+-- What an exit status says: that help was printed, that a command was done, or why it was refused. The words are those of
+-- the command line with `help X` spelled as `X --help`.
+use Rattle.std.specs.Prelude.{◌≡◌, ◌≢◌, ℕ, ◌<◌, List, [], Option, codes}
 use Rattle.std.specs.Borrow.{Bor}
+use Rattle.std.specs.Io.KnownBytes.{Appends, Keeps}
 use Rattle.clap.specs.Walk.{Text}
 use Rattle.clap.specs.Faults.{fault_of}
 use Rattle.clap.specs.Words.{IsAmong}
+use Rattle.clap.specs.declared.error.kind.ErrorKind.{ErrorKind}
 use Rattle.clap.specs.declared.error.kind.ErrorKind.TheVariants.{DisplayHelp}
-use Rattle.ix.specs.Asking.{IsAnswered, IsCutShort}
+use Rattle.ix_text.specs.Sinks.{AppendsFront}
+use Rattle.ix.specs.AskedFiles.{IsAnsweredFromFiles, IsAskRefused}
+use Rattle.ix.specs.BuiltIndexes.{IsBuilt, IsBuildRefused}
 use Rattle.ix.specs.Commands.{ix_app}
-use Rattle.ix.specs.Lines.{Reads}
+use Rattle.ix.specs.Files.{Holding}
+use Rattle.ix.specs.Help.{AsksForHelp, as_flag, help_of}
+use Rattle.ix.specs.IndexFiles.{IsListingRefused, IsPrintedFromFile, IsSearchRefused, IsSearchedFromFile}
+use Rattle.ix.specs.Lines.{Reads, texts_of}
+use Rattle.ix.specs.Refusals.{IsTold}
+use Rattle.ix.specs.Upgrades.{IsUpgradeRefused, IsUpgraded}
+use Rattle.ix.specs.WrittenRuns.{IsRunRefused, IsRunSaved}
 use Rattle.ix.specs.declared.command_line.Line.{Line}
-use Rattle.ix.specs.declared.command_line.Line.TheVariants.{Ask}
+use Rattle.ix.specs.declared.command_line.Line.TheVariants.{Ask, Build, Run, Search, Terms, Upgrade}
+use Rattle.ix.specs.declared.refusal.Refusal.{Refusal}
+use Rattle.ix.specs.declared.refusal.Refusal.TheVariants as refusal
 
--- the words ask for help
-abbrev pub AsksForHelp : List Text → Type 0
-AsksForHelp words = IsAmong DisplayHelp (fault_of ix_app words)
+-- the words, with `help X` spelled as `X --help`
+abbrev pub spelled : List (Bor Text) → List Text
+spelled words = as_flag (texts_of words)
 
--- For some bytes of the collection file and some stop terms, of which there is none where no stop file is named, the
--- answer to the query went out whole, with so many names.
-pub record IsAnsweredFromFiles (stop_file : Option (Bor Text)) (query : List ℕ) (old new : Option (List ℕ)) (count : ℕ) : Type 0 where
-  pub collection : List ℕ
-  pub stop : List (List ℕ)
-  pub none_named : stop_file ≡ None → stop ≡ []
-  pub answered : IsAnswered collection stop query old new count
+-- the words ask for help, and it was printed: the standard output gained it, and nothing else
+pub record IsHelped (words : List Text) (old new : Option Text) : Type 0 where
+  pub asked : AsksForHelp words
+  pub printed : Appends old new (help_of words)
 
--- the question that the line asks is answered, with so many names
-abbrev pub IsLineAnswered : Line → Option (List ℕ) → Option (List ℕ) → ℕ → Type 0
-IsLineAnswered (Ask stop_file collection query) old new count = IsAnsweredFromFiles stop_file query.now old new count
+-- What the line asks for was done, and so much was found; where it asks for a file, one was saved, and nothing was printed.
+abbrev pub IsDone : Holding → Holding → Line → Option Text → Option Text → ℕ → Type 0
+IsDone holds saves (Ask stop_file collection query) old new count = IsAnsweredFromFiles holds stop_file collection.now query.now old new count
+IsDone holds saves (Build stop_file plan collection index) old new count =
+    IsBuilt holds saves stop_file collection.now index.now × Keeps old new × (count ≡ 1)
+IsDone holds saves (Search index query) old new count = IsSearchedFromFile holds index.now query.now old new count
+IsDone holds saves (Terms index pattern) old new count = IsPrintedFromFile holds index.now pattern.now old new count
+IsDone holds saves (Run stop_file first collection run) old new count =
+    IsRunSaved holds saves stop_file first collection.now run.now × Keeps old new × (count ≡ 1)
+IsDone holds saves (Upgrade old_file new_file) old new count =
+    IsUpgraded holds saves old_file.now new_file.now × Keeps old new × (count ≡ 1)
 
--- the question that the line asks is answered, with some names
-abbrev pub FindsSome : Line → Option (List ℕ) → Option (List ℕ) → Type 0
-FindsSome line old new = (count : ℕ) × (0 < count) × IsLineAnswered line old new count
+-- what the line asks for was refused for this reason, and leaves this of the standard output
+abbrev pub IsLineRefused : Holding → Line → Option Text → Option Text → Refusal → Type 0
+IsLineRefused holds (Ask stop_file collection query) old new told = IsAskRefused holds stop_file collection.now query.now old new told
+IsLineRefused holds (Build stop_file plan collection index) old new told =
+    IsBuildRefused holds stop_file plan.workers collection.now index.now told × Keeps old new
+IsLineRefused holds (Search index query) old new told = IsSearchRefused holds index.now query.now old new told
+IsLineRefused holds (Terms index pattern) old new told = IsListingRefused holds index.now pattern.now old new told
+IsLineRefused holds (Run stop_file first collection run) old new told = IsRunRefused holds stop_file first collection.now run.now told × Keeps old new
+IsLineRefused holds (Upgrade old_file new_file) old new told = IsUpgradeRefused holds old_file.now new_file.now told × Keeps old new
 
--- the question that the line asks is answered, with no name
-abbrev pub FindsNone : Line → Option (List ℕ) → Option (List ℕ) → Type 0
-FindsNone line old new = IsLineAnswered line old new 0
+-- the words are a line that was done, and something was found
+pub record FindsSome (holds saves : Holding) (words : List Text) (old new : Option Text) : Type 0 where
+  pub line : Line
+  pub count : ℕ
+  pub read : Reads words line
+  pub some : 0 < count
+  pub done : IsDone holds saves line old new count
 
--- the words are a line that does this
-abbrev pub AreLine : List Text → (Line → Type 0) → Type 0
-AreLine words Does = (line : Line) × Reads words line × Does line
+-- the words are a line that was done, and nothing was found
+pub record FindsNone (holds saves : Holding) (words : List Text) (old new : Option Text) : Type 0 where
+  pub line : Line
+  pub read : Reads words line
+  pub done : IsDone holds saves line old new 0
 
--- For some bytes of the collection file and some stop terms, of which there is none where no stop file is named, a
--- beginning of the answer to the query went out.
-pub record IsCutShortFromFiles (stop_file : Option (Bor Text)) (query : List ℕ) (old new : Option (List ℕ)) : Type 0 where
-  pub collection : List ℕ
-  pub stop : List (List ℕ)
-  pub none_named : stop_file ≡ None → stop ≡ []
-  pub cut_short : IsCutShort collection stop query old new
+-- the words have a fault, and not only that they ask for help
+abbrev pub AreMistaken : List Text → Type 0
+AreMistaken words = (kind : ErrorKind) × IsAmong kind (fault_of ix_app words) × (kind ≢ DisplayHelp)
 
--- a beginning of the answer to the question that the line asks went out
-abbrev pub IsLineCutShort : Line → Option (List ℕ) → Option (List ℕ) → Type 0
-IsLineCutShort (Ask stop_file collection query) old new = IsCutShortFromFiles stop_file query.now old new
+-- The refusal tells that the standard output cannot be written, which gained a beginning of the text.
+abbrev pub IsUnwritten : Text → Option Text → Option Text → Refusal → Type 0
+IsUnwritten text old new (refusal.Write path) = (path.now ≡ codes "-") × AppendsFront old new text
+IsUnwritten text old new _ = ⊥
 
--- What a refusal of these words leaves on the standard output: what was there; or, where they are a line, a beginning of its
--- answer behind that; or, where they ask for help, whatever of it went out.
-abbrev pub RefusalLeaves : List Text → Option (List ℕ) → Option (List ℕ) → Type 0
-RefusalLeaves words old new = Keeps old new ⊎ (AsksForHelp words ⊎ AreLine words (λ line. IsLineCutShort line old new))
+-- Why words that are no line were refused, and what that leaves of the standard output: they are mistaken, memory ran out,
+-- or the help that they ask for cannot be written.
+abbrev pub IsLineless : List Text → Option Text → Option Text → Refusal → Type 0
+IsLineless words old new refusal.Arguments = AreMistaken words × Keeps old new
+IsLineless words old new refusal.Memory = Keeps old new
+IsLineless words old new told = AsksForHelp words × IsUnwritten (help_of words) old new told
+
+-- The words were refused for this reason, and this is left of the standard output: they are no line, or what their line
+-- asks for was refused.
+pub data IsRefusedFor (holds : Holding) (words : List Text) (old new : Option Text) (told : Refusal) : Type 0 where
+  lineless : IsLineless words old new told → IsRefusedFor holds words old new told
+  undone : (line : Line) → Reads words line → IsLineRefused holds line old new told → IsRefusedFor holds words old new told
+
+-- The words were refused for one reason, and the error output gained the line that tells it.
+pub record IsRefused (holds : Holding) (words : List Text) (old new err_old err_new : Option Text) : Type 0 where
+  pub told : Refusal
+  pub reason : IsRefusedFor holds words old new told
+  pub line : IsTold told err_old err_new

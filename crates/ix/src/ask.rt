@@ -1,15 +1,15 @@
 //! A question to a collection, from its bytes to the names that are written.
-ghost use Rattle.std.specs.Prelude.{◌≡◌, ◌^◌, ◌<◌, ◌≤◌, length, All, IfOk, IfErr, OnOk, OnErr};
-ghost use Rattle.std.specs.Io.KnownBytes.{Appends};
+ghost use Rattle.std.specs.Prelude.{◌≡◌, ◌^◌, ◌<◌, ◌≤◌, length, All, IfOk, IfErr};
 ghost use Rattle.ix_text.specs.CollectionText.{IsCollectionText};
 ghost use Rattle.ix_text.specs.Collections.{collection_of};
-ghost use Rattle.ix_text.specs.Sinks.{AppendsFront};
-ghost use Rattle.ix.specs.Asking.{AreFound, IsAnswer, IsAnswered, Leaves, Refuses, RefusesInQuery, RefusesText};
+ghost use Rattle.ix.specs.Asking.{AreFound, IsAnswer, IsAnswered, Leaves, Refuses, RefusesInQuery};
+ghost use Rattle.ix.specs.Asking.{RefusesText};
 ghost use Rattle.ix_query.specs.Scans.{IsScan};
 
 use crate::names::name_lines_of;
+use crate::output::{Lines, write_whole};
 use ix_query::{Query, QueryError, scan};
-use ix_text::{Collection, CollectionError, StopList, WriteRefused, flush, put_all};
+use ix_text::{Collection, CollectionError, StopList, WriteRefused};
 use std::alloc::{AllocError, Global};
 use std::io::Write;
 use thiserror::Error;
@@ -34,11 +34,11 @@ pub enum AskError {
     Memory,
 }
 
-/// Writes the name of each document of the collection text that satisfies the query, with LF, in the order of the
-/// documents, flushes, and answers how many.
+/// Writes the name of each document of the collection text that satisfies the query, with LF, in
+/// the order of the documents, flushes, and answers how many.
 ///
-/// The stop list takes the words out of the documents and makes holes in the phrases of the query. Nothing is written
-/// but after `Ok` or `Write`; after `Write` a beginning of the names may be out.
+/// The stop list takes the words out of the documents and makes holes in the phrases of the query.
+/// Nothing is written but after `Ok` or `Write`; after `Write` a beginning of the names may be out.
 pub fn ask<W: Write>(
     alloc: Global,
     collection: &[u8],
@@ -46,38 +46,34 @@ pub fn ask<W: Write>(
     query: &str,
     out: &mut W,
 ) -> Result<usize, AskError>
-    ensures answered { IfOk result (IsAnswered collection.now stop.now query.now (W.contents out.old) (W.contents out.new)) }
-    ensures refused { IfErr result (Leaves collection.now stop.now query.now (W.contents out.old) (W.contents out.new)) }
+    ensures answered { IfOk result
+        (IsAnswered collection.now stop.now query.now (W.contents out.old) (W.contents out.new)) }
+    ensures refused { IfErr result
+        (Leaves collection.now stop.now query.now (W.contents out.old) (W.contents out.new)) }
 {
-    let answer = find_answer(alloc, collection, stop, query)?;
-    match write(&answer.lines, out) {
-        Ok(()) => Ok(answer.count),
+    let names = find_names(alloc, collection, stop, query)?;
+    match write_whole(out, &names.bytes) {
+        Ok(()) => Ok(names.count),
         Err(WriteRefused) => Err(AskError::Write),
     }
 }
 
-/// The lines of the names that were found, and how many there are.
-#[derive(Drop)]
-struct Answer {
-    lines: Vec<u8>,
-    count: usize,
-}
-
 /// What the collection text answers to the query.
-fn find_answer(
+fn find_names(
     alloc: Global,
     collection: &[u8],
     stop: &StopList,
     query: &str,
-) -> Result<Answer, AskError>
-    ensures found { IfOk result (λ answer. IsAnswer collection.now stop.now query.now answer.lines.items answer.count) }
+) -> Result<Lines, AskError>
+    ensures found { IfOk result
+        (λ names. IsAnswer collection.now stop.now query.now names.bytes.items names.count) }
     ensures refused { IfErr result (Refuses collection.now stop.now query.now) }
 {
     let documents = read(alloc, collection)?;
     let numbers = numbers_of(alloc, &documents, stop, query)?;
-    let lines = name_lines_of(alloc, documents.docs(), &numbers)?;
+    let bytes = name_lines_of(alloc, documents.docs(), &numbers)?;
     let count = numbers.len();
-    Ok(Answer { lines, count })
+    Ok(Lines { bytes, count })
 }
 
 /// The documents of a collection text.
@@ -100,8 +96,10 @@ fn numbers_of(
     query: &str,
 ) -> Result<Vec<u32>, AskError>
     requires { length documents.now ≤ 2 ^ 32 }
-    ensures found { IfOk result (λ numbers. AreFound stop.now query.now documents.now numbers.items) }
-    ensures below { IfOk result (λ numbers. All (λ number. number < length documents.now) numbers.items) }
+    ensures found { IfOk result
+        (λ numbers. AreFound stop.now query.now documents.now numbers.items) }
+    ensures below { IfOk result
+        (λ numbers. All (λ number. number < length documents.now) numbers.items) }
     ensures refused { IfErr result (RefusesInQuery stop.now query.now) }
 {
     match Query::parse(alloc, query, stop) {
@@ -118,21 +116,14 @@ fn scanned(
     tree: &Query,
 ) -> Result<Vec<u32>, AskError>
     requires { length documents.now ≤ 2 ^ 32 }
-    ensures scanned { IfOk result (λ numbers. IsScan (collection_of stop.now documents.now) tree.now numbers.items) }
-    ensures below { IfOk result (λ numbers. All (λ number. number < length documents.now) numbers.items) }
+    ensures scanned { IfOk result
+        (λ numbers. IsScan (collection_of stop.now documents.now) tree.now numbers.items) }
+    ensures below { IfOk result
+        (λ numbers. All (λ number. number < length documents.now) numbers.items) }
     ensures memory { IfErr result (λ error. error ≡ AskError.Memory) }
 {
     let numbers = scan(alloc, documents.docs(), stop, tree)?;
     Ok(numbers)
-}
-
-/// Writes the bytes and flushes.
-fn write<W: Write>(bytes: &[u8], out: &mut W) -> Result<(), WriteRefused>
-    ensures whole { OnOk result (Appends (W.contents out.old) (W.contents out.new) bytes.now) }
-    ensures front { OnErr result (AppendsFront (W.contents out.old) (W.contents out.new) bytes.now) }
-{
-    put_all(out, bytes)?;
-    flush(out)
 }
 
 impl From<AllocError> for AskError {

@@ -1,153 +1,214 @@
 //! What the program does for the words of its command line.
-ghost use Rattle.std.specs.Prelude.{◌≡◌, ◌≢◌, ◌≤◌, ◌⊎◌, [], None, IfOk, OnErr};
-ghost use Rattle.std.specs.Io.KnownBytes.{Keeps};
-ghost use Rattle.ix.specs.LineErrors.{IsHelp};
-ghost use Rattle.ix.specs.Lines.{texts_of};
-ghost use Rattle.ix.specs.Statuses.{AreLine, AsksForHelp, FindsNone, FindsSome, IsAnsweredFromFiles, IsCutShortFromFiles, IsLineCutShort, RefusalLeaves};
+//!
+//! A command is a file below, with its own contract; here is what all of them share: the words are
+//! read, help is printed, and a refusal is told.
 
-use crate::ask::ask;
-use crate::command_line::{Line, LineError, read_line};
-use crate::refusal::Refusal;
-use ix_text::StopList;
-use std::io::{ErrorKind, Write};
-use std::rt::Files;
-use std::{fs, io, str};
+ghost use Rattle.std.specs.Prelude.{◌≡◌, ◌≢◌, ◌≤◌, ◌⊎◌, IfOk, IfErr, OnOk};
+ghost use Rattle.std.specs.Io.KnownBytes.{Appends, Keeps};
+ghost use Rattle.ix.specs.Files.{AnyBytes};
+ghost use Rattle.ix.specs.Lines.{Refuses, texts_of};
+ghost use Rattle.ix.specs.Statuses.{FindsNone, FindsSome, IsDone, IsHelped, IsLineRefused};
+ghost use Rattle.ix.specs.Statuses.{IsLineless, IsUnwritten, IsRefused, IsRefusedFor, spelled};
 
+mod ask;
+mod build;
+mod merge;
+mod run_file;
+mod search;
+mod terms;
 #[cfg(test)]
 mod tests;
+mod upgrade;
 
-/// Something was found, or help was asked for.
+use crate::command_line::{Line, LineError, read_line};
+use crate::files::{FileSource, FileTarget, HostFiles};
+use crate::help::{help_on, with_help_as_flag};
+use crate::refusal::Refusal;
+use crate::refuse::refuse;
+use ix_text::{flush, put_all};
+use std::alloc::{AllocError, Global};
+use std::io::{Input, Write};
+use std::rt::Files;
+use std::sync::Wait;
+use std::thread::Threads;
+
+/// Something was found or written, or help was asked for.
 const FOUND: u8 = 0;
 
 /// Nothing was found.
 const NOTHING: u8 = 1;
 
-/// The command was refused.
-const REFUSED: u8 = 2;
+/// How much a command that writes a file has done.
+const ONE_FILE: usize = 1;
 
-/// Does what the words after the program's name ask for, with the files that they name, and answers the exit status:
-/// 0 where something was found, 1 where nothing was, 2 where it was refused.
-///
-/// What was found goes to `out`, and so does help; a refusal is one line on `err`, and whether that line could be
-/// written is not answered. A refusal leaves `out` as it was, but where a write was refused: a beginning of the names, or
-/// of the help that was asked for, is out then.
-pub fn command<R: Files + AllocGlobal, W: Write, E: Write>(
+/// [`command_over`] the files of the system, of whose bytes nothing is known.
+pub fn command<R: Files + Input + AllocGlobal + Threads + Wait + Sync, W: Write, E: Write>(
     rt: &R,
     words: &[&str],
     out: &mut W,
     err: &mut E,
 ) -> u8
     ensures status { result ≤ 2 }
-    ensures found { result ≡ 0 → AsksForHelp (texts_of words.now) ⊎ AreLine (texts_of words.now) (λ line. FindsSome line (W.contents out.old) (W.contents out.new)) }
-    ensures nothing { result ≡ 1 → AreLine (texts_of words.now) (λ line. FindsNone line (W.contents out.old) (W.contents out.new)) }
+    ensures found { result ≡ 0 →
+        IsHelped (spelled words.now) (W.contents out.old) (W.contents out.new)
+        ⊎ FindsSome AnyBytes AnyBytes (spelled words.now)
+        (W.contents out.old) (W.contents out.new) }
+    ensures nothing { result ≡ 1 →
+        FindsNone AnyBytes AnyBytes (spelled words.now) (W.contents out.old) (W.contents out.new) }
     ensures quiet { result ≢ 2 → Keeps (E.contents err.old) (E.contents err.new) }
-    ensures refused { result ≡ 2 → RefusalLeaves (texts_of words.now) (W.contents out.old) (W.contents out.new) }
+    ensures refused { result ≡ 2 →
+        IsRefused AnyBytes (spelled words.now) (W.contents out.old) (W.contents out.new)
+        (E.contents err.old) (E.contents err.new) }
 {
-    match read_line(rt.alloc(), words) {
-        Ok(line) => answer(rt, line, out, err),
-        Err(error) => answer_without_line(error, out, err),
-    }
+    command_over(rt, rt.alloc(), &HostFiles::new(rt), words, out, err)
 }
 
-/// Prints the help that the words ask for, or refuses them.
-fn answer_without_line<W: Write, E: Write>(error: LineError, out: &mut W, err: &mut E) -> u8
-    ensures status { (result ≡ 0) ⊎ (result ≡ 2) }
-    ensures help { result ≡ 0 → IsHelp error }
-    ensures quiet { result ≢ 2 → Keeps (E.contents err.old) (E.contents err.new) }
-    ensures refused { IsHelp error ⊎ Keeps (W.contents out.old) (W.contents out.new) }
-{
-    if let Some(help) = error.help() {
-        return match print_help(help, out) {
-            Ok(()) => FOUND,
-            Err(_) => refuse(err, Refusal::Write("-")),
-        };
-    }
-    match error {
-        LineError::Clap(_) => refuse(err, Refusal::Arguments),
-        LineError::Memory => refuse(err, Refusal::Memory),
-    }
-}
-
-fn print_help<W: Write>(help: &clap::Error, out: &mut W) -> io::Result<()> {
-    write!(out, "{help}")?;
-    out.flush()
-}
-
-/// Does a line that was read.
-fn answer<R: Files + AllocGlobal, W: Write, E: Write>(
+/// Does what the words after the program's name ask for, with the files that they name, and answers
+/// the exit status: 0 where something was found, a file was written or help was printed, 1 where
+/// nothing was found, 2 where it was refused.
+///
+/// What was found goes to `out`, and so does help, and nothing else does. A refusal is one line on
+/// `err`, and whether that line could be written is not answered. A refusal leaves `out` as it was,
+/// but where a write was refused: a beginning of the names, or of the help that was asked for, is
+/// out then.
+pub fn command_over<R: Threads + Wait + Sync, F: FileSource + FileTarget, W: Write, E: Write>(
     rt: &R,
-    line: Line<'_>,
+    alloc: Global,
+    files: &F,
+    words: &[&str],
     out: &mut W,
     err: &mut E,
 ) -> u8
     ensures status { result ≤ 2 }
-    ensures found { result ≡ 0 → FindsSome line.entry (W.contents out.old) (W.contents out.new) }
-    ensures nothing { result ≡ 1 → FindsNone line.entry (W.contents out.old) (W.contents out.new) }
+    ensures found { result ≡ 0 →
+        IsHelped (spelled words.now) (W.contents out.old) (W.contents out.new)
+        ⊎ FindsSome (F.holds files.now) (F.saved files.now) (spelled words.now)
+        (W.contents out.old) (W.contents out.new) }
+    ensures nothing { result ≡ 1 →
+        FindsNone (F.holds files.now) (F.saved files.now) (spelled words.now)
+        (W.contents out.old) (W.contents out.new) }
     ensures quiet { result ≢ 2 → Keeps (E.contents err.old) (E.contents err.new) }
-    ensures refused { result ≡ 2 → Keeps (W.contents out.old) (W.contents out.new) ⊎ IsLineCutShort line.entry (W.contents out.old) (W.contents out.new) }
+    ensures refused { result ≡ 2 →
+        IsRefused (F.holds files.now) (spelled words.now)
+        (W.contents out.old) (W.contents out.new) (E.contents err.old) (E.contents err.new) }
 {
-    let Line::Ask {
-        stop,
-        collection,
-        query,
-    } = line;
-    match run_ask(rt, stop, collection, query, out) {
-        Ok(0) => NOTHING,
-        Ok(_) => FOUND,
-        Err(refusal) => refuse(err, refusal),
+    let words = match with_help_as_flag(alloc, words) {
+        Ok(words) => words,
+        Err(AllocError) => return refuse(alloc, err, &Refusal::Memory),
+    };
+    match run(rt, alloc, files, words.as_slice(), out) {
+        Ok(status) => status,
+        Err(refusal) => refuse(alloc, err, &refusal),
     }
 }
 
-/// Asks a collection file, and answers how many documents were found.
-fn run_ask<'a, R: Files + AllocGlobal, W: Write>(
+/// Does what the words ask for, but for telling a refusal.
+fn run<'a, R: Threads + Wait + Sync, F: FileSource + FileTarget, W: Write>(
     rt: &R,
-    stop: Option<&'a str>,
-    collection: &'a str,
-    query: &str,
+    alloc: Global,
+    files: &F,
+    words: &'a [&'a str],
+    out: &mut W,
+) -> Result<u8, Refusal<'a>>
+    ensures status { IfOk result (λ status. status ≤ 1) }
+    ensures found { IfOk result (λ status. status ≡ 0 →
+        IsHelped (texts_of words.entry.now) (W.contents out.old) (W.contents out.new)
+        ⊎ FindsSome (F.holds files.now) (F.saved files.now) (texts_of words.entry.now)
+        (W.contents out.old) (W.contents out.new)) }
+    ensures nothing { IfOk result (λ status. status ≡ 1 →
+        FindsNone (F.holds files.now) (F.saved files.now) (texts_of words.entry.now)
+        (W.contents out.old) (W.contents out.new)) }
+    ensures refused { IfErr result (IsRefusedFor (F.holds files.now) (texts_of words.entry.now)
+        (W.contents out.old) (W.contents out.new)) }
+{
+    match read_line(alloc, words) {
+        Ok(line) => {
+            let count = do_line(rt, alloc, files, line, out)?;
+            Ok(if count == 0 { NOTHING } else { FOUND })
+        }
+        Err(error) => {
+            answer_without_line(words, error, out)?;
+            Ok(FOUND)
+        }
+    }
+}
+
+/// Does a line that was read, and answers how much was found.
+fn do_line<'a, R: Threads + Wait + Sync, F: FileSource + FileTarget, W: Write>(
+    rt: &R,
+    alloc: Global,
+    files: &F,
+    line: Line<'a>,
     out: &mut W,
 ) -> Result<usize, Refusal<'a>>
-    ensures answered { IfOk result (IsAnsweredFromFiles stop.entry query.now (W.contents out.old) (W.contents out.new)) }
-    ensures refused { OnErr result (Keeps (W.contents out.old) (W.contents out.new) ⊎ IsCutShortFromFiles stop.entry query.now (W.contents out.old) (W.contents out.new)) }
+    ensures done { IfOk result (IsDone (F.holds files.now) (F.saved files.now) line.entry
+        (W.contents out.old) (W.contents out.new)) }
+    ensures refused { IfErr result (IsLineRefused (F.holds files.now) line.entry
+        (W.contents out.old) (W.contents out.new)) }
 {
-    let stop = read_stop_list(rt, stop)?;
-    let bytes = read_file(rt, collection)?;
-    Ok(ask(rt.alloc(), &bytes, &stop, query, out)?)
-}
-
-/// The stop list of a file, or the empty one where no file is named.
-fn read_stop_list<'a, R: Files + AllocGlobal>(
-    rt: &R,
-    path: Option<&'a str>,
-) -> Result<StopList, Refusal<'a>>
-    ensures { IfOk result (λ stop. path.entry ≡ None → stop ≡ []) }
-{
-    let Some(path) = path else {
-        return Ok(StopList::empty(rt.alloc()));
-    };
-    let bytes = read_file(rt, path)?;
-    let Ok(text) = str::from_utf8(&bytes) else {
-        return Err(Refusal::NotUtf8(path));
-    };
-    match StopList::read(rt.alloc(), text) {
-        Ok(stop) => Ok(stop),
-        Err(error) => Err(Refusal::Stop(error)),
+    match line {
+        Line::Ask {
+            stop,
+            collection,
+            query,
+        } => ask::run(alloc, files, stop, collection, query, out),
+        Line::Search { index, query } => search::run(alloc, files, index, query, out),
+        Line::Terms { index, pattern } => terms::run(alloc, files, index, pattern, out),
+        Line::Build {
+            stop,
+            plan,
+            collection,
+            index,
+        } => match build::run(rt, alloc, files, stop, &plan, collection, index) {
+            Ok(()) => Ok(ONE_FILE),
+            Err(refusal) => Err(refusal),
+        },
+        Line::Run {
+            stop,
+            first,
+            collection,
+            run,
+        } => match run_file::run(alloc, files, stop, first, collection, run) {
+            Ok(()) => Ok(ONE_FILE),
+            Err(refusal) => Err(refusal),
+        },
+        Line::Upgrade { old, new } => match upgrade::run(alloc, files, old, new) {
+            Ok(()) => Ok(ONE_FILE),
+            Err(refusal) => Err(refusal),
+        },
     }
 }
 
-/// The bytes of a file.
-fn read_file<'a, R: Files + AllocGlobal>(rt: &R, path: &'a str) -> Result<Vec<u8>, Refusal<'a>> {
-    match fs::read(rt, path) {
-        Ok(bytes) => Ok(bytes),
-        Err(error) if error.kind() == ErrorKind::OutOfMemory => Err(Refusal::Memory),
-        Err(_) => Err(Refusal::Read(path)),
+/// Prints the help that words which are no line ask for, or refuses them for their error.
+fn answer_without_line<'a, W: Write>(
+    words: &[&str],
+    error: LineError,
+    out: &mut W,
+) -> Result<(), Refusal<'a>>
+    requires { Refuses (texts_of words.now) error }
+    ensures helped { OnOk result
+        (IsHelped (texts_of words.now) (W.contents out.old) (W.contents out.new)) }
+    ensures refused { IfErr result
+        (IsLineless (texts_of words.now) (W.contents out.old) (W.contents out.new)) }
+{
+    if error.help().is_some() {
+        return print_help(help_on(words), out);
+    }
+    match error {
+        LineError::Clap(_) => Err(Refusal::Arguments),
+        LineError::Memory => Err(Refusal::Memory),
     }
 }
 
-/// Prints one line on the error output.
-pub fn refuse<E: Write>(err: &mut E, refusal: Refusal<'_>) -> u8
-    ensures { result ≡ 2 }
+/// Prints a help text, and flushes.
+fn print_help<'a, W: Write>(text: &str, out: &mut W) -> Result<(), Refusal<'a>>
+    ensures printed { OnOk result (Appends (W.contents out.old) (W.contents out.new) text.now) }
+    ensures refused { IfErr result
+        (IsUnwritten text.now (W.contents out.old) (W.contents out.new)) }
 {
-    let _ = writeln!(err, "ix: {refusal}");
-    let _ = err.flush();
-    REFUSED
+    if put_all(out, text.as_bytes()).is_ok() && flush(out).is_ok() {
+        Ok(())
+    } else {
+        Err(Refusal::Write("-"))
+    }
 }

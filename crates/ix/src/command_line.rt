@@ -1,6 +1,7 @@
 //! The command line: the words after the program's name, as a line with one variant a command.
-ghost use Rattle.std.specs.Prelude.{◌≡◌, IfOk, IfErr, Some, IsSome, codes};
+ghost use Rattle.std.specs.Prelude.{◌≡◌, ◌<◌, ◌≤◌, IfOk, IfErr, Some, IsSome, codes};
 ghost use Rattle.clap.specs.Words.{found_of, rows_of, subcommand_rows_of};
+ghost use Rattle.ix_build.specs.declared.plan.Cut.TheVariants.{Docs};
 ghost use Rattle.ix.specs.Commands.{ix_built};
 ghost use Rattle.ix.specs.Entered.{Entered};
 ghost use Rattle.ix.specs.Lines.{Holds, IsMatched, Reads, Refuses, texts_of};
@@ -14,9 +15,16 @@ mod worked;
 
 use clap::ArgMatches;
 pub use error::LineError;
-use fields::{operand, option};
+use fields::{number_or, operand, option};
+use ix_build::{Cut, Plan, Runs};
 use std::alloc::Global;
 pub use worked::worked_lines;
+
+/// How many documents a block has, where the words do not say it.
+const BLOCK_DOCUMENTS: u32 = 1024;
+
+/// How many workers make the blocks, where the words do not say it.
+const WORKERS: u32 = 4;
 
 /// What the words ask for: a command with its options and operands. Each text is one of the words,
 /// or the part of one after `=`.
@@ -30,6 +38,49 @@ pub enum Line<'a> {
         collection: &'a str,
         /// The text of the query.
         query: &'a str,
+    },
+    /// `ix build [--stop FILE] [--block N] [--workers W] COLLECTION INDEX`.
+    Build {
+        /// The file of stop words, where one is named.
+        stop: Option<&'a str>,
+        /// How the collection is cut into blocks, and by how many workers these are made.
+        plan: Plan,
+        /// The file of documents.
+        collection: &'a str,
+        /// The index file to be written.
+        index: &'a str,
+    },
+    /// `ix search INDEX QUERY`.
+    Search {
+        /// The file of the index.
+        index: &'a str,
+        /// The text of the query.
+        query: &'a str,
+    },
+    /// `ix terms INDEX PATTERN`.
+    Terms {
+        /// The file of the index.
+        index: &'a str,
+        /// The text of the pattern.
+        pattern: &'a str,
+    },
+    /// `ix run [--stop FILE] [--first D] COLLECTION RUN`.
+    Run {
+        /// The file of stop words, where one is named.
+        stop: Option<&'a str>,
+        /// The number of the first document.
+        first: u32,
+        /// The file of documents.
+        collection: &'a str,
+        /// The run file to be written.
+        run: &'a str,
+    },
+    /// `ix upgrade OLD NEW`.
+    Upgrade {
+        /// The file of the index.
+        old: &'a str,
+        /// The index file to be written.
+        new: &'a str,
     },
 }
 
@@ -71,6 +122,11 @@ fn line_of<'a>(name: &str, matches: &ArgMatches<'a>) -> Line<'a>
 {
     match name {
         "ask" => ask_line(matches),
+        "build" => build_line(matches),
+        "search" => search_line(matches),
+        "terms" => terms_line(matches),
+        "run" => run_line(matches),
+        "upgrade" => upgrade_line(matches),
         _ => unreachable!(),
     }
 }
@@ -83,5 +139,80 @@ fn ask_line<'a>(matches: &ArgMatches<'a>) -> Line<'a>
         stop: option(matches, "stop"),
         collection: operand(matches, "COLLECTION"),
         query: operand(matches, "QUERY"),
+    }
+}
+
+fn build_line<'a>(matches: &ArgMatches<'a>) -> Line<'a>
+    requires { Entered ix_built (codes "build") (rows_of (found_of matches.now)) }
+    ensures { Holds (codes "build") (rows_of (found_of matches.now)) result }
+{
+    let stop = option(matches, "stop");
+    let block = number_or(matches, "block", BLOCK_DOCUMENTS);
+    let workers = number_or(matches, "workers", WORKERS);
+    let plan = plan_of(block, workers);
+    let collection = operand(matches, "COLLECTION");
+    let index = operand(matches, "INDEX");
+    Line::Build {
+        stop,
+        plan,
+        collection,
+        index,
+    }
+}
+
+// The plan of blocks of so many documents, and of so many workers.
+fn plan_of(block: u32, workers: u32) -> Plan
+    requires some { 0 < block }
+    requires some_workers { 0 < workers }
+    requires few_workers { workers ≤ 64 }
+    ensures cut { result.cut ≡ Docs block }
+    ensures workers { result.workers ≡ workers }
+{
+    Plan::new(Cut::Docs(block), workers as usize, Runs::Memory).unwrap()
+}
+
+fn search_line<'a>(matches: &ArgMatches<'a>) -> Line<'a>
+    requires { Entered ix_built (codes "search") (rows_of (found_of matches.now)) }
+    ensures { Holds (codes "search") (rows_of (found_of matches.now)) result }
+{
+    Line::Search {
+        index: operand(matches, "INDEX"),
+        query: operand(matches, "QUERY"),
+    }
+}
+
+fn terms_line<'a>(matches: &ArgMatches<'a>) -> Line<'a>
+    requires { Entered ix_built (codes "terms") (rows_of (found_of matches.now)) }
+    ensures { Holds (codes "terms") (rows_of (found_of matches.now)) result }
+{
+    Line::Terms {
+        index: operand(matches, "INDEX"),
+        pattern: operand(matches, "PATTERN"),
+    }
+}
+
+fn run_line<'a>(matches: &ArgMatches<'a>) -> Line<'a>
+    requires { Entered ix_built (codes "run") (rows_of (found_of matches.now)) }
+    ensures { Holds (codes "run") (rows_of (found_of matches.now)) result }
+{
+    let stop = option(matches, "stop");
+    let first = number_or(matches, "first", 0);
+    let collection = operand(matches, "COLLECTION");
+    let run = operand(matches, "RUN");
+    Line::Run {
+        stop,
+        first,
+        collection,
+        run,
+    }
+}
+
+fn upgrade_line<'a>(matches: &ArgMatches<'a>) -> Line<'a>
+    requires { Entered ix_built (codes "upgrade") (rows_of (found_of matches.now)) }
+    ensures { Holds (codes "upgrade") (rows_of (found_of matches.now)) result }
+{
+    Line::Upgrade {
+        old: operand(matches, "OLD"),
+        new: operand(matches, "NEW"),
     }
 }

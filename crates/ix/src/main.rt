@@ -1,33 +1,49 @@
-//! The program `ix`: asks a collection of named documents.
+//! The program `ix`: asks a collection of named documents, or an index of one.
 #![tactic(auto)]
 
 mod ask;
 mod command;
 mod command_line;
+mod files;
+mod help;
+mod index_file;
+mod listing;
 mod names;
+mod output;
 mod refusal;
+mod refuse;
+mod search;
 
-use command::{command, refuse};
+use command::command;
 use refusal::Refusal;
+use refuse::refuse;
 use std::alloc::AllocError;
 use std::env;
-use std::io::ErrorKind;
+use std::io::{ErrorKind, Input, Write};
 use std::process::ExitCode;
+use std::rt::Files;
+use std::sync::Wait;
+use std::thread::Threads;
 
 fn main(rt: HostRuntime) -> ExitCode {
     let refusal = match env::args(&rt) {
-        Ok(args) => match run(&rt, args) {
+        Ok(args) => match run(&rt, args, &mut rt.stdout(), &mut rt.stderr()) {
             Ok(status) => return ExitCode::from(status),
             Err(AllocError) => Refusal::Memory,
         },
         Err(error) if error.kind() == ErrorKind::OutOfMemory => Refusal::Memory,
         Err(_) => Refusal::Arguments,
     };
-    ExitCode::from(refuse(&mut rt.stderr(), refusal))
+    ExitCode::from(refuse(rt.alloc(), &mut rt.stderr(), &refusal))
 }
 
 /// Does what the words after the program's name ask for.
-fn run(rt: &HostRuntime, args: env::Args) -> Result<u8, AllocError> {
+fn run<R: Files + Input + AllocGlobal + Threads + Wait + Sync, W: Write, E: Write>(
+    rt: &R,
+    args: env::Args,
+    out: &mut W,
+    err: &mut E,
+) -> Result<u8, AllocError> {
     let mut texts = Vec::new(rt.alloc());
     for text in args.skip(1) {
         texts.push(text)?;
@@ -36,5 +52,5 @@ fn run(rt: &HostRuntime, args: env::Args) -> Result<u8, AllocError> {
     for text in &texts {
         words.push(text.as_str())?;
     }
-    Ok(command(rt, &words, &mut rt.stdout(), &mut rt.stderr()))
+    Ok(command(rt, &words, out, err))
 }

@@ -1,53 +1,143 @@
-//! Rows of the program: status and output of a command line, over files that the test writes.
+//! Rows of the program: status and output of a command line, over files that the test makes up.
 
-use super::command;
+mod building;
+mod indexes;
+mod saving;
+
+use super::{command, command_over};
+use crate::files::{FileSource, FileTarget, ReadFault, WriteFault};
+use crate::help::{
+    HELP, HELP_ON_ASK, HELP_ON_BUILD, HELP_ON_RUN, HELP_ON_SEARCH, HELP_ON_TERMS, HELP_ON_UPGRADE,
+};
+use indexes::{EMPTY, FIVE_FRONT_CODED, FIVE_PLAIN, ONE, RED, STOPPED};
+use std::alloc::Global;
+use std::io::{ErrorKind, Write};
 use std::process::Abort;
-use std::rt::{Env, Files};
+use std::sync::Wait;
 use std::test::Fail;
-use std::{env, fs};
+use std::thread::Threads;
+use std::{env, fs, io};
 
-/// A file of this text, in the folder for temporary files.
-fn file<R: Files + Env + AllocGlobal>(rt: &R, name: &str, text: &[u8]) -> Result<String, Fail> {
-    let folder = env::temp_dir(rt)?;
-    let path = format!(in rt.alloc(); "{}/ix-test-{name}", folder.as_path().display())?;
-    fs::write(rt, path.as_str(), text)?;
-    Ok(path)
+/// Files that a test makes up: each has a path and bytes. There is no memory for the path `large`.
+#[derive(Drop)]
+struct Made<'a> {
+    alloc: Global,
+    files: &'a [(&'a str, &'a [u8])],
+}
+
+impl<'a> Made<'a> {
+    fn find(&self, path: &str) -> Result<&'a [u8], ReadFault> {
+        for (name, bytes) in self.files {
+            if *name == path {
+                return Ok(bytes);
+            }
+        }
+        if path == "large" {
+            Err(ReadFault::Memory)
+        } else {
+            Err(ReadFault::Refused)
+        }
+    }
+}
+
+impl<'a> FileSource for Made<'a> {
+    ghost use Rattle.ix.specs.Files.{AnyBytes};
+
+    type Reader = &'a [u8];
+
+    ghost holds = { λ _. AnyBytes };
+
+    fn read(&self, path: &str, room: usize) -> Result<Vec<u8>, ReadFault> {
+        let bytes = self.find(path)?;
+        let end = bytes.len().min(room);
+        Vec::from_slice(self.alloc, &bytes[..end]).map_err(|_| ReadFault::Memory)
+    }
+
+    fn open(&self, path: &str) -> Result<&'a [u8], ReadFault> {
+        self.find(path)
+    }
+
+    ghost untold = { λ files path bytes reader none. tt };
+}
+
+/// They cannot be written.
+impl FileTarget for Made<'_> {
+    ghost use Rattle.ix.specs.Files.{AnyBytes};
+
+    type Writer = Vec<u8>;
+
+    ghost saved = { λ _. AnyBytes };
+
+    fn create(&self, _path: &str) -> Result<Vec<u8>, WriteFault> {
+        Err(WriteFault::Refused)
+    }
+
+    fn close(&self, _path: &str, _writer: Vec<u8>) -> Result<(), WriteFault> {
+        Err(WriteFault::Refused)
+    }
+
+    ghost untold = { λ files path bytes writer none. tt };
 }
 
 /// What the program answers: status, output and error output.
 #[derive(Drop)]
 struct Row<'a>(u8, &'a str, &'a str);
 
-/// Runs the program and compares.
-fn expect<R: Files + AllocGlobal + Abort>(
+const FIVE: &[u8] = b"a\tx y\nb\ty\nc\t\nd\ty x y\ne\tx\n";
+
+/// Runs the program over some files, and compares.
+fn expect<R: AllocGlobal + Abort + Threads + Wait + Sync>(
     rt: &R,
+    words: &[&str],
+    row: &Row<'_>,
+) -> Result<(), Fail> {
+    let files = Made {
+        alloc: rt.alloc(),
+        files: &[
+            ("five", FIVE),
+            ("empty", b""),
+            ("one", b"d\tflights to london\n"),
+            ("stop", b"To\n\nof"),
+            ("two words", b"to be\n"),
+            ("bytes", b"a\t\xff\n"),
+            ("no tab", b"x\n"),
+            ("no name", b"\ty\n"),
+            ("no line end", b"a\tb"),
+            ("empty.ix", EMPTY),
+            ("one.ix", ONE),
+            ("five.ix", FIVE_PLAIN),
+            ("five2.ix", FIVE_FRONT_CODED),
+            ("stopped.ix", STOPPED),
+            ("red.ix", RED),
+            ("short.ix", &EMPTY[..63]),
+            ("cut.ix", &ONE[..80]),
+            ("long text", LONG_TEXT),
+            ("zeros", &[0; 64]),
+        ],
+    };
+    expect_over(rt, &files, words, row)
+}
+
+const LONG_TEXT: &[u8] = b"a\tThis text is no index, and it has more than sixty-four bytes.\n";
+
+/// The same over these files.
+fn expect_over<R: AllocGlobal + Abort + Threads + Wait + Sync>(
+    rt: &R,
+    files: &Made<'_>,
     words: &[&str],
     row: &Row<'_>,
 ) -> Result<(), Fail> {
     let mut out = Vec::new(rt.alloc());
     let mut err = Vec::new(rt.alloc());
-    let status = command(rt, words, &mut out, &mut err);
+    let status = command_over(rt, rt.alloc(), files, words, &mut out, &mut err);
     assert!(rt; out.as_slice() == row.1.as_bytes());
     assert!(rt; err.as_slice() == row.2.as_bytes());
     assert_eq!(rt; status, row.0);
     Ok(())
 }
 
-/// Asks one collection each query.
-fn ask_each<R: Files + AllocGlobal + Abort>(
-    rt: &R,
-    collection: &str,
-    rows: &[(&str, Row<'_>)],
-) -> Result<(), Fail> {
-    for (query, row) in rows {
-        expect(rt, &["ask", collection, query], row)?;
-    }
-    Ok(())
-}
-
 #[test]
 fn queries_of_five_documents(rt: HostRuntime) -> Result<(), Fail> {
-    let five = file(&rt, "five", b"a\tx y\nb\ty\nc\t\nd\ty x y\ne\tx\n")?;
     let rows = [
         ("y", Row(0, "a\nb\nd\n", "")),
         ("Y", Row(0, "a\nb\nd\n", "")),
@@ -71,68 +161,240 @@ fn queries_of_five_documents(rt: HostRuntime) -> Result<(), Fail> {
         ("\"x*\"", Row(2, "", "ix: query 9: StarInPhrase\n")),
         ("e+mail NEAR/2 x", Row(2, "", "ix: query 10: NearWord\n")),
     ];
-    ask_each(&rt, five.as_str(), &rows)?;
-    fs::remove_file(&rt, five)?;
+    for (query, row) in &rows {
+        expect(&rt, &["ask", "five", query], row)?;
+        expect(&rt, &["search", "five.ix", query], row)?;
+        expect(&rt, &["search", "five2.ix", query], row)?;
+    }
+    Ok(())
+}
+
+#[test]
+fn a_collection_without_documents(rt: HostRuntime) -> Result<(), Fail> {
+    for query in ["a", "NOT a"] {
+        expect(&rt, &["ask", "empty", query], &Row(1, "", ""))?;
+        expect(&rt, &["search", "empty.ix", query], &Row(1, "", ""))?;
+    }
     Ok(())
 }
 
 #[test]
 fn stop_words(rt: HostRuntime) -> Result<(), Fail> {
-    let one = file(&rt, "one", b"d\tflights to london\n")?;
-    let stop = file(&rt, "stop", b"To\n\nof")?;
-    let faulty = file(&rt, "faulty-stop", b"to be\n")?;
-    let words = [
-        "ask",
-        "--stop",
-        stop.as_str(),
-        one.as_str(),
-        "\"flights to london\"",
-    ];
-    expect(&rt, &words, &Row(0, "d\n", ""))?;
-    let words = [
-        "ask",
-        "--stop",
-        stop.as_str(),
-        one.as_str(),
-        "\"flights london\"",
-    ];
-    expect(&rt, &words, &Row(1, "", ""))?;
-    let words = [
-        "ask",
-        "--stop",
-        stop.as_str(),
-        one.as_str(),
-        "\"to london\"",
-    ];
-    expect(&rt, &words, &Row(0, "d\n", ""))?;
-    let words = ["ask", "--stop", stop.as_str(), one.as_str(), "to"];
-    expect(&rt, &words, &Row(2, "", "ix: query 7: OnlyStopWords\n"))?;
-    let words = ["ask", "--stop", faulty.as_str(), one.as_str(), "x"];
-    expect(&rt, &words, &Row(2, "", "ix: stop 1: NotOneWord(1)\n"))?;
+    for (stop, query, row) in [
+        ("stop", "\"flights to london\"", Row(0, "d\n", "")),
+        ("stop", "\"flights london\"", Row(1, "", "")),
+        ("stop", "\"to london\"", Row(0, "d\n", "")),
+        ("stop", "to", Row(2, "", "ix: query 7: OnlyStopWords\n")),
+        ("two words", "x", Row(2, "", "ix: stop 1: NotOneWord(1)\n")),
+        ("bytes", "x", Row(2, "", "ix: file 3: NotUtf8(bytes)\n")),
+        ("none", "x", Row(2, "", "ix: file 1: Read(none)\n")),
+    ] {
+        expect(&rt, &["ask", "--stop", stop, "one", query], &row)?;
+    }
     Ok(())
 }
 
-/// Asks a collection of these bytes, which is refused.
-fn refused<R: Files + Env + AllocGlobal + Abort>(
-    rt: &R,
-    text: &[u8],
-    line: &str,
-) -> Result<(), Fail> {
-    let path = file(rt, "refused", text)?;
-    expect(rt, &["ask", path.as_str(), "y"], &Row(2, "", line))
+#[test]
+fn stop_words_of_an_index(rt: HostRuntime) -> Result<(), Fail> {
+    for (query, row) in [
+        ("\"flights to london\"", Row(0, "d\n", "")),
+        ("\"flights london\"", Row(1, "", "")),
+        ("\"to london\"", Row(0, "d\n", "")),
+        ("flights NEAR/2 london", Row(0, "d\n", "")),
+        ("to", Row(2, "", "ix: query 7: OnlyStopWords\n")),
+        ("to NEAR/2 london", Row(2, "", "ix: query 10: NearWord\n")),
+    ] {
+        expect(&rt, &["search", "stopped.ix", query], &row)?;
+    }
+    Ok(())
+}
+
+#[test]
+fn patterns_in_an_index(rt: HostRuntime) -> Result<(), Fail> {
+    for (query, row) in [
+        ("re*ed", Row(0, "d\n", "")),
+        ("q*", Row(1, "", "")),
+        ("red NEAR/2 retired", Row(0, "d\n", "")),
+        ("red NEAR/1 retired", Row(1, "", "")),
+    ] {
+        expect(&rt, &["search", "red.ix", query], &row)?;
+    }
+    Ok(())
+}
+
+#[test]
+fn terms_of_an_index(rt: HostRuntime) -> Result<(), Fail> {
+    for (path, pattern, row) in [
+        ("red.ix", "red*", Row(0, "red\t1\nredo\t1\n", "")),
+        ("red.ix", "re*d", Row(0, "red\t1\nretired\t1\n", "")),
+        ("red.ix", "re*ed", Row(0, "retired\t1\n", "")),
+        ("red.ix", "RE*D", Row(0, "red\t1\nretired\t1\n", "")),
+        ("red.ix", "q*", Row(1, "", "")),
+        ("red.ix", "red", Row(2, "", "ix: pattern 1: NoStar\n")),
+        ("red.ix", "*", Row(2, "", "ix: pattern 2: BareStar\n")),
+        ("red.ix", "**", Row(2, "", "ix: pattern 2: BareStar\n")),
+        // `y` is in three documents, four times.
+        ("five.ix", "y*", Row(0, "y\t3\n", "")),
+        ("five2.ix", "y*", Row(0, "y\t3\n", "")),
+        ("five.ix", "*x", Row(0, "x\t3\n", "")),
+        ("stopped.ix", "*o*", Row(0, "london\t1\n", "")),
+        ("empty.ix", "a*", Row(1, "", "")),
+    ] {
+        expect(&rt, &["terms", path, pattern], &row)?;
+    }
+    Ok(())
+}
+
+#[test]
+fn files_that_are_no_index(rt: HostRuntime) -> Result<(), Fail> {
+    for (path, line) in [
+        ("short.ix", "ix: index 1: Short\n"),
+        ("five", "ix: index 1: Short\n"),
+        ("zeros", "ix: index 2: Magic\n"),
+        ("long text", "ix: index 2: Magic\n"),
+        ("cut.ix", "ix: index 3: Trailer\n"),
+        ("no/such/file", "ix: file 1: Read(no/such/file)\n"),
+        ("large", "ix: memory 1: Memory\n"),
+    ] {
+        // The index is looked at before the query, or before the pattern.
+        for query in ["y", "x y"] {
+            expect(&rt, &["search", path, query], &Row(2, "", line))?;
+            expect(&rt, &["terms", path, query], &Row(2, "", line))?;
+        }
+    }
+    Ok(())
+}
+
+/// The index of one document with other bytes of postings.
+fn with_postings<R: AllocGlobal>(rt: &R, postings: &[u8]) -> Result<Vec<u8>, Fail> {
+    let mut bytes = Vec::from_slice(rt.alloc(), &ONE[..8])?;
+    bytes.extend_from_slice(postings)?;
+    bytes.extend_from_slice(&ONE[12..])?;
+    Ok(bytes)
+}
+
+#[test]
+fn an_index_with_a_position_out_of_range(rt: HostRuntime) -> Result<(), Fail> {
+    let bytes = with_postings(&rt, b"\x81\x82\x81\x82")?;
+    let files = Made {
+        alloc: rt.alloc(),
+        files: &[("index", &bytes)],
+    };
+    let row = Row(2, "", "ix: index 15: PositionRange\n");
+    expect_over(&rt, &files, &["search", "index", "a"], &row)
 }
 
 #[test]
 fn files_that_are_refused(rt: HostRuntime) -> Result<(), Fail> {
-    refused(&rt, b"a\t\xff\n", "ix: collection 2: NotUtf8(2)\n")?;
-    refused(&rt, b"x\n", "ix: collection 3: NoTab(1)\n")?;
-    refused(&rt, b"\ty\n", "ix: collection 4: Name(1)\n")?;
-    refused(&rt, b"a\tb", "ix: collection 5: NoLineEnd(1)\n")?;
-    let row = Row(2, "", "ix: file 1: Read(no/such/file)\n");
-    expect(&rt, &["ask", "no/such/file", "y"], &row)?;
-    expect(
-        &rt,
-        &["ask", "no/such/file"],
-        &Row(2, "", "ix: arguments refused\n"),
-    )
+    for (path, line) in [
+        ("bytes", "ix: collection 2: NotUtf8(2)\n"),
+        ("no tab", "ix: collection 3: NoTab(1)\n"),
+        ("no name", "ix: collection 4: Name(1)\n"),
+        ("no line end", "ix: collection 5: NoLineEnd(1)\n"),
+        ("no/such/file", "ix: file 1: Read(no/such/file)\n"),
+        ("large", "ix: memory 1: Memory\n"),
+        // A refusal is one line, whatever the path.
+        (
+            "a\nb\u{1b}[2J\u{9b}é",
+            "ix: file 1: Read(a\\x0ab\\x1b[2J\\x9bé)\n",
+        ),
+    ] {
+        expect(&rt, &["ask", path, "y"], &Row(2, "", line))?;
+    }
+    Ok(())
+}
+
+#[test]
+fn words_that_are_refused(rt: HostRuntime) -> Result<(), Fail> {
+    let row = Row(2, "", "ix: arguments refused\n");
+    expect(&rt, &["ask", "five"], &row)?;
+    expect(&rt, &["search", "five.ix"], &row)?;
+    expect(&rt, &["terms", "five.ix"], &row)?;
+    expect(&rt, &["search", "five.ix", "x", "y"], &row)?;
+    expect(&rt, &["search", "--stop", "stop", "five.ix", "x"], &row)?;
+    expect(&rt, &[], &row)?;
+    expect(&rt, &["help", "find"], &row)?;
+    Ok(())
+}
+
+#[test]
+fn help_of_the_program_and_of_each_command(rt: HostRuntime) -> Result<(), Fail> {
+    for (words, text) in [
+        (["--help"].as_slice(), HELP),
+        (["-h"].as_slice(), HELP),
+        (["help"].as_slice(), HELP),
+        (["ask", "--help"].as_slice(), HELP_ON_ASK),
+        (["ask", "-h", "five"].as_slice(), HELP_ON_ASK),
+        (["help", "ask"].as_slice(), HELP_ON_ASK),
+        (["search", "--help"].as_slice(), HELP_ON_SEARCH),
+        (["help", "search"].as_slice(), HELP_ON_SEARCH),
+        (["terms", "-h"].as_slice(), HELP_ON_TERMS),
+        (["help", "terms"].as_slice(), HELP_ON_TERMS),
+        (["build", "--help"].as_slice(), HELP_ON_BUILD),
+        (["run", "--help"].as_slice(), HELP_ON_RUN),
+        (["help", "upgrade"].as_slice(), HELP_ON_UPGRADE),
+    ] {
+        expect(&rt, words, &Row(0, text, ""))?;
+    }
+    for text in [HELP, HELP_ON_ASK, HELP_ON_SEARCH] {
+        assert!(rt; text.contains("Usage: ix ") && text.ends_with("\n"));
+        assert!(rt; text.contains("\n  a NEAR/3 b ") && text.contains("\n  inter*, re*ed "));
+        assert!(rt; text.contains("\nExit status: 0 "));
+    }
+    for text in [HELP, HELP_ON_ASK] {
+        assert!(rt; text.contains("\nA collection is a text"));
+    }
+    Ok(())
+}
+
+/// A writer that refuses each write.
+#[derive(Drop)]
+struct Full;
+
+impl Write for Full {
+    fn write(&mut self, _bytes: &[u8]) -> io::Result<usize> {
+        Err(io::Error::from(ErrorKind::StorageFull))
+    }
+
+    fn flush(&mut self) -> io::Result<()> {
+        Ok(())
+    }
+}
+
+#[test]
+fn writes_that_are_refused(rt: HostRuntime) -> Result<(), Fail> {
+    let files = Made {
+        alloc: rt.alloc(),
+        files: &[("five", FIVE), ("five.ix", FIVE_PLAIN)],
+    };
+    for words in [
+        ["ask", "five", "y"].as_slice(),
+        ["search", "five.ix", "y"].as_slice(),
+        ["terms", "five.ix", "y*"].as_slice(),
+        ["--help"].as_slice(),
+    ] {
+        let mut err = Vec::new(rt.alloc());
+        let status = command_over(&rt, rt.alloc(), &files, words, &mut Full, &mut err);
+        assert!(rt; err.as_slice() == b"ix: file 2: Write(-)\n".as_slice());
+        assert_eq!(rt; status, 2);
+        // Where the line cannot be written either, the status tells.
+        let status = command_over(&rt, rt.alloc(), &files, words, &mut Full, &mut Full);
+        assert_eq!(rt; status, 2);
+    }
+    Ok(())
+}
+
+#[test]
+fn a_file_of_the_system(rt: HostRuntime) -> Result<(), Fail> {
+    let folder = env::temp_dir(&rt)?;
+    let path = format!(in rt.alloc(); "{}/ix-test-five", folder.as_path().display())?;
+    fs::write(&rt, path.as_str(), FIVE)?;
+    let mut out = Vec::new(rt.alloc());
+    let mut err = Vec::new(rt.alloc());
+    let words = ["ask", path.as_str(), "NOT x"];
+    let status = command(&rt, &words, &mut out, &mut err);
+    fs::remove_file(&rt, path.as_str())?;
+    assert!(rt; out.as_slice() == b"b\nc\n".as_slice() && err.is_empty());
+    assert_eq!(rt; status, 0);
+    Ok(())
 }

@@ -2,22 +2,41 @@
 ghost use Rattle.std.specs.Prelude.{◌≡◌, IfOk};
 ghost use Rattle.clap.specs.Words.{app_of};
 ghost use Rattle.ix.specs.Building.{IsArgument, IsCommand};
-ghost use Rattle.ix.specs.Commands.{ask_shape, ix_app, leaf, operand_rule, option_rule};
+ghost use Rattle.ix.specs.Commands.{ask_shape, build_shape, ix_app, leaf, number_rule, operand_rule};
+ghost use Rattle.ix.specs.Commands.{option_rule, program, run_shape, search_shape};
+ghost use Rattle.ix.specs.Commands.{terms_shape, upgrade_shape};
 
+use clap::builder::ValueParser;
 use clap::{Arg, Command};
 use std::alloc::{AllocError, Global};
+
+/// The greatest number that a document may have, and one more.
+const MAX_DOCUMENTS: i64 = 1 << 28;
+
+/// How many workers a build may have.
+const MAX_WORKERS: i64 = 64;
 
 /// The program.
 pub fn ix<'a>(alloc: Global) -> Result<Command<'a>, AllocError>
     ensures { IfOk result (λ r. app_of r ≡ ix_app) }
 {
+    let with_ask = program(alloc).subcommand(ask(alloc)?)?;
+    let with_search = with_ask.subcommand(search(alloc)?)?;
+    let with_terms = with_search.subcommand(terms(alloc)?)?;
+    let with_run = with_terms.subcommand(run(alloc)?)?;
+    let with_upgrade = with_run.subcommand(upgrade(alloc)?)?;
+    let with_build = with_upgrade.subcommand(build(alloc)?)?;
+    Ok(with_build)
+}
+
+// The program without a command.
+fn program<'a>(alloc: Global) -> Command<'a>
+    ensures { app_of result ≡ program }
+{
     Command::new(alloc, "ix")
-        .about("A positional inverted index over the documents of a collection")
-        .bin_name("ix")?
         .no_binary_name(true)
         .disable_help_subcommand(true)
         .subcommand_required(true)
-        .subcommand(ask(alloc)?)
 }
 
 #[tactic(auto, using(crate::proofs::Building::adds_argument))]
@@ -25,29 +44,82 @@ fn ask<'a>(alloc: Global) -> Result<Command<'a>, AllocError>
     ensures { IfOk result (IsCommand (leaf ask_shape)) }
 {
     Command::new(alloc, "ask")
-        .about("Prints the name of each document that answers a query")
-        .arg(option(alloc, "stop", "FILE", "The file of stop words, one a line"))?
-        .arg(operand(
-            alloc,
-            "COLLECTION",
-            "The file of documents, each a line with a name, a tab and a text",
-        ))?
-        .arg(operand(alloc, "QUERY", "The query, as one argument"))
+        .arg(option(alloc, "stop"))?
+        .arg(operand(alloc, "COLLECTION"))?
+        .arg(operand(alloc, "QUERY"))
+}
+
+fn build<'a>(alloc: Global) -> Result<Command<'a>, AllocError>
+    ensures { IfOk result (IsCommand (leaf build_shape)) }
+{
+    let plain = Command::new(alloc, "build");
+    let with_stop = plain.arg(option(alloc, "stop"))?;
+    let with_block = with_stop.arg(number(alloc, "block", 1, MAX_DOCUMENTS))?;
+    let with_workers = with_block.arg(number(alloc, "workers", 1, MAX_WORKERS))?;
+    let with_collection = with_workers.arg(operand(alloc, "COLLECTION"))?;
+    let with_index = with_collection.arg(operand(alloc, "INDEX"))?;
+    Ok(with_index)
+}
+
+#[tactic(auto, using(crate::proofs::Building::adds_argument))]
+fn search<'a>(alloc: Global) -> Result<Command<'a>, AllocError>
+    ensures { IfOk result (IsCommand (leaf search_shape)) }
+{
+    Command::new(alloc, "search")
+        .arg(operand(alloc, "INDEX"))?
+        .arg(operand(alloc, "QUERY"))
+}
+
+#[tactic(auto, using(crate::proofs::Building::adds_argument))]
+fn terms<'a>(alloc: Global) -> Result<Command<'a>, AllocError>
+    ensures { IfOk result (IsCommand (leaf terms_shape)) }
+{
+    Command::new(alloc, "terms")
+        .arg(operand(alloc, "INDEX"))?
+        .arg(operand(alloc, "PATTERN"))
+}
+
+#[tactic(auto, using(crate::proofs::Building::adds_argument))]
+fn run<'a>(alloc: Global) -> Result<Command<'a>, AllocError>
+    ensures { IfOk result (IsCommand (leaf run_shape)) }
+{
+    Command::new(alloc, "run")
+        .arg(option(alloc, "stop"))?
+        .arg(number(alloc, "first", 0, MAX_DOCUMENTS))?
+        .arg(operand(alloc, "COLLECTION"))?
+        .arg(operand(alloc, "RUN"))
+}
+
+#[tactic(auto, using(crate::proofs::Building::adds_argument))]
+fn upgrade<'a>(alloc: Global) -> Result<Command<'a>, AllocError>
+    ensures { IfOk result (IsCommand (leaf upgrade_shape)) }
+{
+    Command::new(alloc, "upgrade")
+        .arg(operand(alloc, "OLD"))?
+        .arg(operand(alloc, "NEW"))
 }
 
 // `--name VALUE` or `--name=VALUE`, at most once.
-fn option<'a>(alloc: Global, name: &'a str, value: &'a str, help: &'a str) -> Arg<'a>
+fn option<'a>(alloc: Global, name: &'a str) -> Arg<'a>
     ensures { IsArgument (option_rule name.entry.now) result }
+{
+    // The name of its value makes it take one.
+    Arg::new(alloc, name).long(name).value_name("VALUE")
+}
+
+// The same, for a number from `low` to `high`.
+fn number<'a>(alloc: Global, name: &'a str, low: i64, high: i64) -> Arg<'a>
+    ensures { IsArgument (number_rule name.entry.now low high) result }
 {
     Arg::new(alloc, name)
         .long(name)
-        .value_name(value)
-        .help(help)
+        .value_name("VALUE")
+        .value_parser(ValueParser::signed(low, high))
 }
 
 // A word that has to be there.
-fn operand<'a>(alloc: Global, name: &'a str, help: &'a str) -> Arg<'a>
+fn operand<'a>(alloc: Global, name: &'a str) -> Arg<'a>
     ensures { IsArgument (operand_rule name.entry.now) result }
 {
-    Arg::new(alloc, name).required(true).help(help)
+    Arg::new(alloc, name).required(true)
 }

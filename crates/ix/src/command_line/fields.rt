@@ -1,7 +1,7 @@
 //! One field of a line, read from the matches of its command.
-ghost use Rattle.std.specs.Prelude.{IsSome};
-ghost use Rattle.clap.specs.Words.{first_of, found_of, rows_of};
-ghost use Rattle.ix.specs.Lines.{HasOperand, HasText};
+ghost use Rattle.std.specs.Prelude.{IfSome, IsSome};
+ghost use Rattle.clap.specs.Words.{first_of, found_of, one_of, rows_of};
+ghost use Rattle.ix.specs.Lines.{HasNumberOr, HasOperand, HasText, IsNumberText};
 
 use clap::ArgMatches;
 
@@ -10,6 +10,14 @@ pub fn option<'a>(matches: &ArgMatches<'a>, id: &str) -> Option<&'a str>
     ensures { HasText id.now (rows_of (found_of matches.now)) result }
 {
     matches.get_str(id)
+}
+
+/// The number of an option, or another one where the words do not give it.
+pub fn number_or(matches: &ArgMatches<'_>, id: &str, otherwise: u32) -> u32
+    requires { IfSome (one_of id.now (rows_of (found_of matches.now))) IsNumberText }
+    ensures { HasNumberOr id.now otherwise (rows_of (found_of matches.now)) result }
+{
+    matches.get_one::<u32>(id).unwrap_or(otherwise)
 }
 
 /// An operand that the words give.

@@ -7,5 +7,5 @@ use Rattle.ix.proofs.ask.scanned.Goals as goal
 pub returns-clause-below : goal.returns-clause-below
 returns-clause-below c =
     let numbers = c.in_ok-numbers.numbers.items in
-    let scanned = subst (λ (documents : List NamedText). IsScan (collection_of c.args.stop.now documents) c.args.tree.now numbers) c.docs.ensures c.in_ok-numbers.ensures in
+    let scanned = subst (λ (documents : List NamedText). IsScan (collection_of c.args.stop.now documents) c.args.tree.now numbers) c.docs.ensures.documents c.in_ok-numbers.ensures in
     numbers_below c.args.stop.now c.args.documents.now c.args.tree.now numbers scanned

@@ -1,19 +1,14 @@
--- Each setting changes its own field alone, and a parse does not read the texts.
-use Rattle.std.proofs.Common.{true, refl}
-use Rattle.std.proofs.lemmas.Result.{IfOk-weaker}
-use Rattle.clap.specs.Simple.{on_top}
-use Rattle.clap.specs.declared.builder.command.Command.TheViews.{out-Command as fields_of}
+-- Each command is added to those before it.
 use Rattle.ix.specs.Commands.{ix_app}
-use Rattle.ix.proofs.Building.{about_set, adds_subcommand, same_app, sets}
+use Rattle.ix.proofs.Building.{adds_subcommand}
 use Rattle.ix.proofs.command_line.commands.ix.Goals as goal
 
 pub returns : goal.returns
 unfolding ix_app
 returns c =
-    let named = about_set _ _ _ c.about.ensures c.new.ensures.app in
-    let called = sets _ _ (λ r. record r { bin_name = (fields_of c.in_ok-bin_name.field-0).bin_name }) same_app (λ r. refl) c.in_ok-bin_name.ensures.0 named in
-    let bare = sets _ _ (λ r. record r { no_binary_name = true }) (on_top (λ s. record s { no_binary_name = true })) (λ r. refl) c.no_binary_name.ensures called in
-    let helpless = sets _ _ (λ r. record r { disable_help_subcommand = true }) (on_top (λ s. record s { disable_help_subcommand = true })) (λ r. refl)
-    c.disable_help_subcommand.ensures bare in
-    let wanted = sets _ _ (λ r. record r { subcommand_required = true }) (on_top (λ s. record s { subcommand_required = true })) (λ r. refl) c.subcommand_required.ensures helpless in
-    IfOk-weaker c.subcommand.result _ _ (λ r adds. adds_subcommand adds wanted c.in_ok-ask.ensures) c.subcommand.ensures
+    let with_ask = adds_subcommand c.in_ok-with_ask.ensures c.program.ensures c.in_ok-ask.ensures in
+    let with_search = adds_subcommand c.in_ok-with_search.ensures with_ask c.in_ok-search.ensures in
+    let with_terms = adds_subcommand c.in_ok-with_terms.ensures with_search c.in_ok-terms.ensures in
+    let with_run = adds_subcommand c.in_ok-with_run.ensures with_terms c.in_ok-run.ensures in
+    let with_upgrade = adds_subcommand c.in_ok-with_upgrade.ensures with_run c.in_ok-upgrade.ensures in
+    adds_subcommand c.in_ok-with_build.ensures with_upgrade c.in_ok-build.ensures

@@ -1,0 +1,37 @@
+-- What was read of the collection file makes the index of the whole file.
+use Rattle.std.proofs.lemmas.Result.{on_ok_weaker}
+use Rattle.ix.specs.BuiltIndexes.{IsUnbuilt, no_stop_list, no_file, no_documents, unbuilt}
+use Rattle.ix.proofs.BuildLemmas.{documents_of_files, refuses_documents_whole}
+use Rattle.ix.proofs.FileLemmas.{err_weaker, handed_up}
+use Rattle.ix.proofs.command.build.run.Goals as goal
+
+pub returns-in_err-stop-clause-refused : goal.returns-in_err-stop-clause-refused
+returns-in_err-stop-clause-refused g c = handed_up _ c.from_residual.result c.in_err-stop.field-0.0 c.from_residual.ensures.1 (no_stop_list c.in_err-stop.ensures.refused)
+
+pub returns-in_err-text-clause-refused : goal.returns-in_err-text-clause-refused
+returns-in_err-text-clause-refused g c = handed_up _ c.from_residual-in_err-text.result c.in_err-text.field-0.0 c.from_residual-in_err-text.ensures.1 (no_file c.in_err-text.ensures.refused)
+
+pub returns-in_err-documents-clause-refused : goal.returns-in_err-documents-clause-refused
+returns-in_err-documents-clause-refused g c =
+    let front = c.in_ok-text.ensures.front in
+    let refused = rw c.deref.ensures.value at c.in_err-documents.ensures.refused in
+    handed_up _ c.from_residual-in_err-documents.result c.in_err-documents.field-0.0 c.from_residual-in_err-documents.ensures.1
+    (no_documents front.whole c.in_ok-stop.stop front.held c.in_ok-stop.ensures.held (refuses_documents_whole _ front.whole _ front.cut refused))
+
+pub returns-clause-built : goal.returns-clause-built
+returns-clause-built g c =
+    let front = c.in_ok-text.ensures.front in
+    let read = rw c.deref.ensures.value at c.in_ok-documents.ensures.read in
+    on_ok_weaker c.save.result (λ saved. record {
+      stop = c.in_ok-stop.stop;
+      documents = c.in_ok-documents.documents;
+      of_files = documents_of_files _ _ _ _ _ _ front c.in_ok-stop.ensures.held read;
+      saved = saved;
+    }) c.save.ensures.saved
+
+pub returns-clause-refused : goal.returns-clause-refused
+returns-clause-refused g c =
+    let front = c.in_ok-text.ensures.front in
+    let read = rw c.deref.ensures.value at c.in_ok-documents.ensures.read in
+    err_weaker c.save.result (IsUnbuilt c.args.plan.now.workers c.args.output.now) _
+    (λ told is. unbuilt _ _ (documents_of_files _ _ _ _ _ _ front c.in_ok-stop.ensures.held read) is) c.save.ensures.refused

@@ -1,0 +1,29 @@
+//! `ix search`: asks an index file.
+
+ghost use Rattle.std.specs.Prelude.{IfOk, IfErr};
+ghost use Rattle.ix.specs.IndexFiles.{IsSearchRefused, IsSearchedFromFile};
+
+use crate::files::FileSource;
+use crate::index_file::open_index;
+use crate::refusal::Refusal;
+use crate::search::search;
+use std::alloc::Global;
+use std::io::Write;
+
+/// Writes the names of the documents of the index file that answer the query, and answers how many
+/// there are. The query is read under the stop list of the index.
+pub fn run<'a, F: FileSource, W: Write>(
+    alloc: Global,
+    files: &F,
+    index: &'a str,
+    query: &str,
+    out: &mut W,
+) -> Result<usize, Refusal<'a>>
+    ensures answered { IfOk result (IsSearchedFromFile (F.holds files.now) index.entry.now query.now
+        (W.contents out.old) (W.contents out.new)) }
+    ensures refused { IfErr result (IsSearchRefused (F.holds files.now) index.entry.now query.now
+        (W.contents out.old) (W.contents out.new)) }
+{
+    let volume = open_index(alloc, files, index)?;
+    Ok(search(alloc, &volume.index(), query, out)?)
+}

@@ -1,0 +1,145 @@
+//! `ix build` over files in memory.
+
+use super::FIVE;
+use super::indexes::FIVE_FRONT_CODED;
+use super::saving::{Disk, disk_of_texts, expect, has};
+use crate::command::command_over;
+use std::process::Abort;
+use std::sync::Wait;
+use std::test::Fail;
+use std::thread::Threads;
+
+/// Runs the program over the disk, and compares the status and what it prints.
+fn expect_names<R: AllocGlobal + Abort + Threads + Wait + Sync>(
+    rt: &R,
+    disk: &Disk,
+    words: &[&str],
+    status: u8,
+    names: &str,
+) -> Result<(), Fail> {
+    let mut out = Vec::new(rt.alloc());
+    let mut err = Vec::new(rt.alloc());
+    assert_eq!(rt;
+        command_over(rt, rt.alloc(), disk, words, &mut out, &mut err),
+        status
+    );
+    assert!(rt; out.as_slice() == names.as_bytes());
+    assert!(rt; err.is_empty());
+    Ok(())
+}
+
+fn disk_of_five<R: AllocGlobal>(rt: &R) -> Result<Disk, Fail> {
+    let disk = disk_of_texts(rt)?;
+    match disk.put("five", FIVE) {
+        Ok(()) => Ok(disk),
+        Err(_) => Err(Fail::from("the disk is full")),
+    }
+}
+
+#[test]
+fn plans_build_one_index(rt: HostRuntime) -> Result<(), Fail> {
+    let disk = disk_of_five(&rt)?;
+    assert_eq!(rt; FIVE_FRONT_CODED.len(), 119);
+    for words in [
+        ["build", "five", "new"].as_slice(),
+        ["build", "--block", "1", "--workers", "1", "five", "new"].as_slice(),
+        ["build", "--block", "1", "--workers", "3", "five", "new"].as_slice(),
+        ["build", "--block=2", "--workers=1", "five", "new"].as_slice(),
+        ["build", "--block=2", "--workers=3", "five", "new"].as_slice(),
+        ["build", "five", "new", "--block", "1024"].as_slice(),
+        [
+            "build",
+            "--block",
+            "268435456",
+            "--workers",
+            "64",
+            "five",
+            "new",
+        ]
+        .as_slice(),
+    ] {
+        expect(&rt, &disk, words, "")?;
+        assert!(rt; has(&disk, "new", FIVE_FRONT_CODED));
+    }
+    Ok(())
+}
+
+#[test]
+fn what_was_built_answers_as_the_collection(rt: HostRuntime) -> Result<(), Fail> {
+    let disk = disk_of_five(&rt)?;
+    expect(&rt, &disk, &["build", "five", "new"], "")?;
+    for (query, status, names) in [
+        ("y", 0, "a\nb\nd\n"),
+        ("x AND y", 0, "a\nd\n"),
+        ("\"x y\"", 0, "a\nd\n"),
+        ("NOT y", 0, "c\ne\n"),
+        ("z", 1, ""),
+    ] {
+        expect_names(&rt, &disk, &["ask", "five", query], status, names)?;
+        expect_names(&rt, &disk, &["search", "new", query], status, names)?;
+    }
+    // A word that was left out is none of the index.
+    expect(&rt, &disk, &["build", "--stop", "stop", "one", "new"], "")?;
+    expect_names(&rt, &disk, &["terms", "new", "t*"], 1, "")?;
+    expect_names(
+        &rt,
+        &disk,
+        &["search", "new", "\"flights to london\""],
+        0,
+        "d\n",
+    )?;
+    expect(&rt, &disk, &["build", "one", "new"], "")?;
+    expect_names(&rt, &disk, &["terms", "new", "t*"], 0, "to\t1\n")
+}
+
+#[test]
+fn builds_that_are_refused(rt: HostRuntime) -> Result<(), Fail> {
+    let disk = disk_of_five(&rt)?;
+    for (words, line) in [
+        (["build", "five"].as_slice(), "ix: arguments refused\n"),
+        (
+            ["build", "--block", "0", "five", "new"].as_slice(),
+            "ix: arguments refused\n",
+        ),
+        (
+            ["build", "--block", "268435457", "five", "new"].as_slice(),
+            "ix: arguments refused\n",
+        ),
+        (
+            ["build", "--workers", "0", "five", "new"].as_slice(),
+            "ix: arguments refused\n",
+        ),
+        (
+            ["build", "--workers", "65", "five", "new"].as_slice(),
+            "ix: arguments refused\n",
+        ),
+        (
+            ["build", "--stop", "two words", "no tab", "new"].as_slice(),
+            "ix: stop 1: NotOneWord(1)\n",
+        ),
+        (
+            ["build", "no tab", "none"].as_slice(),
+            "ix: collection 3: NoTab(1)\n",
+        ),
+        (
+            ["build", "no such", "new"].as_slice(),
+            "ix: file 1: Read(no such)\n",
+        ),
+    ] {
+        expect(&rt, &disk, words, line)?;
+        // The output was not created.
+        assert!(rt; disk.get("new").is_err());
+    }
+    expect(
+        &rt,
+        &disk,
+        &["build", "five", "none"],
+        "ix: file 2: Write(none)\n",
+    )?;
+    expect(
+        &rt,
+        &disk,
+        &["build", "five", "full"],
+        "ix: build 3: Write\n",
+    )
+}

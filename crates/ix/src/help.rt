@@ -1,0 +1,241 @@
+//! What the program says of itself.
+
+ghost use Rattle.std.specs.Prelude.{◌≡◌, IfOk};
+ghost use Rattle.ix.specs.Help.{as_flag, help_of, help_on_command};
+ghost use Rattle.ix.specs.Lines.{texts_of};
+
+use std::alloc::{AllocError, Global};
+
+/// What `ix --help` prints.
+pub const HELP: &str = "\
+Finds the documents of a collection that answer a query.
+
+Usage: ix COMMAND ..
+
+Commands, in the order in which they are met:
+  ask       prints the names of the documents that answer a query, without an index
+            ix ask examples/mail.txt 'contract AND NOT hotel'
+  build     builds an index of a collection, to be searched as often as one likes
+            ix build examples/mail.txt mail.ix
+  search    prints the names of the documents of an index that answer a query
+            ix search mail.ix 'contract AND NOT hotel'
+  terms     prints the terms of an index that match a pattern
+            ix terms mail.ix 'contr*'
+  run       inverts a part of a collection into a run file, to be merged elsewhere
+            ix run examples/mail.txt mail.run
+  upgrade   writes an index anew, in the newest version of the format
+            ix upgrade mail.ix mail-2.ix
+
+`ix COMMAND --help` and `ix help COMMAND` tell more of a command.
+
+A collection is a text in which each line is a document:
+its name, a TAB, and its text.
+
+What can be asked:
+  fox               documents that hold the word, in any case
+  \"brown fox\"       the words one after another
+  a AND b           what answers a and b
+  a OR b            what answers a, or b, or both
+  NOT a             what does not answer a
+  a NEAR/3 b        both words, at most 3 positions apart, in either order
+  inter*, re*ed     a word that begins so, or begins and ends so
+  (a OR b) AND c    brackets group; NOT binds tightest, and OR least
+
+Exit status: 0 something was found, or help was asked for; 1 nothing was found;
+2 refused, and one line on the error output says why.
+
+Examples:
+  ix ask examples/mail.txt 'contract AND NOT hotel'
+  ix ask examples/mail.txt '\"flights to london\" OR umbrella NEAR/3 station'
+";
+
+/// What `ix ask --help` prints.
+pub const HELP_ON_ASK: &str = "\
+Prints the names of the documents of a collection that answer a query, one a line.
+
+Usage: ix ask [--stop FILE] COLLECTION QUERY
+
+  COLLECTION     the file of documents; `-` is the standard input
+  QUERY          the query, as one argument
+  --stop FILE    a file of words to leave out, one a line
+
+A collection is a text in which each line is a document:
+its name, a TAB, and its text.
+
+What can be asked:
+  fox               documents that hold the word, in any case
+  \"brown fox\"       the words one after another
+  a AND b           what answers a and b
+  a OR b            what answers a, or b, or both
+  NOT a             what does not answer a
+  a NEAR/3 b        both words, at most 3 positions apart, in either order
+  inter*, re*ed     a word that begins so, or begins and ends so
+  (a OR b) AND c    brackets group; NOT binds tightest, and OR least
+
+Exit status: 0 something was found, or help was asked for; 1 nothing was found;
+2 refused, and one line on the error output says why.
+
+Examples:
+  ix ask examples/mail.txt 'contract AND NOT hotel'
+  ix ask examples/mail.txt '\"flights to london\" OR umbrella NEAR/3 station'
+";
+
+/// What `ix build --help` prints.
+pub const HELP_ON_BUILD: &str = "\
+Builds an index of a collection: a file that is searched without reading the collection.
+
+Usage: ix build [--stop FILE] [--block N] [--workers W] COLLECTION INDEX
+
+  COLLECTION     the file of documents; `-` is the standard input
+  INDEX          the index file to be written; it is created once COLLECTION was read
+  --stop FILE    a file of words to leave out, one a line
+  --block N      how many documents are inverted at a time,
+                 from 1 to 268435456; without it 1024
+  --workers W    how many threads invert them, from 1 to 64; without it 4
+
+The index is the same whatever N and W are.
+
+A collection is a text in which each line is a document:
+its name, a TAB, and its text.
+
+Exit status: 0 the index was written, or help was asked for; 2 refused, and one line
+on the error output says why; the index file may then hold a beginning.
+
+Examples:
+  ix build examples/mail.txt mail.ix
+  ix build --workers 8 --block 256 examples/mail.txt mail.ix
+";
+
+/// What `ix search --help` prints.
+pub const HELP_ON_SEARCH: &str = "\
+Prints the names of the documents of an index that answer a query, one a line.
+
+Usage: ix search INDEX QUERY
+
+  INDEX          the file of the index; `-` is the standard input
+  QUERY          the query, as one argument
+
+The words that were left out of the index are no words of a query either.
+
+What can be asked:
+  fox               documents that hold the word, in any case
+  \"brown fox\"       the words one after another
+  a AND b           what answers a and b
+  a OR b            what answers a, or b, or both
+  NOT a             what does not answer a
+  a NEAR/3 b        both words, at most 3 positions apart, in either order
+  inter*, re*ed     a word that begins so, or begins and ends so
+  (a OR b) AND c    brackets group; NOT binds tightest, and OR least
+
+Exit status: 0 something was found, or help was asked for; 1 nothing was found;
+2 refused, and one line on the error output says why.
+
+Examples:
+  ix search mail.ix 'contract AND NOT hotel'
+  ix search mail.ix '\"flights to london\" OR umbrella NEAR/3 station'
+";
+
+/// What `ix terms --help` prints.
+pub const HELP_ON_TERMS: &str = "\
+Prints the terms of an index that match a pattern, one a line, in the order of
+their bytes: the term, a TAB, and in how many documents it is.
+
+Usage: ix terms INDEX PATTERN
+
+  INDEX      the file of the index; `-` is the standard input
+  PATTERN    the pattern, as one argument, with at least one star
+
+A term is a word without its case. A star stands for any characters, or none:
+  inter*     terms that begin so
+  *ation     terms that end so
+  re*ed      terms that begin and end so
+  *tract*    terms that hold this
+
+Exit status: 0 something was found, or help was asked for; 1 nothing was found;
+2 refused, and one line on the error output says why.
+
+Example:
+  ix terms mail.ix 'contr*'
+";
+
+/// What `ix run --help` prints.
+pub const HELP_ON_RUN: &str = "\
+Inverts a collection, or a part of one, into a run file. Runs that are made on several
+machines, each of a part of one collection, are merged into one index.
+
+Usage: ix run [--stop FILE] [--first D] COLLECTION RUN
+
+  COLLECTION     the file of documents; `-` is the standard input
+  RUN            the run file to be written; it is created once the run is made
+  --stop FILE    a file of words to leave out, one a line; the same for all runs
+  --first D      the number of the first document in the whole collection,
+                 from 0 to 268435456; without it 0
+
+A collection is a text in which each line is a document:
+its name, a TAB, and its text.
+
+Exit status: 0 the run was written, or help was asked for; 2 refused, and one line
+on the error output says why; the run file may then hold a beginning.
+
+Examples:
+  ix run examples/mail.txt mail.run
+  ix run --first 1000 examples/mail.txt mail-1000.run
+";
+
+/// What `ix upgrade --help` prints.
+pub const HELP_ON_UPGRADE: &str = "\
+Writes the collection of an index anew, as an index of the newest version.
+
+Usage: ix upgrade OLD NEW
+
+  OLD            the file of the index, of version 1 or 2; `-` is the standard input
+  NEW            the index file to be written; it is created once OLD was read
+
+An index of version 2 gives the same bytes.
+
+Exit status: 0 the index was written, or help was asked for; 2 refused, and one line
+on the error output says why; the new file may then hold a beginning.
+
+Example:
+  ix upgrade mail.ix mail-2.ix
+";
+
+/// The words with `help X` spelled as `X --help`.
+pub fn with_help_as_flag<'a>(alloc: Global, words: &[&'a str]) -> Result<Vec<&'a str>, AllocError>
+    ensures { IfOk result (λ list. texts_of list.items ≡ as_flag (texts_of words.now)) }
+{
+    match words {
+        [first, rest @ ..] if *first == "help" => {
+            let mut list = Vec::from_slice(alloc, rest)?;
+            list.push("--help")?;
+            Ok(list)
+        }
+        _ => Vec::from_slice(alloc, words),
+    }
+}
+
+/// The help that is asked for: on the command that the first word names, and else on the program.
+#[tactic(auto, unfolding(crate::specs::Help::help_of))]
+pub fn help_on(words: &[&str]) -> &'static str
+    ensures { result.now ≡ help_of (texts_of words.now) }
+{
+    match words.first() {
+        Some(name) => help_on_command(name),
+        None => HELP,
+    }
+}
+
+#[tactic(auto, unfolding(crate::specs::Help::help_on_command))]
+fn help_on_command(name: &str) -> &'static str
+    ensures { result.now ≡ help_on_command name.now }
+{
+    match name {
+        "ask" => HELP_ON_ASK,
+        "search" => HELP_ON_SEARCH,
+        "terms" => HELP_ON_TERMS,
+        "run" => HELP_ON_RUN,
+        "upgrade" => HELP_ON_UPGRADE,
+        "build" => HELP_ON_BUILD,
+        _ => HELP,
+    }
+}
