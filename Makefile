@@ -1,8 +1,9 @@
 # make        proves and builds the program, puts it at build/ix, and asks the sample collection a question
 # make test   the gate: proves every crate from nothing, tries the must-fail edits, runs the tests and the program
+# make cookbook   runs each recipe of docs/cookbook.md with build/ix
 RT := $(shell command -v rt 2> /dev/null)
 
-.PHONY: all test toolchain
+.PHONY: all test cookbook toolchain
 
 all: toolchain
 	@echo "proving and building crates/ix (the first time takes some minutes; build/prove.log tells how it goes) .."
@@ -15,6 +16,9 @@ all: toolchain
 test: toolchain
 	@echo "the gate: every proof from nothing, the must-fail edits, the tests, the program .."
 	@rt ci
+
+cookbook: all
+	@examples/check-cookbook.sh build/ix
 
 toolchain:
 ifeq ($(RT),)

@@ -1,0 +1,74 @@
+#!/bin/sh
+# Runs each recipe of docs/cookbook.md on files that it makes, and compares what is printed. Usage: check-cookbook.sh [IX]
+set -eu
+examples=$(cd "$(dirname "$0")" && pwd)
+ix=${1:-$(dirname "$examples")/build/ix}
+case $ix in /*) ;; *) ix=$(pwd)/$ix ;; esac
+work=$(mktemp -d)
+trap 'rm -rf "$work"' EXIT
+trap 'exit 1' HUP INT TERM
+cd "$work"
+failed=0
+
+# prints NAME EXPECTED ACTUAL
+prints() {
+    if [ "$2" = "$3" ]; then
+        echo "ok: $1"
+    else
+        echo "FAILED: $1: expected '$2', was '$3'" >&2
+        failed=1
+    fi
+}
+
+mkdir -p notes/2026
+printf '# Plan\nThe release\nplan for May.\n' > notes/2026/plan.md
+printf '# Draft\nA release plan, draft.\n' > notes/draft.md
+printf '# Lost\n\none umbrella, red\n' > notes/lost.md
+printf 'release plan\n' > notes/other.txt
+"$examples/collect.py" folder notes '*.md' > notes.tsv
+prints "a folder of files" notes/2026/plan.md "$("$ix" ask notes.tsv '"release plan" AND NOT draft')"
+prints "names for xargs" "notes/lost.md:3:one umbrella, red" \
+    "$("$ix" ask notes.tsv 'umbrella' | xargs -d '\n' grep -H -n -i umbrella)"
+
+cat > archive.mbox <<'MAIL'
+From anna@example.org Mon Mar  2 08:00:00 2026
+Message-ID: <1@example.org>
+Subject: Flights
+Content-Type: text/plain; charset=utf-8
+
+The early flight
+to London is booked.
+
+From boris@example.org Mon Mar  2 09:00:00 2026
+Message-ID: <2@example.org>
+Subject: Hotel
+Content-Type: text/plain; charset=utf-8
+
+No flight yet, and the hotel is not in the city of London.
+MAIL
+"$examples/collect.py" mbox archive.mbox > mail.tsv
+prints "a mailbox" 1@example.org "$("$ix" ask mail.tsv 'flight NEAR/3 london')"
+
+printf 'id,what,note\no-16,"chair, oak",old\no-17,"table, oak","two tablets, ""new"""\n' > orders.csv
+"$examples/collect.py" csv orders.csv id > orders.tsv
+prints "a CSV file" o-17 "$("$ix" ask orders.tsv 'oak AND tab*')"
+
+if [ -d /usr/share/doc ]; then
+    "$examples/collect.py" folder /usr/share/doc copyright > licences.tsv
+    status=0
+    "$ix" ask licences.tsv '"apache license" AND NOT "gpl"' > /dev/null || status=$?
+    prints "the licences of a Debian system" "0 or 1" "$([ $status -le 1 ] && echo '0 or 1' || echo $status)"
+fi
+
+gzip mail.tsv
+prints "a compressed collection" "1@example.org
+2@example.org" "$(zcat mail.tsv.gz | "$ix" ask - 'london')"
+
+gunzip mail.tsv.gz
+status=0
+"$ix" ask mail.tsv 'rome' > names || status=$?
+prints "nothing found is status 1" 1 "$status"
+status=0
+"$ix" ask mail.tsv 'a b' > names 2> refusal || status=$?
+prints "refused is status 2" "2 ix: query 2: Unexpected(2)" "$status $(cat refusal)"
+exit $failed
