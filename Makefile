@@ -1,9 +1,10 @@
 # make        proves and builds the program, puts it at build/ix, and asks the sample collection a question
 # make test   the gate: proves every crate from nothing, tries the must-fail edits, runs the tests and the program
 # make cookbook   runs each recipe of docs/cookbook.md with build/ix
+# make check-program   runs build/ix whole, as a process, on worked examples, pipes, full devices and refused files
 RT := $(shell command -v rt 2> /dev/null)
 
-.PHONY: all test cookbook toolchain
+.PHONY: all test cookbook check-program toolchain
 
 all: toolchain
 	@echo "proving and building crates/ix (the first time takes some minutes; build/prove.log tells how it goes) .."
@@ -19,6 +20,9 @@ test: toolchain
 
 cookbook: all
 	@examples/check-cookbook.sh build/ix
+
+check-program: all
+	@tests/check_program.py build/ix
 
 toolchain:
 ifeq ($(RT),)
