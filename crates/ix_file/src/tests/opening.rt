@@ -1,5 +1,5 @@
 //! Opening index texts: what they stand for, and why others are refused.
-use super::plain::{framed_text, plain_text, plain_text_of};
+use super::plain::{plain_text, plain_text_of};
 use super::sample::{Entry, Sample};
 use super::telling::tell;
 use super::vectors::{
@@ -12,7 +12,7 @@ use std::process::Abort;
 use std::test::Fail;
 
 /// The rows of the documents of an index.
-fn rows_in<'a>(alloc: Global, index: &Index<'a>) -> Result<Vec<DocRow<'a>>, Fail> {
+pub(crate) fn rows_in<'a>(alloc: Global, index: &Index<'a>) -> Result<Vec<DocRow<'a>>, Fail> {
     let mut rows = Vec::new(alloc);
     for document in 0..index.doc_count() {
         rows.push(DocRow {
@@ -24,7 +24,7 @@ fn rows_in<'a>(alloc: Global, index: &Index<'a>) -> Result<Vec<DocRow<'a>>, Fail
 }
 
 /// The terms of an index with their postings.
-fn entries_in(alloc: Global, index: &Index<'_>) -> Result<Vec<Entry>, Fail> {
+pub(crate) fn entries_in(alloc: Global, index: &Index<'_>) -> Result<Vec<Entry>, Fail> {
     let mut entries = Vec::new(alloc);
     for number in 0..index.term_count() {
         let mut postings = Vec::new(alloc);
@@ -52,7 +52,7 @@ fn written_again(rt: &impl Abort, alloc: Global, index: &Index<'_>) -> Result<Ve
 }
 
 /// Why the text is refused, as it is printed, or nothing.
-fn refusal(alloc: Global, text: &[u8]) -> Result<String, Fail> {
+pub(crate) fn refusal(alloc: Global, text: &[u8]) -> Result<String, Fail> {
     match Index::open(alloc, text) {
         Ok(_) => Ok(String::new(alloc)),
         Err(error) => Ok(error.to_string(alloc)?),
@@ -101,7 +101,12 @@ fn samples_are_opened(rt: HostRuntime) -> Result<(), Fail> {
 }
 
 /// Whether a term is in exactly these documents.
-fn is_in(alloc: Global, index: &Index<'_>, term: &str, want: &[u32]) -> Result<bool, Fail> {
+pub(crate) fn is_in(
+    alloc: Global,
+    index: &Index<'_>,
+    term: &str,
+    want: &[u32],
+) -> Result<bool, Fail> {
     let mut documents = Vec::new(alloc);
     if let Some(postings) = index.find(term) {
         for posting in postings {
@@ -112,7 +117,12 @@ fn is_in(alloc: Global, index: &Index<'_>, term: &str, want: &[u32]) -> Result<b
 }
 
 /// Whether exactly the terms of these numbers have a gram.
-fn is_gram_of(alloc: Global, index: &Index<'_>, gram: &str, want: &[u32]) -> Result<bool, Fail> {
+pub(crate) fn is_gram_of(
+    alloc: Global,
+    index: &Index<'_>,
+    gram: &str,
+    want: &[u32],
+) -> Result<bool, Fail> {
     let mut numbers = Vec::new(alloc);
     if let Some(found) = index.gram(gram) {
         for number in found {
@@ -233,340 +243,6 @@ fn accepted_changes_are_written_again(rt: HostRuntime) -> Result<(), Fail> {
             change_each_byte(&rt, alloc, &mut text)?;
         }
     }
-    Ok(())
-}
-
-/// A text from the bytes of its sections and the counts of its trailer, and why it is refused.
-type Case<'a> = ([&'a [u8]; 5], [u32; 2], &'a str);
-
-/// Whether the texts of a version with these sections are refused so.
-fn are_refused(alloc: Global, version: u8, cases: &[Case<'_>]) -> Result<bool, Fail> {
-    for &(sections, counts, want) in cases {
-        let text = framed_text(alloc, version, sections, counts)?;
-        let got = refusal(alloc, &text)?;
-        if got.as_str() != want {
-            return Ok(false);
-        }
-    }
-    Ok(true)
-}
-
-/// Faults of STOP and of DOCS.
-const STOP_AND_DOCS: [Case<'_>; 18] = [
-    ([b"", b"\x80", b"", b"", b""], [0, 0], "TermSize"),
-    ([b"", b"\x02\x80b", b"", b"", b""], [0, 0], "TermSize"),
-    ([b"", b"\x82b", b"", b"", b""], [0, 0], "Number(STOP, Cut)"),
-    ([b"", b"\x81\xff", b"", b"", b""], [0, 0], "Text"),
-    ([b"", b"\x81b\x81a", b"", b"", b""], [0, 0], "StopOrder"),
-    ([b"", b"\x80", b"\x80", b"", b""], [0, 0], "TermSize"),
-    ([b"", b"", b"\x82a\t\x80", b"", b""], [1, 0], "Name"),
-    ([b"", b"", b"\x82a\n\x80", b"", b""], [1, 0], "Name"),
-    ([b"", b"", b"\x02\x80", b"", b""], [1, 0], "Name"),
-    ([b"", b"", b"\x81\xff\x80", b"", b""], [1, 0], "Text"),
-    ([b"", b"", b"\x81d", b"", b""], [1, 0], "Number(DOCS, Cut)"),
-    (
-        [b"", b"", b"\x81d\x00\x81", b"", b""],
-        [1, 0],
-        "Number(DOCS, LeadingZero)",
-    ),
-    ([b"", b"", b"\x81d\x80", b"", b""], [1 << 28, 0], "Counts"),
-    (
-        [b"", b"", b"\x81d\x80", b"", b""],
-        [(1 << 28) + 1, 0],
-        "TooLarge",
-    ),
-    ([b"", b"", b"\x81d\x80", b"", b""], [1, 1 << 28], "Counts"),
-    (
-        [b"", b"", b"\x81d\x01\0\0\0\x80\x81e\x81", b"", b""],
-        [2, 0],
-        "TooLarge",
-    ),
-    (
-        [b"", b"", b"\x81d\x01\0\0\0\x80\x81e\x80", b"", b""],
-        [2, 0],
-        "",
-    ),
-    ([b"", b"", b"\x81d\x80", b"", b""], [1, 0], ""),
-];
-
-#[test]
-fn faults_of_stop_terms_and_documents(rt: HostRuntime) -> Result<(), Fail> {
-    assert!(rt; are_refused(rt.alloc(), b'1', &STOP_AND_DOCS)?);
-    assert!(rt; are_refused(rt.alloc(), b'2', &STOP_AND_DOCS)?);
-    Ok(())
-}
-
-// sections of small texts
-const ONE_GRAM: &[u8] = b"\x83$a$\x81\x81";
-
-const TWO_GRAMS: &[u8] = b"\x83$a$\x81\x81\x83$b$\x81\x82";
-
-const LIST_OF_FOUR: &[u8] = b"\x81a\x81\x84";
-
-const TWO_LISTS: &[u8] = b"\x81a\x81\x83\x81b\x81\x83";
-
-const TWO_DOCUMENTS: &[u8] = b"\x81d\x81\x81e\x81";
-
-/// Faults of POSTINGS, and tokens told twice.
-const LISTS: [Case<'_>; 13] = [
-    (
-        [
-            b"\x81\x82\x81\x82",
-            b"",
-            b"\x81d\x82",
-            LIST_OF_FOUR,
-            ONE_GRAM,
-        ],
-        [1, 1],
-        "PositionRange",
-    ),
-    (
-        [
-            b"\x81\x81\x81\x81",
-            b"",
-            b"\x81d\x82",
-            LIST_OF_FOUR,
-            ONE_GRAM,
-        ],
-        [1, 1],
-        "ListLength",
-    ),
-    (
-        [
-            b"\x10\0\0\0\x80",
-            b"",
-            b"\x81d\x82",
-            b"\x81a\x81\x85",
-            ONE_GRAM,
-        ],
-        [1, 1],
-        "Number(POSTINGS, TooBig)",
-    ),
-    (
-        [b"\x10\0\0\0", b"", b"\x81d\x82", LIST_OF_FOUR, ONE_GRAM],
-        [1, 1],
-        "ListLength",
-    ),
-    (
-        [
-            b"\x81\x81\x81\x82\x81\x81",
-            b"",
-            TWO_DOCUMENTS,
-            b"\x81a\x82\x86",
-            ONE_GRAM,
-        ],
-        [2, 1],
-        "DocRange",
-    ),
-    (
-        [
-            b"\x81\x81\x81\x81\x81\x81",
-            b"",
-            TWO_DOCUMENTS,
-            b"\x81a\x82\x86",
-            ONE_GRAM,
-        ],
-        [2, 1],
-        "",
-    ),
-    // list lengths whose sum would wrap in 32 bits
-    (
-        [
-            b"\x81\x81\x81",
-            b"",
-            b"\x81d\x82",
-            b"\x81a\x81\x0f\x7f\x7f\x7f\xff\x81b\x81\x84",
-            b"",
-        ],
-        [1, 2],
-        "ListLength",
-    ),
-    // TWO_LISTS terms at LIST_OF_FOUR position, also where the document has far more tokens than the file has bytes
-    (
-        [
-            b"\x81\x81\x81\x81\x81\x81",
-            b"",
-            b"\x81d\x81",
-            TWO_LISTS,
-            TWO_GRAMS,
-        ],
-        [1, 2],
-        "Doubled",
-    ),
-    (
-        [
-            b"\x81\x81\x81\x81\x81\x81",
-            b"",
-            b"\x81d\x01\0\0\0\x80",
-            TWO_LISTS,
-            TWO_GRAMS,
-        ],
-        [1, 2],
-        "Doubled",
-    ),
-    (
-        [
-            b"\x81\x81\x81\x81\x81\x81",
-            b"",
-            b"\x81d\x81",
-            TWO_LISTS,
-            b"",
-        ],
-        [1, 2],
-        "Doubled",
-    ),
-    (
-        [
-            b"\x81\x81\x81\x81\x81\x82",
-            b"",
-            b"\x81d\x81",
-            TWO_LISTS,
-            TWO_GRAMS,
-        ],
-        [1, 2],
-        "PositionRange",
-    ),
-    (
-        [
-            b"\x81\x81\x81\x81\x81\x82",
-            b"",
-            b"\x81d\x82",
-            TWO_LISTS,
-            TWO_GRAMS,
-        ],
-        [1, 2],
-        "",
-    ),
-    (
-        [
-            b"\x81\x81\x81\x81\x81\x82",
-            b"",
-            b"\x81d\x01\0\0\0\x80",
-            TWO_LISTS,
-            TWO_GRAMS,
-        ],
-        [1, 2],
-        "",
-    ),
-];
-
-#[test]
-fn faults_of_lists(rt: HostRuntime) -> Result<(), Fail> {
-    assert!(rt; are_refused(rt.alloc(), b'1', &LISTS)?);
-    Ok(())
-}
-
-const ONE_LIST: &[u8] = b"\x81\x81\x81";
-
-const THREE_LISTS: &[u8] = b"\x81\x81\x81\x81\x81\x82\x81\x81\x83";
-
-const LIST_OF_THREE: &[u8] = b"\x81a\x81\x83";
-
-/// Faults of terms and of GRAMS.
-const TERMS_AND_GRAMS: [Case<'_>; 6] = [
-    (
-        [
-            THREE_LISTS,
-            b"",
-            b"\x81d\x83",
-            b"\x81b\x81\x83\x81a\x81\x83\x81c\x81\x83",
-            b"",
-        ],
-        [1, 3],
-        "TermOrder",
-    ),
-    (
-        [
-            THREE_LISTS,
-            b"\x81b",
-            b"\x81d\x83",
-            b"\x81a\x81\x83\x81b\x81\x83\x81c\x81\x83",
-            b"",
-        ],
-        [1, 3],
-        "StopIndexed",
-    ),
-    (
-        [ONE_LIST, b"", b"\x81d\x81", LIST_OF_THREE, b""],
-        [1, 1],
-        "Grams",
-    ),
-    (
-        [
-            ONE_LIST,
-            b"",
-            b"\x81d\x81",
-            LIST_OF_THREE,
-            b"\x83$a$\x81\x81\x80",
-        ],
-        [1, 1],
-        "Grams",
-    ),
-    (
-        [
-            ONE_LIST,
-            b"",
-            b"\x81d\x81",
-            LIST_OF_THREE,
-            b"\x83$a$\x81\x00",
-        ],
-        [1, 1],
-        "Grams",
-    ),
-    (
-        [
-            ONE_LIST,
-            b"",
-            b"\x81d\x81",
-            LIST_OF_THREE,
-            b"\x83$a$\x81\x81\x83$b$\x81\x81",
-        ],
-        [1, 1],
-        "Grams",
-    ),
-];
-
-/// Fronts that are longer than the term before, or than its longest, and one with nothing behind it.
-const FRONT_FAULTS: [Case<'_>; 3] = [
-    (
-        [
-            THREE_LISTS,
-            b"",
-            b"\x81d\x83",
-            b"\x83red\x81\x83\x84\x81o\x81\x83\x82\x85tired\x81\x83",
-            b"",
-        ],
-        [1, 3],
-        "Front",
-    ),
-    (
-        [
-            THREE_LISTS,
-            b"",
-            b"\x81d\x83",
-            b"\x83red\x81\x83\x83\x80\x81\x83\x82\x85tired\x81\x83",
-            b"",
-        ],
-        [1, 3],
-        "Front",
-    ),
-    (
-        [
-            THREE_LISTS,
-            b"",
-            b"\x81d\x83",
-            b"\x83red\x81\x83\x82\x82do\x81\x83\x82\x85tired\x81\x83",
-            b"",
-        ],
-        [1, 3],
-        "Front",
-    ),
-];
-
-#[test]
-fn faults_of_terms_and_grams(rt: HostRuntime) -> Result<(), Fail> {
-    assert!(rt; are_refused(rt.alloc(), b'1', &TERMS_AND_GRAMS)?);
-    assert!(rt; are_refused(rt.alloc(), b'2', &FRONT_FAULTS)?);
     Ok(())
 }
 

@@ -11,7 +11,7 @@ pub(crate) struct Sample<'a> {
 }
 
 /// A term with its postings: documents, each with positions.
-#[derive(Drop)]
+#[derive(PartialEq, Eq, Drop)]
 pub(crate) struct Entry {
     pub(crate) term: String,
     pub(crate) postings: Vec<(u32, Vec<u32>)>,

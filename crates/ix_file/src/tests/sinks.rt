@@ -11,20 +11,22 @@ use std::test::Fail;
 
 /// A sink in memory that takes so many bytes and refuses what is beyond them, and may refuse to flush.
 #[derive(Drop)]
-struct Sink {
-    bytes: Vec<u8>,
+pub(crate) struct Sink {
+    pub(crate) bytes: Vec<u8>,
     room: usize,
     flushes: bool,
-    was_flushed: bool,
+    pub(crate) was_flushed: bool,
+    pub(crate) was_refused: bool,
 }
 
 impl Sink {
-    fn new(alloc: Global, room: usize, flushes: bool) -> Sink {
+    pub(crate) fn new(alloc: Global, room: usize, flushes: bool) -> Sink {
         Sink {
             bytes: Vec::new(alloc),
             room,
             flushes,
             was_flushed: false,
+            was_refused: false,
         }
     }
 }
@@ -33,6 +35,7 @@ impl Write for Sink {
     fn write(&mut self, bytes: &[u8]) -> io::Result<usize> {
         let count = bytes.len().min(self.room);
         if count < 1 && !bytes.is_empty() {
+            self.was_refused = true;
             return Err(ErrorKind::BrokenPipe.into());
         }
         self.bytes.extend_from_slice(&bytes[..count])?;

@@ -9,7 +9,7 @@ use std::alloc::Global;
 use std::io::Write;
 use std::process::Abort;
 
-/// Tells a small collection to a writer of version 2 over the sink.
+/// Tells a collection of fewer than a million documents and positions to a writer of version 2 over the sink.
 pub(crate) fn tell<W: Write>(
     rt: &impl Abort,
     alloc: Global,
@@ -18,7 +18,7 @@ pub(crate) fn tell<W: Write>(
     rows: &[DocRow<'_>],
     entries: &[Entry],
 ) -> Result<(), PutError> {
-    assert!(rt; rows.len() < 1000);
+    assert!(rt; rows.len() < 1_000_000);
     assert!(rt; rows.iter().all(|row| row.name.len() < 256));
     let mut writer = IndexWriter::begin(alloc, out, stop, rows);
     let mut count = 0;
@@ -29,11 +29,11 @@ pub(crate) fn tell<W: Write>(
         for (document, positions) in &entry.postings {
             let positions = positions.as_slice();
             assert!(rt; next <= *document);
-            assert!(rt; *document < 1000);
+            assert!(rt; *document < 1_000_000);
             assert!(rt; is_ascending(positions));
             assert!(rt; !positions.is_empty());
-            assert!(rt; count < 1000);
-            assert!(rt; positions.len() < 1000);
+            assert!(rt; count < 1_000_000);
+            assert!(rt; positions.len() < 1_000_000);
             writer.posting(*document, positions)?;
             next = document + 1;
             count += positions.len();
@@ -49,7 +49,7 @@ fn is_ascending(numbers: &[u32]) -> bool
 {
     let mut next = 0;
     for number in numbers {
-        if *number < next || *number >= 1000 {
+        if *number < next || *number >= 1_000_000 {
             return false;
         }
         next = number + 1;
