@@ -2,7 +2,7 @@
 //! a gram of ten thousand terms. It is told to sinks of many sizes, opened and walked.
 use super::opening::{entries_in, is_gram_of, is_in, rows_in};
 use super::sample::Entry;
-use super::sinks::Sink;
+use super::sinks::{Sink, Slow};
 use super::telling::tell;
 use crate::{DocRow, Index, PutError, Volume};
 use ix_text::StopList;
@@ -171,6 +171,12 @@ fn a_hundred_thousand_postings(rt: HostRuntime) -> Result<(), Fail> {
         );
         assert_eq!(rt; uneven.sink.was_refused, want.is_err());
     }
+
+    // more than a hundred thousand calls for each piece that the writer writes
+    let mut slow = Slow::new(alloc);
+    assert_eq!(rt; tell(&rt, alloc, &mut slow, &stop, &rows, &entries), Ok(()));
+    assert!(rt; slow.bytes == text);
+
     let volume = Volume::open(alloc, text)?;
     check_index(&rt, alloc, &volume.index(), &rows, &entries)
 }

@@ -96,9 +96,18 @@ fn flush_refused_leaves_the_whole_text(rt: HostRuntime) -> Result<(), Fail> {
 
 /// A sink that takes one byte of each second write, and interrupts the others.
 #[derive(Drop)]
-struct Slow {
-    bytes: Vec<u8>,
+pub(crate) struct Slow {
+    pub(crate) bytes: Vec<u8>,
     interrupts: bool,
+}
+
+impl Slow {
+    pub(crate) fn new(alloc: Global) -> Slow {
+        Slow {
+            bytes: Vec::new(alloc),
+            interrupts: false,
+        }
+    }
 }
 
 impl Write for Slow {
@@ -121,10 +130,7 @@ impl Write for Slow {
 fn short_and_interrupted_writes_are_made_again(rt: HostRuntime) -> Result<(), Fail> {
     let alloc = rt.alloc();
     let text = coded_text(&rt, alloc, &RED)?;
-    let mut sink = Slow {
-        bytes: Vec::new(alloc),
-        interrupts: false,
-    };
+    let mut sink = Slow::new(alloc);
     let answer = answer(&rt, alloc, &mut sink, &RED)?;
     assert_eq!(rt; answer, Ok(()));
     assert_eq!(rt; sink.bytes.as_slice(), text.as_slice());
