@@ -65,6 +65,14 @@ prints "a compressed collection" "1@example.org
 2@example.org" "$(zcat mail.tsv.gz | "$ix" ask - 'london')"
 
 gunzip mail.tsv.gz
+head -n 1 mail.tsv | "$ix" run - first.run
+tail -n +2 mail.tsv | "$ix" run --first 1 - rest.run
+"$ix" merge mail.ix rest.run first.run
+prints "a collection in parts" "1@example.org
+2@example.org" "$("$ix" search mail.ix 'london')"
+"$ix" build mail.tsv whole.ix
+prints "the index of its parts is that of the whole" same "$(cmp -s mail.ix whole.ix && echo same)"
+
 status=0
 "$ix" ask mail.tsv 'rome' > names || status=$?
 prints "nothing found is status 1" 1 "$status"

@@ -1,11 +1,11 @@
 -- What a reader of a field knows of the rows of a command that was entered.
 use Rattle.std.proofs.Common.{◌≡◌, ◌<◌, ◌||◌, Bool, cond, true, false, refl, subst, sym, arith, true≢false, List, [], ◌∷◌, length, Option, Some, None}
-use Rattle.std.specs.Prelude.{IfSome, IsSome, IsSomeAnd, find, option_and_then, slice_get}
+use Rattle.std.specs.Prelude.{IfSome, IsSome, IsSomeAnd, find, option_and_then, option_map, slice_get}
 use Rattle.std.specs.Option.{option_map_or}
 use Rattle.std.specs.Str.{bytes_eq}
 use Rattle.clap.specs.Facts.{explicit_source}
 use Rattle.clap.specs.Simple.{App, Shape, label_of}
-use Rattle.clap.specs.Walk.{Row, Rule, Text, answers_to, arg_by_id, first_of}
+use Rattle.clap.specs.Walk.{Row, Rule, Text, all_of, answers_to, arg_by_id, first_of}
 use Rattle.clap.specs.Takes.{is_given}
 use Rattle.ix.specs.Entered.{Each, Entered, FitsShape, RowFits, ValuesFit}
 use Rattle.ix.proofs.EachLemmas.{found}
@@ -51,6 +51,14 @@ operand_given app name id rows wanted is = go (find (λ s. answers_to name (labe
     go : (o : Option Shape) → IsSomeAnd o (λ s. FitsShape s rows) → option_map_or (λ s. wants_id s id) o false ≡ true → IsSome (first_of id rows)
     go None known e = absurd known
     go (Some s) known e = required_given s rows id known e
+
+-- such an argument has a list of values
+pub operands_given : (app : App) (name id : Text) (rows : List Row) → wants app name id ≡ true → Entered app name rows → IsSome (all_of id rows)
+operands_given app name id rows wanted is = go (find (λ r. bytes_eq r.id id) rows) (operand_given app name id rows wanted is)
+  where
+    go : (o : Option Row) → IsSome (option_and_then (λ r. slice_get r.values 0) o) → IsSome (option_map (λ r. r.values) o)
+    go None some = absurd (true≢false (sym some))
+    go (Some r) some = refl
 
 -- a name that no command answers to is not entered
 pub not_entered : (app : App) (name : Text) (rows : List Row) → Each (λ s. answers_to name (label_of s) ≡ false) app.subs → Entered app name rows → ⊥

@@ -1,5 +1,6 @@
 -- The commands of the program, with their options and operands, as `clap` reads them.
 use Rattle.std.specs.Prelude.{◌∷◌, [], ℤ, Some, codes, pos, true}
+use Rattle.clap.specs.Lexer.{usize_max}
 use Rattle.clap.specs.Simple.{App, Shape, built, new_app, new_rule, new_shape, with_subcommand}
 use Rattle.clap.specs.Walk.{Rule, Text}
 use Rattle.clap.specs.declared.builder.value_parser.ValueParser.TheVariants.{Signed}
@@ -15,6 +16,12 @@ number_rule name low high = record (option_rule name) { parser = Some (Signed lo
 -- a word in its place, which may not be left out
 abbrev pub operand_rule : Text → Rule
 operand_rule name = record (new_rule name) { required = true }
+
+-- the words up to the end, of which one may not be left out
+abbrev pub operands_rule : Text → Rule
+operands_rule name = record (operand_rule name) {
+  range = Some (record { start_inclusive = 1; end_inclusive = usize_max });
+}
 
 -- `ask [--stop FILE] COLLECTION QUERY`
 abbrev pub ask_shape : Shape
@@ -62,6 +69,14 @@ run_shape = record (new_shape (codes "run")) {
       ∷ [];
 }
 
+-- `merge INDEX RUN...`
+abbrev pub merge_shape : Shape
+merge_shape = record (new_shape (codes "merge")) {
+  rules = operand_rule (codes "INDEX")
+      ∷ operands_rule (codes "RUN")
+      ∷ [];
+}
+
 -- `upgrade OLD NEW`
 abbrev pub upgrade_shape : Shape
 upgrade_shape = record (new_shape (codes "upgrade")) {
@@ -87,8 +102,8 @@ program = record (new_app (codes "ix")) {
 
 unfoldable pub ix_app : App
 ix_app =
-    with_subcommand (with_subcommand (with_subcommand (with_subcommand (with_subcommand (with_subcommand program ask_shape) search_shape) terms_shape)
-    run_shape) upgrade_shape) build_shape
+    with_subcommand (with_subcommand (with_subcommand (with_subcommand (with_subcommand (with_subcommand (with_subcommand program ask_shape) search_shape)
+    terms_shape) run_shape) merge_shape) upgrade_shape) build_shape
 
 -- the same with the help flag at both levels and what the rules left out
 abbrev pub ix_built : App

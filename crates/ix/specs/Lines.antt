@@ -6,7 +6,7 @@ use Rattle.std.specs.Borrow.{Bor}
 use Rattle.clap.specs.Simple.{subcommand_of, subcommand_rows_of}
 use Rattle.clap.specs.Lexer.{without_minus}
 use Rattle.clap.specs.Values.{IsSignedIn}
-use Rattle.clap.specs.Walk.{Row, Text, first_of, one_of}
+use Rattle.clap.specs.Walk.{Row, Text, all_of, first_of, one_of}
 use Rattle.clap.specs.Faults.{fault_of}
 use Rattle.clap.specs.Words.{IsAmong, kind_of}
 use Rattle.clap.specs.declared.parser.matches.ArgMatches.{ArgMatches}
@@ -14,7 +14,7 @@ use Rattle.ix_build.specs.Plans.{PlanValue}
 use Rattle.ix_build.specs.declared.plan.Cut.TheVariants.{Docs}
 use Rattle.ix.specs.Commands.{ix_app}
 use Rattle.ix.specs.declared.command_line.Line.{Line}
-use Rattle.ix.specs.declared.command_line.Line.TheVariants.{Ask, Build, Run, Search, Terms, Upgrade}
+use Rattle.ix.specs.declared.command_line.Line.TheVariants.{Ask, Build, Merge, Run, Search, Terms, Upgrade}
 use Rattle.ix.specs.declared.command_line.error.LineError.{LineError}
 use Rattle.ix.specs.declared.command_line.error.LineError.TheVariants.{Clap, Memory}
 
@@ -31,6 +31,10 @@ HasText id rows field = option_map (λ text. text.now) field ≡ first_of id row
 -- the text of an operand
 abbrev pub HasOperand : Text → List Row → Bor Text → Type 0
 HasOperand id rows field = first_of id rows ≡ Some field.now
+
+-- the texts of an operand that takes the words up to the end
+abbrev pub HasOperands : Text → List Row → List (Bor Text) → Type 0
+HasOperands id rows fields = all_of id rows ≡ Some (texts_of fields)
 
 -- the number that a text is written as
 abbrev pub number_of : Text → ℕ
@@ -80,6 +84,9 @@ Holds name rows (Run stop first collection run) = (name ≡ codes "run")
     × HasNumberOr (codes "first") 0 rows first
     × HasOperand (codes "COLLECTION") rows collection
     × HasOperand (codes "RUN") rows run
+Holds name rows (Merge index runs) = (name ≡ codes "merge")
+    × HasOperand (codes "INDEX") rows index
+    × HasOperands (codes "RUN") rows runs.items
 Holds name rows (Upgrade old new) = (name ≡ codes "upgrade")
     × HasOperand (codes "OLD") rows old
     × HasOperand (codes "NEW") rows new

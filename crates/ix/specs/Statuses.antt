@@ -16,11 +16,12 @@ use Rattle.ix.specs.Files.{Holding}
 use Rattle.ix.specs.Help.{AsksForHelp, as_flag, help_of}
 use Rattle.ix.specs.IndexFiles.{IsListingRefused, IsPrintedFromFile, IsSearchRefused, IsSearchedFromFile}
 use Rattle.ix.specs.Lines.{Reads, texts_of}
+use Rattle.ix.specs.MergedRuns.{IsMerged, IsMergeRefused}
 use Rattle.ix.specs.Refusals.{IsTold}
 use Rattle.ix.specs.Upgrades.{IsUpgradeRefused, IsUpgraded}
 use Rattle.ix.specs.WrittenRuns.{IsRunRefused, IsRunSaved}
 use Rattle.ix.specs.declared.command_line.Line.{Line}
-use Rattle.ix.specs.declared.command_line.Line.TheVariants.{Ask, Build, Run, Search, Terms, Upgrade}
+use Rattle.ix.specs.declared.command_line.Line.TheVariants.{Ask, Build, Merge, Run, Search, Terms, Upgrade}
 use Rattle.ix.specs.declared.refusal.Refusal.{Refusal}
 use Rattle.ix.specs.declared.refusal.Refusal.TheVariants as refusal
 
@@ -42,6 +43,8 @@ IsDone holds saves (Search index query) old new count = IsSearchedFromFile holds
 IsDone holds saves (Terms index pattern) old new count = IsPrintedFromFile holds index.now pattern.now old new count
 IsDone holds saves (Run stop_file first collection run) old new count =
     IsRunSaved holds saves stop_file first collection.now run.now × Keeps old new × (count ≡ 1)
+IsDone holds saves (Merge index runs) old new count =
+    IsMerged holds saves (texts_of runs.items) index.now × Keeps old new × (count ≡ 1)
 IsDone holds saves (Upgrade old_file new_file) old new count =
     IsUpgraded holds saves old_file.now new_file.now × Keeps old new × (count ≡ 1)
 
@@ -53,6 +56,8 @@ IsLineRefused holds (Build stop_file plan collection index) old new told =
 IsLineRefused holds (Search index query) old new told = IsSearchRefused holds index.now query.now old new told
 IsLineRefused holds (Terms index pattern) old new told = IsListingRefused holds index.now pattern.now old new told
 IsLineRefused holds (Run stop_file first collection run) old new told = IsRunRefused holds stop_file first collection.now run.now told × Keeps old new
+IsLineRefused holds (Merge index runs) old new told =
+    IsMergeRefused holds (texts_of runs.items) index.now told × Keeps old new
 IsLineRefused holds (Upgrade old_file new_file) old new told = IsUpgradeRefused holds old_file.now new_file.now told × Keeps old new
 
 -- the words are a line that was done, and something was found

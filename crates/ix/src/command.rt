@@ -172,6 +172,10 @@ fn do_line<'a, R: Threads + Wait + Sync, F: FileSource + FileTarget, W: Write>(
             Ok(()) => Ok(ONE_FILE),
             Err(refusal) => Err(refusal),
         },
+        Line::Merge { index, runs } => match merge::run(alloc, files, index, &runs) {
+            Ok(()) => Ok(ONE_FILE),
+            Err(refusal) => Err(refusal),
+        },
         Line::Upgrade { old, new } => match upgrade::run(alloc, files, old, new) {
             Ok(()) => Ok(ONE_FILE),
             Err(refusal) => Err(refusal),

@@ -15,9 +15,9 @@ mod worked;
 
 use clap::ArgMatches;
 pub use error::LineError;
-use fields::{number_or, operand, option};
+use fields::{number_or, operand, operands, option};
 use ix_build::{Cut, Plan, Runs};
-use std::alloc::Global;
+use std::alloc::{AllocError, Global};
 pub use worked::worked_lines;
 
 /// How many documents a block has, where the words do not say it.
@@ -75,6 +75,13 @@ pub enum Line<'a> {
         /// The run file to be written.
         run: &'a str,
     },
+    /// `ix merge INDEX RUN...`.
+    Merge {
+        /// The index file to be written.
+        index: &'a str,
+        /// The run files, in any order; there is one.
+        runs: Vec<&'a str>,
+    },
     /// `ix upgrade OLD NEW`.
     Upgrade {
         /// The file of the index.
@@ -94,7 +101,7 @@ pub fn read_line<'a>(alloc: Global, words: &'a [&'a str]) -> Result<Line<'a>, Li
 {
     let matches = matched(alloc, words)?;
     let (name, own) = entered(&matches);
-    Ok(line_of(name, own))
+    Ok(line_of(alloc, name, own)?)
 }
 
 // The matches of the words, which name a command.
@@ -116,17 +123,18 @@ fn entered<'m, 'a>(matches: &'m ArgMatches<'a>) -> (&'a str, &'m ArgMatches<'a>)
     matches.subcommand().unwrap()
 }
 
-fn line_of<'a>(name: &str, matches: &ArgMatches<'a>) -> Line<'a>
+fn line_of<'a>(alloc: Global, name: &str, matches: &ArgMatches<'a>) -> Result<Line<'a>, AllocError>
     requires { Entered ix_built name.now (rows_of (found_of matches.now)) }
-    ensures { Holds name.now (rows_of (found_of matches.now)) result }
+    ensures { IfOk result (Holds name.now (rows_of (found_of matches.now))) }
 {
     match name {
-        "ask" => ask_line(matches),
-        "build" => build_line(matches),
-        "search" => search_line(matches),
-        "terms" => terms_line(matches),
-        "run" => run_line(matches),
-        "upgrade" => upgrade_line(matches),
+        "ask" => Ok(ask_line(matches)),
+        "build" => Ok(build_line(matches)),
+        "search" => Ok(search_line(matches)),
+        "terms" => Ok(terms_line(matches)),
+        "run" => Ok(run_line(matches)),
+        "merge" => merge_line(alloc, matches),
+        "upgrade" => Ok(upgrade_line(matches)),
         _ => unreachable!(),
     }
 }
@@ -205,6 +213,15 @@ fn run_line<'a>(matches: &ArgMatches<'a>) -> Line<'a>
         collection,
         run,
     }
+}
+
+fn merge_line<'a>(alloc: Global, matches: &ArgMatches<'a>) -> Result<Line<'a>, AllocError>
+    requires { Entered ix_built (codes "merge") (rows_of (found_of matches.now)) }
+    ensures { IfOk result (Holds (codes "merge") (rows_of (found_of matches.now))) }
+{
+    let index = operand(matches, "INDEX");
+    let runs = operands(alloc, matches, "RUN")?;
+    Ok(Line::Merge { index, runs })
 }
 
 fn upgrade_line<'a>(matches: &ArgMatches<'a>) -> Line<'a>

@@ -23,6 +23,8 @@ Commands, in the order in which they are met:
             ix terms mail.ix 'contr*'
   run       inverts a part of a collection into a run file, to be merged elsewhere
             ix run examples/mail.txt mail.run
+  merge     merges run files, in any order, into an index
+            ix merge mail.ix mail.run
   upgrade   writes an index anew, in the newest version of the format
             ix upgrade mail.ix mail-2.ix
 
@@ -182,6 +184,27 @@ Examples:
   ix run --first 1000 examples/mail.txt mail-1000.run
 ";
 
+/// What `ix merge --help` prints.
+pub const HELP_ON_MERGE: &str = "\
+Merges run files into an index of the whole collection. The runs are those of all its
+parts, made by `ix run` with the same stop words.
+
+Usage: ix merge INDEX RUN...
+
+  INDEX          the index file to be written; it is created once each RUN was opened
+  RUN...         the run files, one or more, in any order; `-` is the standard input
+
+Each document number from 0 to the highest belongs to exactly one of the runs.
+The index is the same as `ix build` makes of the whole collection.
+
+Exit status: 0 the index was written, or help was asked for; 2 refused, and one line
+on the error output says why; the index file may then hold a beginning.
+
+Examples:
+  ix merge mail.ix mail.run
+  ix merge mail.ix mail-1000.run mail.run
+";
+
 /// What `ix upgrade --help` prints.
 pub const HELP_ON_UPGRADE: &str = "\
 Writes the collection of an index anew, as an index of the newest version.
@@ -234,6 +257,7 @@ fn help_on_command(name: &str) -> &'static str
         "search" => HELP_ON_SEARCH,
         "terms" => HELP_ON_TERMS,
         "run" => HELP_ON_RUN,
+        "merge" => HELP_ON_MERGE,
         "upgrade" => HELP_ON_UPGRADE,
         "build" => HELP_ON_BUILD,
         _ => HELP,

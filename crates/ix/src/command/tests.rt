@@ -2,6 +2,7 @@
 
 mod building;
 mod indexes;
+mod merging;
 mod saving;
 
 use super::{command, command_over};
@@ -313,8 +314,7 @@ fn words_that_are_refused(rt: HostRuntime) -> Result<(), Fail> {
     expect(&rt, &["search", "five.ix", "x", "y"], &row)?;
     expect(&rt, &["search", "--stop", "stop", "five.ix", "x"], &row)?;
     expect(&rt, &[], &row)?;
-    expect(&rt, &["help", "find"], &row)?;
-    Ok(())
+    expect(&rt, &["help", "find"], &row)
 }
 
 #[test]

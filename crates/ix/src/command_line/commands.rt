@@ -2,8 +2,9 @@
 ghost use Rattle.std.specs.Prelude.{◌≡◌, IfOk};
 ghost use Rattle.clap.specs.Words.{app_of};
 ghost use Rattle.ix.specs.Building.{IsArgument, IsCommand};
-ghost use Rattle.ix.specs.Commands.{ask_shape, build_shape, ix_app, leaf, number_rule, operand_rule};
-ghost use Rattle.ix.specs.Commands.{option_rule, program, run_shape, search_shape};
+ghost use Rattle.ix.specs.Commands.{ask_shape, build_shape, ix_app, leaf, merge_shape, number_rule};
+ghost use Rattle.ix.specs.Commands.{operand_rule, operands_rule, option_rule, program, run_shape};
+ghost use Rattle.ix.specs.Commands.{search_shape};
 ghost use Rattle.ix.specs.Commands.{terms_shape, upgrade_shape};
 
 use clap::builder::ValueParser;
@@ -24,7 +25,8 @@ pub fn ix<'a>(alloc: Global) -> Result<Command<'a>, AllocError>
     let with_search = with_ask.subcommand(search(alloc)?)?;
     let with_terms = with_search.subcommand(terms(alloc)?)?;
     let with_run = with_terms.subcommand(run(alloc)?)?;
-    let with_upgrade = with_run.subcommand(upgrade(alloc)?)?;
+    let with_merge = with_run.subcommand(merge(alloc)?)?;
+    let with_upgrade = with_merge.subcommand(upgrade(alloc)?)?;
     let with_build = with_upgrade.subcommand(build(alloc)?)?;
     Ok(with_build)
 }
@@ -91,6 +93,15 @@ fn run<'a>(alloc: Global) -> Result<Command<'a>, AllocError>
 }
 
 #[tactic(auto, using(crate::proofs::Building::adds_argument))]
+fn merge<'a>(alloc: Global) -> Result<Command<'a>, AllocError>
+    ensures { IfOk result (IsCommand (leaf merge_shape)) }
+{
+    Command::new(alloc, "merge")
+        .arg(operand(alloc, "INDEX"))?
+        .arg(operands(alloc, "RUN"))
+}
+
+#[tactic(auto, using(crate::proofs::Building::adds_argument))]
 fn upgrade<'a>(alloc: Global) -> Result<Command<'a>, AllocError>
     ensures { IfOk result (IsCommand (leaf upgrade_shape)) }
 {
@@ -122,4 +133,11 @@ fn operand<'a>(alloc: Global, name: &'a str) -> Arg<'a>
     ensures { IsArgument (operand_rule name.entry.now) result }
 {
     Arg::new(alloc, name).required(true)
+}
+
+// The words up to the end, of which one has to be there.
+fn operands<'a>(alloc: Global, name: &'a str) -> Arg<'a>
+    ensures { IsArgument (operands_rule name.entry.now) result }
+{
+    Arg::new(alloc, name).num_args(1..).required(true)
 }

@@ -1,9 +1,10 @@
 //! One field of a line, read from the matches of its command.
-ghost use Rattle.std.specs.Prelude.{IfSome, IsSome};
-ghost use Rattle.clap.specs.Words.{first_of, found_of, one_of, rows_of};
-ghost use Rattle.ix.specs.Lines.{HasNumberOr, HasOperand, HasText, IsNumberText};
+ghost use Rattle.std.specs.Prelude.{IfOk, IfSome, IsSome};
+ghost use Rattle.clap.specs.Words.{all_of, first_of, found_of, one_of, rows_of};
+ghost use Rattle.ix.specs.Lines.{HasNumberOr, HasOperand, HasOperands, HasText, IsNumberText};
 
 use clap::ArgMatches;
+use std::alloc::{AllocError, Global};
 
 /// The value of an option, where the words give it.
 pub fn option<'a>(matches: &ArgMatches<'a>, id: &str) -> Option<&'a str>
@@ -26,4 +27,17 @@ pub fn operand<'a>(matches: &ArgMatches<'a>, id: &str) -> &'a str
     ensures { HasOperand id.now (rows_of (found_of matches.now)) result }
 {
     matches.get_str(id).unwrap()
+}
+
+/// The operands that the words give up to their end.
+pub fn operands<'a>(
+    alloc: Global,
+    matches: &ArgMatches<'a>,
+    id: &str,
+) -> Result<Vec<&'a str>, AllocError>
+    requires { IsSome (all_of id.now (rows_of (found_of matches.now))) }
+    ensures { IfOk result (λ list.
+        HasOperands id.now (rows_of (found_of matches.now)) list.items) }
+{
+    Vec::from_slice(alloc, matches.get_strs(id).unwrap())
 }

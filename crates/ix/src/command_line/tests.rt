@@ -30,6 +30,18 @@ fn a_line_of_each_command(rt: HostRuntime) -> Result<(), Fail> {
         return Err(Fail::from("it is another line"));
     };
     assert!(rt; index == "c.ix" && pattern == "re*");
+    for (words, wanted) in [
+        (["merge", "c.ix", "0.run"].as_slice(), ["0.run"].as_slice()),
+        (
+            ["merge", "c.ix", "4.run", "--", "-2.run", "0.run"].as_slice(),
+            ["4.run", "-2.run", "0.run"].as_slice(),
+        ),
+    ] {
+        let Line::Merge { index, runs } = read_line(rt.alloc(), words)? else {
+            return Err(Fail::from("it is another line"));
+        };
+        assert!(rt; index == "c.ix" && runs.as_slice() == wanted);
+    }
     Ok(())
 }
 
@@ -44,6 +56,10 @@ fn words_that_are_refused(rt: HostRuntime) -> Result<(), Fail> {
         (
             ["ask", "c.txt", "red", "sea"].as_slice(),
             ErrorKind::UnknownArgument,
+        ),
+        (
+            ["merge", "c.ix"].as_slice(),
+            ErrorKind::MissingRequiredArgument,
         ),
         (
             ["ask", "--all", "c.txt", "red"].as_slice(),

@@ -1,7 +1,7 @@
 //! Commands that write files, over files in memory.
 
 use super::indexes::{EMPTY, FIVE_FRONT_CODED, FIVE_PLAIN, ONE, STOPPED};
-use crate::command::{command_over, merge};
+use crate::command::command_over;
 use crate::files::{FileSource, FileTarget, ReadFault, WriteFault};
 use std::alloc::Global;
 use std::cell::RefCell;
@@ -182,7 +182,8 @@ pub fn has(disk: &Disk, path: &str, bytes: &[u8]) -> bool {
     }
 }
 
-const FIRST_RUN: &[u8] = b"PIIXRUN1\0\0\0\0\x02\0\0\0\x80\x81a\x82\x81b\x81\
+/// Of the first two of five documents.
+pub const FIRST_RUN: &[u8] = b"PIIXRUN1\0\0\0\0\x02\0\0\0\x80\x81a\x82\x81b\x81\
 \x81x\x81\x83\x81\x81\x81\x81y\x82\x86\x81\x81\x82\x81\x81\x81\x80";
 
 const SECOND_RUN: &[u8] = b"PIIXRUN1\x02\0\0\0\x02\0\0\0\x80\x81c\x80\x81d\x83\
@@ -304,85 +305,5 @@ fn upgrades_that_are_refused(rt: HostRuntime) -> Result<(), Fail> {
         let line = format!(in rt.alloc(); "ix: file 2: Write({path})\n")?;
         expect(&rt, &disk, &["upgrade", "five.ix", path], line.as_str())?;
     }
-    Ok(())
-}
-
-/// Merges run files, and compares the refusal, if there is one.
-fn expect_merge<R: AllocGlobal + Abort>(
-    rt: &R,
-    disk: &Disk,
-    index: &str,
-    runs: &[&str],
-    line: &str,
-) -> Result<(), Fail> {
-    let shown = match merge::run(rt.alloc(), disk, index, runs) {
-        Ok(()) => String::new(rt.alloc()),
-        Err(refusal) => format!(in rt.alloc(); "{refusal}")?,
-    };
-    assert_eq!(rt; shown.as_str(), line);
-    Ok(())
-}
-
-#[test]
-fn runs_are_merged(rt: HostRuntime) -> Result<(), Fail> {
-    let disk = disk_of_texts(&rt)?;
-    expect(&rt, &disk, &["run", "ab", "0"], "")?;
-    expect(&rt, &disk, &["run", "--first", "2", "cd", "2"], "")?;
-    expect(&rt, &disk, &["run", "--first", "4", "e", "4"], "")?;
-    expect(&rt, &disk, &["run", "empty", "no documents"], "")?;
-    for runs in [
-        ["0", "2", "4"],
-        ["0", "4", "2"],
-        ["2", "0", "4"],
-        ["2", "4", "0"],
-        ["4", "0", "2"],
-        ["4", "2", "0"],
-    ] {
-        expect_merge(&rt, &disk, "index", &runs, "")?;
-        assert!(rt; has(&disk, "index", FIVE_FRONT_CODED));
-    }
-    // The empty collection.
-    expect(&rt, &disk, &["upgrade", "empty.ix", "empty2.ix"], "")?;
-    let empty = disk.get("empty2.ix").map_err(|_| Fail::from("no file"))?;
-    expect_merge(&rt, &disk, "index", &["no documents"], "")?;
-    assert!(rt; has(&disk, "index", &empty));
-    Ok(())
-}
-
-#[test]
-fn merges_that_are_refused(rt: HostRuntime) -> Result<(), Fail> {
-    let disk = disk_of_texts(&rt)?;
-    expect(&rt, &disk, &["run", "ab", "0"], "")?;
-    expect(&rt, &disk, &["run", "--first", "3", "e", "3"], "")?;
-    for (path, bytes) in [
-        ("cut", &FIRST_RUN[..40]),
-        ("cut head", &FIRST_RUN[..12]),
-        ("other", b"no"),
-    ] {
-        if disk.put(path, bytes).is_err() {
-            return Err(Fail::from("the disk is full"));
-        }
-    }
-    for (runs, line) in [
-        (
-            ["0", "cut head"].as_slice(),
-            "merge 4: Source(1, Number(Cut))",
-        ),
-        (["other", "0"].as_slice(), "merge 4: Source(0, Magic)"),
-        (["0", "no such"].as_slice(), "file 1: Read(no such)"),
-    ] {
-        expect_merge(&rt, &disk, "new", runs, line)?;
-        // The index was not created.
-        assert!(rt; disk.get("new").is_err());
-    }
-    for (runs, line) in [
-        (["0", "3"].as_slice(), "merge 1: Gap(2)"),
-        (["0", "0"].as_slice(), "merge 2: Overlap(0)"),
-        (["cut"].as_slice(), "merge 4: Source(0, Number(Cut))"),
-    ] {
-        expect_merge(&rt, &disk, "index", runs, line)?;
-    }
-    expect_merge(&rt, &disk, "none", &["0"], "file 2: Write(none)")?;
-    expect_merge(&rt, &disk, "full", &["0"], "merge 6: Write")?;
     Ok(())
 }
