@@ -1,7 +1,7 @@
 -- The numbers under a gram are read gap by gap.
-use Rattle.std.proofs.Common.{◌≡◌, ◌≢◌, ◌↔◌, ℕ, ◌+◌, ◌-◌, ◌^◌, ◌<◌, ◌≤◌, List, [], ◌∷◌, ◌++◌, length, get_or, slice_get, Some, All, Contains, string_bytes, refl, sym, ap, ap₂, subst, ◌∙◌, arith, length-append}
+use Rattle.std.proofs.Common.{◌≡◌, ◌≢◌, ◌↔◌, ℕ, ◌+◌, ◌-◌, ◌^◌, ◌<◌, ◌≤◌, List, [], ◌∷◌, ◌++◌, length, slice_get, Some, All, Contains, refl, sym, ap, ap₂, subst, ◌∙◌, arith, length-append}
 use Rattle.std.proofs.lemmas.Grind.{flat_map-append}
-use Rattle.std.proofs.lemmas.List.{append_assoc, append-nil, length-map, get_or-map}
+use Rattle.std.proofs.lemmas.List.{append_assoc, append-nil, length-map}
 use Rattle.std.proofs.lemmas.List.Elements.{All-nil, All-push, All-head, All-tail}
 use Rattle.ix_text.specs.Windows.{grams_of}
 use Rattle.ix_vbyte.specs.Code.{code_of}
@@ -13,7 +13,6 @@ use Rattle.ix_file.specs.Grams.{IsGramOfTerm}
 use Rattle.ix_file.specs.OpenedGrams.{AreNumbersOf, gap_codes, terms_in}
 use Rattle.ix_file.specs.declared.open.dictionary.TermRow.{TermRow}
 use Rattle.ix_file.proofs.PairCounts.{text_of}
-use Rattle.std.proofs.lemmas.Option.{slice_get-get_or}
 
 -- the numbers so far, and what follows their gaps
 pub record NumbersRead (terms : List (List ℕ)) (gram left : List ℕ) (i next : ℕ) (rest : List ℕ) : Type 0 where
@@ -140,12 +139,11 @@ no_next_gap terms gram next gap rest behind is wrong n =
     wrong (subst (λ (g : ℕ). (0 < g) × (next + g ≤ length terms) × IsGramOfTerm terms gram (next + g - 1)) same n.may)
 
 -- the term of a number has the gram, or not
-pub number_told : (rows : List TermRow) (gram : List ℕ) (next gap number : ℕ) (row : TermRow) (text : List ℕ) → ¬ (gap ≡ 0) → number ≡ next + (gap - 1) → number < length rows → text ≡ string_bytes (get_or rows number row).term
+pub number_told : (rows : List TermRow) (gram : List ℕ) (next gap number : ℕ) (text : List ℕ) → ¬ (gap ≡ 0) → number ≡ next + (gap - 1) → number < length rows → slice_get (terms_in rows) number ≡ Some text
     → Contains (grams_of text) gram ↔ ((0 < gap) × (next + gap ≤ length (terms_in rows)) × IsGramOfTerm (terms_in rows) gram (next + gap - 1))
-number_told rows gram next gap number row text some is low same =
+number_told rows gram next gap number text some is low at =
     let n : next + gap - 1 ≡ number = omega (arith, some, is) in
-    let there : slice_get (terms_in rows) (next + gap - 1) ≡ Some text =
-    ap (slice_get (terms_in rows)) n ∙ slice_get-get_or (terms_in rows) number [] (omega (arith, low, length-map rows text_of)) ∙ ap Some (get_or-map text_of rows number row [] low ∙ sym same) in (
+    let there : slice_get (terms_in rows) (next + gap - 1) ≡ Some text = ap (slice_get (terms_in rows)) n ∙ at in (
       λ has. (omega (arith, some), omega (arith, some, is, low, length-map rows text_of), record { term = text; numbered = there; windowed = has }),
       λ (_, _, has). let one : has.term ≡ text = cc_term has.term text (sym has.numbered ∙ there) in subst (λ (t : List ℕ). Contains (grams_of t) gram) one has.windowed,
     )

@@ -50,5 +50,6 @@ pub mod TablesFound
 pub mod TablesRefused
 pub mod TellingLemmas
 pub mod TermPairs
+pub mod TermTextLemmas
 pub mod TextLaws
 pub mod TokenTotals

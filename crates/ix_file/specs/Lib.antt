@@ -28,5 +28,6 @@ pub mod Tables
 pub mod Telling
 pub mod TellingLaws
 pub mod TermReading
+pub mod TermTexts
 pub mod Told
 pub mod Writers

@@ -23,6 +23,7 @@ pub(crate) mod grams;
 pub(crate) mod lists;
 mod pairs;
 pub(crate) mod stop;
+pub(crate) mod texts;
 
 use crate::OpenError;
 use crate::open::claims::Claims;

@@ -8,12 +8,14 @@ ghost use Rattle.ix_file.specs.HeldGrams.{gram_of};
 ghost use Rattle.ix_file.specs.OpenedGrams.{AreNumbersOf, FindsGram, IsGramRow, IsRightEntry, gap_codes, gram_in, grams_in, terms_in};
 ghost use Rattle.ix_file.specs.OpenedGrams as opened;
 ghost use Rattle.ix_file.specs.Sections.{grams_section};
+ghost use Rattle.ix_file.specs.TermTexts.{HoldsTexts};
 ghost use Rattle.ix_file.specs.declared.open_error.OpenError.TheVariants.{Memory};
 
 use crate::grams::GramPair;
 use crate::open::dictionary::TermRow;
 use crate::open::front::{number, text};
 use crate::open::pairs::{check_total, has_gram, pair_of};
+use crate::open::texts::TermTexts;
 use crate::{OpenError, Section};
 use std::alloc::Global;
 use std::cmp::Ordering;
@@ -46,11 +48,12 @@ pub(crate) fn read_grams(
         ⊎ ((grams : List GramEntry) → AreGramsOfTerms (terms_in terms.now) grams →
         section.now ≢ grams_section grams)) }
 {
+    let texts = TermTexts::of(alloc, terms)?;
     let mut rows: Vec<GramRow> = Vec::new(alloc);
     let mut total = 0;
     let mut left = section;
     while !left.is_empty() {
-        let (row, rest) = read_gram(section, left, terms)?;
+        let (row, rest) = read_gram(section, left, terms, &texts)?;
         if !is_above(section, row, rows.last()) {
             return Err(OpenError::Grams);
         }
@@ -69,8 +72,10 @@ fn read_gram<'a>(
     section: &[u8],
     left: &'a [u8],
     terms: &[TermRow],
+    texts: &TermTexts,
 ) -> Result<(GramRow, &'a [u8]), OpenError>
     requires few { length terms.now < 2 ^ 32 }
+    requires texts { HoldsTexts texts.now (terms_in terms.now) }
     requires within { (before : List ℕ) × (section.now ≡ before ++ left.now) }
     ensures entry { IfOk result (λ read. IsRightEntry (terms_in terms.now)
         (gram_in section.now read.0)) }
@@ -93,7 +98,7 @@ fn read_gram<'a>(
     if count == 0 {
         return Err(OpenError::Grams);
     }
-    let rest = read_numbers(gaps, count, pair, terms)?;
+    let rest = read_numbers(gaps, count, pair, terms, texts)?;
     let row = GramRow {
         start: section.len() - behind.len() - gram.len(),
         size: gram.len() as u8,
@@ -112,8 +117,10 @@ fn read_numbers<'a>(
     count: u32,
     pair: GramPair,
     terms: &[TermRow],
+    texts: &TermTexts,
 ) -> Result<&'a [u8], OpenError>
-    requires { length terms.now < 2 ^ 32 }
+    requires few { length terms.now < 2 ^ 32 }
+    requires texts { HoldsTexts texts.now (terms_in terms.now) }
     ensures found { IfOk result (λ rest. (numbers : List ℕ) × AreNumbersOf (terms_in terms.now)
         (gram_of pair) numbers × (length numbers ≡ count)
         × (left.now ≡ gap_codes numbers ++ rest.now)) }
@@ -127,7 +134,7 @@ fn read_numbers<'a>(
         let Ok((gap, behind)) = number(Section::Grams, rest) else {
             return Err(OpenError::Grams);
         };
-        if !is_next(next, gap, pair, terms) {
+        if !is_next(next, gap, pair, terms, texts) {
             return Err(OpenError::Grams);
         }
         next += gap;
@@ -139,8 +146,10 @@ fn read_numbers<'a>(
 /// Whether the number that has this gap, where `next` is one above the number before, is that of a term that has the
 /// gram of the pair.
 #[inline]
-fn is_next(next: u32, gap: u32, pair: GramPair, terms: &[TermRow]) -> bool
-    requires { (next ≤ length terms.now) × (length terms.now < 2 ^ 32) }
+fn is_next(next: u32, gap: u32, pair: GramPair, terms: &[TermRow], texts: &TermTexts) -> bool
+    requires next { next ≤ length terms.now }
+    requires few { length terms.now < 2 ^ 32 }
+    requires texts { HoldsTexts texts.now (terms_in terms.now) }
     ensures { IsTrue result ↔ ((0 < gap) × (next + gap ≤ length (terms_in terms.now))
         × IsGramOfTerm (terms_in terms.now) (gram_of pair) (next + gap - 1)) }
 {
@@ -151,7 +160,7 @@ fn is_next(next: u32, gap: u32, pair: GramPair, terms: &[TermRow]) -> bool
     if number >= terms.len() {
         return false;
     }
-    has_gram(terms[number].term.as_str(), pair)
+    has_gram(texts.text(number), pair)
 }
 
 /// Whether the gram of a row stands above that of the row before it, if there is one.

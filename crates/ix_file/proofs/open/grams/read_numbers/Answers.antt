@@ -8,20 +8,20 @@ use Rattle.ix_file.proofs.open.grams.read_numbers.Goals as goal
 
 pub is_next-requires : goal.is_next-requires
 is_next-requires c =
-    let few = c.requires in
+    let few = c.requires.few in
     let low : c.loop.next ≤ length (terms_in c.args.terms.now) = c.loop.invariant.low in
-    (omega (arith, low, length-map c.args.terms.now text_of), few)
+    record { next = omega (arith, low, length-map c.args.terms.now text_of); few = few; texts = c.requires.texts }
 
 pub returns-in_default-clause-refused : goal.returns-in_default-clause-refused
 returns-in_default-clause-refused c numbers other are many is =
-    let few : length (terms_in c.args.terms.now) < 2 ^ 32 = omega (arith, c.requires, length-map c.args.terms.now text_of) in
+    let few : length (terms_in c.args.terms.now) < 2 ^ 32 = omega (arith, c.requires.few, length-map c.args.terms.now text_of) in
     no_next_code (terms_in c.args.terms.now) (gram_of c.args.pair) c.loop.next c.loop.rest.now few c.in_default.ensures.refused
     (next_number (terms_in c.args.terms.now) (gram_of c.args.pair) c.args.left.now c.loop.counter c.loop.next c.args.count c.loop.rest.now c.loop.invariant c.loop-test.true numbers other are many is)
 
 pub overflow_add-next : goal.overflow_add-next
 overflow_add-next c =
     let may = c.if-not-is_next.ensures.0 refl in
-    omega (arith, may.1, c.requires, length-map c.args.terms.now text_of)
+    omega (arith, may.1, c.requires.few, length-map c.args.terms.now text_of)
 
 pub loop-preserved : goal.loop-preserved
 loop-preserved c =
