@@ -1,26 +1,12 @@
--- How many documents a collection text has, and which numbers a scan gives.
-use Rattle.std.proofs.Common.{◌≡◌, ℕ, ◌<◌, ◌≤◌, ◌^◌, List, [], ◌∷◌, ◌++◌, map, length, get_or, All, ap, arith, length-append}
+-- Which numbers a scan gives.
+use Rattle.std.proofs.Common.{ℕ, ◌<◌, List, map, length, get_or, All, arith}
 use Rattle.std.proofs.lemmas.List.{length-map}
 use Rattle.std.proofs.lemmas.List.Elements.{Contains-get_or}
 use Rattle.std.proofs.lemmas.Option.{slice_get_within}
-use Rattle.std.specs.List.{flat_map}
 use Rattle.ix_text.specs.Collections.{Document, NamedText, collection_of}
-use Rattle.ix_text.specs.CollectionText.{IsCollectionText, line_of}
 use Rattle.ix_text.specs.TokenLists.{token_list}
 use Rattle.ix_query.specs.declared.tree.Tree.{Tree}
 use Rattle.ix_query.specs.Scans.{IsScan}
-
--- a line has a byte
-pub length-lines : (documents : List NamedText) → length documents ≤ length (flat_map line_of documents)
-length-lines [] = omega arith
-length-lines (d ∷ documents) =
-    omega (arith, length-lines documents, length-append (line_of d) (flat_map line_of documents), length-append d.name (9 ∷ (d.text ++ 10 ∷ [])))
-
--- so there are few documents
-pub few_documents : (text : List ℕ) (documents : List NamedText) → IsCollectionText text documents → length documents ≤ 2 ^ 32
-few_documents text documents is =
-    let lines : length text ≡ length (flat_map line_of documents) = ap length is.lines in
-    omega (arith, is.size, lines, length-lines documents)
 
 -- the numbers of a scan are numbers of documents
 pub numbers_below : (stop : List (List ℕ)) (documents : List NamedText) (query : Tree) (numbers : List ℕ) → IsScan (collection_of stop documents) query numbers → All (λ number. number < length documents) numbers

@@ -1,5 +1,5 @@
 -- What was read of a file against all of it: a lawful text was read whole, and one that was not is too long.
-use Rattle.std.proofs.Common.{◌≡◌, ℕ, ◌+◌, ◌^◌, ◌<◌, ◌≤◌, min, List, length, take, Option, Some, Result, Ok, Err, IfOk, IfErr, IsErrAnd, ◌⊎◌, inl, inr, sym, ◌∙◌, ap, subst, arith}
+use Rattle.std.proofs.Common.{◌≡◌, ℕ, ◌+◌, ◌^◌, ◌<◌, ◌≤◌, List, length, take, Option, Some, Result, Ok, Err, IfOk, IfErr, IsErrAnd, inl, inr, sym, ◌∙◌, ap, subst, arith}
 use Rattle.std.specs.Prelude.{IsSomeAnd}
 use Rattle.std.specs.Borrow.{Bor}
 use Rattle.std.proofs.lemmas.List.{length-take, take_all}
@@ -10,7 +10,7 @@ use Rattle.ix_text.specs.StopText.{IsStopText}
 use Rattle.ix_text.specs.declared.collection.CollectionError.{CollectionError}
 use Rattle.ix_text.specs.declared.collection.CollectionError.TheVariants.{TooLarge, NotUtf8, NoTab, Name, NoLineEnd, Memory}
 use Rattle.ix.specs.AskedFiles.{IsNoStopText, IsStopHeld, RefusesStop}
-use Rattle.ix.specs.Asking.{IsAnswer, IsAnswered, IsCutShort, Leaves, RefusesCollection}
+use Rattle.ix.specs.Asking.{IsAnswered, IsCutShort, Leaves, RefusesCollection}
 use Rattle.ix.specs.Files.{Holding, IsFront}
 use Rattle.ix.specs.declared.ask.AskError.{AskError}
 use Rattle.ix.specs.declared.ask.AskError.TheVariants as asking
@@ -57,15 +57,18 @@ refuses_collection_whole bytes whole error cut refuses =
     elim refuses [ inl memory ↦ inl memory | inr fault ↦ inr (collection_fault bytes whole error cut fault) ]
 
 -- what a refused question leaves is so of the whole file
-pub leaves_whole : (bytes whole : List ℕ) (stop : List (List ℕ)) (query : List ℕ) (old new : Option (List ℕ)) (error : AskError) → bytes ≡ take room whole → Leaves bytes stop query old new error → Leaves whole stop query old new error
-leaves_whole bytes whole stop query old new (asking.Collection error) cut leaves =
+pub leaves_whole : (workers : ℕ) (bytes whole : List ℕ) (stop : List (List ℕ)) (query : List ℕ) (old new : Option (List ℕ)) (error : AskError) → bytes ≡ take room whole
+    → Leaves workers bytes stop query old new error → Leaves workers whole stop query old new error
+leaves_whole workers bytes whole stop query old new (asking.Collection error) cut leaves =
     (refuses_collection_whole bytes whole error cut leaves.0, leaves.1)
-leaves_whole bytes whole stop query old new (asking.Query error) cut leaves =
+leaves_whole workers bytes whole stop query old new (asking.Query error) cut leaves =
     let same = read_whole bytes whole cut leaves.0.0.1.size in
     ((subst (λ text. (documents : List NamedText) × IsCollectionText text documents) same leaves.0.0, leaves.0.1), leaves.1)
-leaves_whole bytes whole stop query old new asking.Write cut leaves =
+leaves_whole workers bytes whole stop query old new (asking.Build error) cut leaves = leaves
+leaves_whole workers bytes whole stop query old new (asking.Open error) cut leaves = leaves
+leaves_whole workers bytes whole stop query old new asking.Write cut leaves =
     subst (λ text. IsCutShort text stop query old new) (read_whole bytes whole cut leaves.answer.read.size) leaves
-leaves_whole bytes whole stop query old new asking.Memory cut leaves = leaves
+leaves_whole workers bytes whole stop query old new asking.Memory cut leaves = leaves
 
 -- an answer to what was read is one to the whole file
 pub answered_whole : (bytes whole : List ℕ) (stop : List (List ℕ)) (query : List ℕ) (old new : Option (List ℕ)) (count : ℕ) → bytes ≡ take room whole → IsAnswered bytes stop query old new count → IsAnswered whole stop query old new count

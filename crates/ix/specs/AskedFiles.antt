@@ -6,7 +6,7 @@ use Rattle.clap.specs.Walk.{Text}
 use Rattle.ix_text.specs.StopText.{IsStopText}
 use Rattle.ix_text.specs.StopFaults.{IsStopFault}
 use Rattle.ix_text.specs.declared.stop.StopError.TheVariants as stop_error
-use Rattle.ix.specs.Asking.{IsAnswered, IsCutShort, Leaves}
+use Rattle.ix.specs.Asking.{IsAnswered, Leaves}
 use Rattle.ix.specs.Files.{Holding}
 use Rattle.ix.specs.Refusals.{IsUnread, Tells}
 use Rattle.ix.specs.declared.ask.AskError.{AskError}
@@ -36,15 +36,16 @@ IsNoStopText path text _ = ⊥
 abbrev pub RefusesStop : Holding → Text → Refusal → Type 0
 RefusesStop holds path told = IsUnread path told ⊎ ((text : Text) × holds path text × IsNoStopText path text told)
 
--- The question to this collection text was refused, as the refusal tells, and leaves this of the standard output.
-pub record IsQuestionRefused (text : Text) (stop : List Text) (query : Text) (old new : Option Text) (told : Refusal) : Type 0 where
+-- The question to this collection text, by so many workers, was refused, as the refusal tells, and leaves this of the
+-- standard output.
+pub record IsQuestionRefused (workers : ℕ) (text : Text) (stop : List Text) (query : Text) (old new : Option Text) (told : Refusal) : Type 0 where
   pub error : AskError
   pub tells : Tells error told
-  pub leaves : Leaves text stop query old new error
+  pub leaves : Leaves workers text stop query old new error
 
--- Why `ask` was refused, and what it leaves of the standard output: the stop file is refused, the collection file cannot
--- be read, or the question is refused.
-pub data IsAskRefused (holds : Holding) (stop_file : Option (Bor Text)) (path query : Text) (old new : Option Text) : Refusal → Type 0 where
-  no_stop_list : {told : Refusal} → IsSomeAnd stop_file (λ named. RefusesStop holds named.now told) → Keeps old new → IsAskRefused holds stop_file path query old new told
-  no_file : {told : Refusal} → IsUnread path told → Keeps old new → IsAskRefused holds stop_file path query old new told
-  no_answer : {told : Refusal} (text : Text) (stop : List Text) → holds path text → IsStopHeld holds stop_file stop → IsQuestionRefused text stop query old new told → IsAskRefused holds stop_file path query old new told
+-- Why `ask` was refused, by so many workers, and what it leaves of the standard output: the stop file is refused, the
+-- collection file cannot be read, or the question is refused.
+pub data IsAskRefused (holds : Holding) (stop_file : Option (Bor Text)) (workers : ℕ) (path query : Text) (old new : Option Text) : Refusal → Type 0 where
+  no_stop_list : {told : Refusal} → IsSomeAnd stop_file (λ named. RefusesStop holds named.now told) → Keeps old new → IsAskRefused holds stop_file workers path query old new told
+  no_file : {told : Refusal} → IsUnread path told → Keeps old new → IsAskRefused holds stop_file workers path query old new told
+  no_answer : {told : Refusal} (text : Text) (stop : List Text) → holds path text → IsStopHeld holds stop_file stop → IsQuestionRefused workers text stop query old new told → IsAskRefused holds stop_file workers path query old new told

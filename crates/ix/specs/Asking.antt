@@ -1,5 +1,5 @@
 -- What it means that a question to a collection text was answered, and what a refusal leaves.
-use Rattle.std.specs.Prelude.{◌≡◌, ℕ, ◌⊎◌, List, length, Option}
+use Rattle.std.specs.Prelude.{◌≡◌, ◌≢◌, ℕ, ◌⊎◌, List, length, Option}
 use Rattle.std.specs.Io.KnownBytes.{Appends, Keeps}
 use Rattle.ix_text.specs.CollectionText.{IsCollectionText}
 use Rattle.ix_text.specs.CollectionFaults.{IsCollectionFault}
@@ -12,6 +12,9 @@ use Rattle.ix_query.specs.Machine.{query_of}
 use Rattle.ix_text.specs.declared.collection.CollectionError.{CollectionError}
 use Rattle.ix_text.specs.declared.collection.CollectionError.TheVariants as collection
 use Rattle.ix_query.specs.QueryErrors.{Fails}
+use Rattle.ix_build.specs.BuildErrors.{IsBuildRefusal}
+use Rattle.ix_build.specs.declared.build_error.BuildError.TheVariants as build_error
+use Rattle.ix_file.specs.declared.open_error.OpenError.TheVariants as open_error
 use Rattle.ix.specs.NameLines.{name_lines, names_read}
 use Rattle.ix.specs.declared.ask.AskError.{AskError}
 use Rattle.ix.specs.declared.ask.AskError.TheVariants as asking
@@ -56,26 +59,32 @@ IsCollection text = (documents : List NamedText) × IsCollectionText text docume
 abbrev pub RefusesText : List ℕ → AskError → Type 0
 RefusesText text (asking.Collection error) = RefusesCollection text error
 RefusesText text (asking.Query error) = ⊥
+RefusesText text (asking.Build error) = ⊥
+RefusesText text (asking.Open error) = ⊥
 RefusesText text asking.Write = ⊥
 RefusesText text asking.Memory = ⊥
 
--- Why the numbers were not found: the text is no query, with this first fault, or memory ran out.
-abbrev pub RefusesInQuery : List (List ℕ) → List ℕ → AskError → Type 0
-RefusesInQuery stop query (asking.Collection error) = ⊥
-RefusesInQuery stop query (asking.Query error) = Fails error (query_of stop query)
-RefusesInQuery stop query asking.Write = ⊥
-RefusesInQuery stop query asking.Memory = Unit {0}
+-- Why an index of documents gave no numbers: so many workers did not build it, for no refused write, or memory ran out.
+abbrev pub RefusesIndex : ℕ → AskError → Type 0
+RefusesIndex workers (asking.Collection error) = ⊥
+RefusesIndex workers (asking.Query error) = ⊥
+RefusesIndex workers (asking.Build error) = IsBuildRefusal workers error × (error ≢ build_error.Write)
+RefusesIndex workers (asking.Open error) = error ≡ open_error.Memory
+RefusesIndex workers asking.Write = ⊥
+RefusesIndex workers asking.Memory = Unit {0}
+
+-- Why the numbers were not found: the text is no query, with this first fault, or the index gave none.
+abbrev pub RefusesInQuery : ℕ → List (List ℕ) → List ℕ → AskError → Type 0
+RefusesInQuery workers stop query (asking.Query error) = Fails error (query_of stop query)
+RefusesInQuery workers stop query error = RefusesIndex workers error
 
 -- Why there is no answer, before anything was written.
-abbrev pub Refuses : List ℕ → List (List ℕ) → List ℕ → AskError → Type 0
-Refuses text stop query (asking.Collection error) = RefusesCollection text error
-Refuses text stop query (asking.Query error) = IsCollection text × Fails error (query_of stop query)
-Refuses text stop query asking.Write = ⊥
-Refuses text stop query asking.Memory = Unit {0}
+abbrev pub Refuses : ℕ → List ℕ → List (List ℕ) → List ℕ → AskError → Type 0
+Refuses workers text stop query (asking.Collection error) = RefusesCollection text error
+Refuses workers text stop query (asking.Query error) = IsCollection text × Fails error (query_of stop query)
+Refuses workers text stop query error = RefusesIndex workers error
 
--- Why a question was refused, and what went out.
-abbrev pub Leaves : List ℕ → List (List ℕ) → List ℕ → Option (List ℕ) → Option (List ℕ) → AskError → Type 0
-Leaves text stop query old new (asking.Collection error) = Refuses text stop query (asking.Collection error) × Keeps old new
-Leaves text stop query old new (asking.Query error) = Refuses text stop query (asking.Query error) × Keeps old new
-Leaves text stop query old new asking.Write = IsCutShort text stop query old new
-Leaves text stop query old new asking.Memory = Keeps old new
+-- Why a question was refused, by so many workers, and what went out.
+abbrev pub Leaves : ℕ → List ℕ → List (List ℕ) → List ℕ → Option (List ℕ) → Option (List ℕ) → AskError → Type 0
+Leaves workers text stop query old new asking.Write = IsCutShort text stop query old new
+Leaves workers text stop query old new error = Refuses workers text stop query error × Keeps old new

@@ -64,8 +64,9 @@ pub record HasPlan (rows : List Row) (plan : PlanValue) : Type 0 where
 
 -- the line is that of the command with this name, and its fields have what the rows have
 abbrev pub Holds : Text → List Row → Line → Type 0
-Holds name rows (Ask stop collection query) = (name ≡ codes "ask")
+Holds name rows (Ask stop plan collection query) = (name ≡ codes "ask")
     × HasText (codes "stop") rows stop
+    × HasPlan rows plan
     × HasOperand (codes "COLLECTION") rows collection
     × HasOperand (codes "QUERY") rows query
 Holds name rows (Build stop plan collection index) = (name ≡ codes "build")

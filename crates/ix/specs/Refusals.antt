@@ -1,9 +1,8 @@
 -- Refusals: what each of them tells, and the line that is printed.
-use Rattle.std.specs.Prelude.{◌≡◌, ℕ, ◌⊎◌, ◌/◌, ◌%◌, List, [], ◌∷◌, ◌++◌, flat_map, Option, None, Some, IfSome, codes, decimal, if◌then◌else◌, encode_utf8}
+use Rattle.std.specs.Prelude.{◌≡◌, ℕ, ◌⊎◌, ◌/◌, ◌%◌, [], ◌∷◌, ◌++◌, flat_map, Option, None, Some, IfSome, codes, if◌then◌else◌, encode_utf8}
 use Rattle.std.specs.Char.{digit_char, is_control}
 use Rattle.std.specs.Str.{chars}
 use Rattle.clap.specs.Walk.{Text}
-use Rattle.ix_query.specs.QueryErrors.{number_of}
 use Rattle.ix_text.specs.Sinks.{AppendsFront}
 use Rattle.ix.specs.declared.ask.AskError.{AskError}
 use Rattle.ix.specs.declared.ask.AskError.TheVariants as asking
@@ -20,6 +19,8 @@ use Rattle.ix.specs.declared.refusal.Refusal.TheVariants as refusal
 abbrev pub Tells : AskError → Refusal → Type 0
 Tells (asking.Collection error) told = told ≡ refusal.Collection error
 Tells (asking.Query error) told = told ≡ refusal.Query error
+Tells (asking.Build error) told = told ≡ refusal.Build error
+Tells (asking.Open error) told = told ≡ refusal.Index error
 Tells asking.Write (refusal.Write path) = path.now ≡ codes "-"
 Tells asking.Write _ = ⊥
 Tells asking.Memory told = told ≡ refusal.Memory

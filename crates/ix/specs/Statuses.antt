@@ -1,6 +1,6 @@
 -- What an exit status says: that help was printed, that a command was done, or why it was refused. The words are those of
 -- the command line with `help X` spelled as `X --help`.
-use Rattle.std.specs.Prelude.{◌≡◌, ◌≢◌, ℕ, ◌<◌, List, [], Option, codes}
+use Rattle.std.specs.Prelude.{◌≡◌, ◌≢◌, ℕ, ◌<◌, List, Option, codes}
 use Rattle.std.specs.Borrow.{Bor}
 use Rattle.std.specs.Io.KnownBytes.{Appends, Keeps}
 use Rattle.clap.specs.Walk.{Text}
@@ -36,7 +36,7 @@ pub record IsHelped (words : List Text) (old new : Option Text) : Type 0 where
 
 -- What the line asks for was done, and so much was found; where it asks for a file, one was saved, and nothing was printed.
 abbrev pub IsDone : Holding → Holding → Line → Option Text → Option Text → ℕ → Type 0
-IsDone holds saves (Ask stop_file collection query) old new count = IsAnsweredFromFiles holds stop_file collection.now query.now old new count
+IsDone holds saves (Ask stop_file plan collection query) old new count = IsAnsweredFromFiles holds stop_file collection.now query.now old new count
 IsDone holds saves (Build stop_file plan collection index) old new count =
     IsBuilt holds saves stop_file collection.now index.now × Keeps old new × (count ≡ 1)
 IsDone holds saves (Search index query) old new count = IsSearchedFromFile holds index.now query.now old new count
@@ -50,7 +50,8 @@ IsDone holds saves (Upgrade old_file new_file) old new count =
 
 -- what the line asks for was refused for this reason, and leaves this of the standard output
 abbrev pub IsLineRefused : Holding → Line → Option Text → Option Text → Refusal → Type 0
-IsLineRefused holds (Ask stop_file collection query) old new told = IsAskRefused holds stop_file collection.now query.now old new told
+IsLineRefused holds (Ask stop_file plan collection query) old new told =
+    IsAskRefused holds stop_file plan.workers collection.now query.now old new told
 IsLineRefused holds (Build stop_file plan collection index) old new told =
     IsBuildRefused holds stop_file plan.workers collection.now index.now told × Keeps old new
 IsLineRefused holds (Search index query) old new told = IsSearchRefused holds index.now query.now old new told

@@ -149,9 +149,10 @@ fn do_line<'a, R: Threads + Wait + Sync, F: FileSource + FileTarget, W: Write>(
     match line {
         Line::Ask {
             stop,
+            plan,
             collection,
             query,
-        } => ask::run(alloc, files, stop, collection, query, out),
+        } => ask::run(rt, alloc, files, stop, &plan, collection, query, out),
         Line::Search { index, query } => search::run(alloc, files, index, query, out),
         Line::Terms { index, pattern } => terms::run(alloc, files, index, pattern, out),
         Line::Build {

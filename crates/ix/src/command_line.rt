@@ -30,10 +30,12 @@ const WORKERS: u32 = 4;
 /// or the part of one after `=`.
 #[derive(Debug, Drop)]
 pub enum Line<'a> {
-    /// `ix ask [--stop FILE] COLLECTION QUERY`.
+    /// `ix ask [--stop FILE] [--block N] [--workers W] COLLECTION QUERY`.
     Ask {
         /// The file of stop words, where one is named.
         stop: Option<&'a str>,
+        /// How the collection is cut into blocks, and by how many workers these are made.
+        plan: Plan,
         /// The file of documents.
         collection: &'a str,
         /// The text of the query.
@@ -143,8 +145,12 @@ fn ask_line<'a>(matches: &ArgMatches<'a>) -> Line<'a>
     requires { Entered ix_built (codes "ask") (rows_of (found_of matches.now)) }
     ensures { Holds (codes "ask") (rows_of (found_of matches.now)) result }
 {
+    let stop = option(matches, "stop");
+    let block = number_or(matches, "block", BLOCK_DOCUMENTS);
+    let workers = number_or(matches, "workers", WORKERS);
     Line::Ask {
-        stop: option(matches, "stop"),
+        stop,
+        plan: plan_of(block, workers),
         collection: operand(matches, "COLLECTION"),
         query: operand(matches, "QUERY"),
     }

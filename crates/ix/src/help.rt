@@ -13,7 +13,7 @@ Finds the documents of a collection that answer a query.
 Usage: ix COMMAND ..
 
 Commands, in the order in which they are met:
-  ask       prints the names of the documents that answer a query, without an index
+  ask       prints the names of the documents of a collection that answer a query
             ix ask examples/mail.txt 'contract AND NOT hotel'
   build     builds an index of a collection, to be searched as often as one likes
             ix build examples/mail.txt mail.ix
@@ -55,11 +55,17 @@ Examples:
 pub const HELP_ON_ASK: &str = "\
 Prints the names of the documents of a collection that answer a query, one a line.
 
-Usage: ix ask [--stop FILE] COLLECTION QUERY
+Usage: ix ask [--stop FILE] [--block N] [--workers W] COLLECTION QUERY
 
   COLLECTION     the file of documents; `-` is the standard input
   QUERY          the query, as one argument
   --stop FILE    a file of words to leave out, one a line
+  --block N      how many documents are inverted at a time,
+                 from 1 to 268435456; without it 1024
+  --workers W    how many threads invert them, from 1 to 64; without it 4
+
+An index of the collection is built in memory, and answers. The answer is the same
+whatever N and W are. To ask more than once, build the index once and search it.
 
 A collection is a text in which each line is a document:
 its name, a TAB, and its text.

@@ -93,6 +93,8 @@ impl From<AskError> for Refusal<'_> {
         match error {
             AskError::Collection(error) => Refusal::Collection(error),
             AskError::Query(error) => Refusal::Query(error),
+            AskError::Build(error) => Refusal::Build(error),
+            AskError::Open(error) => Refusal::Index(error),
             AskError::Write => Refusal::Write("-"),
             AskError::Memory => Refusal::Memory,
         }

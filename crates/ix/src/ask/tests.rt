@@ -1,12 +1,48 @@
-//! Writes that are refused at each byte, and a flush that is.
+//! Each plan gives one answer; writes that are refused at each byte, and a flush that is.
 
 use super::{AskError, ask};
+use ix_build::{Cut, Plan, Runs};
 use ix_text::StopList;
 use std::io;
 use std::io::{ErrorKind, Write};
 use std::test::Fail;
 
 const FIVE: &[u8] = b"a\tx y\nb\ty\nc\t\nd\ty x y\ne\tx\n";
+
+/// A plan of two documents a block, and three workers.
+fn plan() -> Result<Plan, Fail> {
+    Ok(Plan::new(Cut::Docs(2), 3, Runs::Memory).ok_or("no plan")?)
+}
+
+#[test]
+fn each_plan_gives_one_answer(rt: HostRuntime) -> Result<(), Fail> {
+    let stop = StopList::empty(rt.alloc());
+    for cut in [
+        Cut::Docs(1),
+        Cut::Docs(2),
+        Cut::Docs(4),
+        Cut::Docs(1024),
+        Cut::Bytes(1),
+        Cut::Bytes(4),
+    ] {
+        for workers in [1, 2, 3, 64] {
+            let plan = Plan::new(cut, workers, Runs::Memory).ok_or("no plan")?;
+            for (query, names) in [
+                ("y", b"a\nb\nd\n".as_slice()),
+                ("\"y x\"", b"d\n".as_slice()),
+                ("NOT y", b"c\ne\n".as_slice()),
+                ("x* AND NOT y", b"e\n".as_slice()),
+                ("z", b"".as_slice()),
+            ] {
+                let mut out = Vec::new(rt.alloc());
+                let count = ask(&rt, rt.alloc(), FIVE, &stop, &plan, query, &mut out)?;
+                assert!(rt; out.as_slice() == names, "{query} by {plan:?}");
+                assert_eq!(rt; count, names.len() / 2);
+            }
+        }
+    }
+    Ok(())
+}
 
 /// A writer that takes so many bytes, one a call, and refuses the next.
 #[derive(Drop)]
@@ -57,7 +93,7 @@ fn writes_refused_at_each_byte(rt: HostRuntime) -> Result<(), Fail> {
             room,
             flushes,
         };
-        let got = ask(rt.alloc(), FIVE, &stop, "y", &mut out);
+        let got = ask(&rt, rt.alloc(), FIVE, &stop, &plan()?, "y", &mut out);
         let want = if room == 6 && flushes {
             Ok(3)
         } else {
@@ -82,7 +118,16 @@ fn refusals_write_nothing(rt: HostRuntime) -> Result<(), Fail> {
             room: 9,
             flushes: true,
         };
-        assert!(rt; ask(rt.alloc(), collection, &stop, query, &mut out).is_err());
+        let got = ask(
+            &rt,
+            rt.alloc(),
+            collection,
+            &stop,
+            &plan()?,
+            query,
+            &mut out,
+        );
+        assert!(rt; got.is_err());
         assert!(rt; out.taken.is_empty());
     }
     Ok(())

@@ -1,4 +1,4 @@
-//! `ix ask`: asks a collection file, without an index.
+//! `ix ask`: asks a collection file, by an index that is built in memory.
 
 ghost use Rattle.std.specs.Prelude.{◌≡◌, ℕ, List, take, IfOk, IfErr, IsSomeAnd};
 ghost use Rattle.ix_text.specs.StopText.{IsStopText};
@@ -10,21 +10,26 @@ ghost use Rattle.ix.specs.Refusals.{IsUnread};
 use crate::ask::ask;
 use crate::files::{FileSource, ReadFault};
 use crate::refusal::Refusal;
+use ix_build::Plan;
 use ix_text::{StopError, StopList};
 use std::alloc::Global;
 use std::io::Write;
 use std::str;
+use std::sync::Wait;
+use std::thread::Threads;
 
 /// One byte more than a collection text or a stop text may have, so that a longer one, be it
 /// without an end, is refused for its size and takes no more memory.
 const ROOM: usize = (1 << 28) + 1;
 
 /// Writes the names of the documents in the collection file that answer the query, and answers how
-/// many there are. The words of the stop file, where one is named, are left out.
-pub fn run<'a, F: FileSource, W: Write>(
+/// many there are, whatever the plan. The words of the stop file, where one is named, are left out.
+pub fn run<'a, R: Threads + Wait + Sync, F: FileSource, W: Write>(
+    rt: &R,
     alloc: Global,
     files: &F,
     stop: Option<&'a str>,
+    plan: &Plan,
     collection: &'a str,
     query: &str,
     out: &mut W,
@@ -32,12 +37,12 @@ pub fn run<'a, F: FileSource, W: Write>(
     ensures answered { IfOk result
         (IsAnsweredFromFiles (F.holds files.now) stop.entry collection.entry.now
         query.now (W.contents out.old) (W.contents out.new)) }
-    ensures refused { IfErr result (IsAskRefused (F.holds files.now) stop.entry collection.entry.now
-        query.now (W.contents out.old) (W.contents out.new)) }
+    ensures refused { IfErr result (IsAskRefused (F.holds files.now) stop.entry plan.now.workers
+        collection.entry.now query.now (W.contents out.old) (W.contents out.new)) }
 {
     let stop = read_stop_list(alloc, files, stop)?;
     let text = read_file(files, collection)?;
-    Ok(ask(alloc, &text, &stop, query, out)?)
+    Ok(ask(rt, alloc, &text, &stop, plan, query, out)?)
 }
 
 /// The stop list of a file, or the empty one where no file is named.

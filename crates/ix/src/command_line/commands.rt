@@ -41,14 +41,16 @@ fn program<'a>(alloc: Global) -> Command<'a>
         .subcommand_required(true)
 }
 
-#[tactic(auto, using(crate::proofs::Building::adds_argument))]
 fn ask<'a>(alloc: Global) -> Result<Command<'a>, AllocError>
     ensures { IfOk result (IsCommand (leaf ask_shape)) }
 {
-    Command::new(alloc, "ask")
-        .arg(option(alloc, "stop"))?
-        .arg(operand(alloc, "COLLECTION"))?
-        .arg(operand(alloc, "QUERY"))
+    let plain = Command::new(alloc, "ask");
+    let with_stop = plain.arg(option(alloc, "stop"))?;
+    let with_block = with_stop.arg(number(alloc, "block", 1, MAX_DOCUMENTS))?;
+    let with_workers = with_block.arg(number(alloc, "workers", 1, MAX_WORKERS))?;
+    let with_collection = with_workers.arg(operand(alloc, "COLLECTION"))?;
+    let with_query = with_collection.arg(operand(alloc, "QUERY"))?;
+    Ok(with_query)
 }
 
 fn build<'a>(alloc: Global) -> Result<Command<'a>, AllocError>

@@ -1,5 +1,6 @@
 use super::{Line, LineError, read_line};
 use clap::error::ErrorKind;
+use ix_build::Cut;
 use std::test::Fail;
 
 #[test]
@@ -12,16 +13,28 @@ fn a_line_of_each_command(rt: HostRuntime) -> Result<(), Fail> {
             stop,
             collection,
             query,
+            ..
         } = read_line(rt.alloc(), words)?
         else {
             return Err(Fail::from("it is another line"));
         };
         assert!(rt; stop == Some("s.txt") && collection == "c.txt" && query == "red");
     }
-    let Line::Ask { stop, .. } = read_line(rt.alloc(), &["ask", "c.txt", "red"])? else {
-        return Err(Fail::from("it is another line"));
-    };
-    assert!(rt; stop == None);
+    for (words, block, workers) in [
+        (["ask", "c.txt", "red"].as_slice(), 1024, 4),
+        (["ask", "--block=7", "c.txt", "red"].as_slice(), 7, 4),
+        (
+            ["ask", "c.txt", "--workers", "64", "red"].as_slice(),
+            1024,
+            64,
+        ),
+    ] {
+        let Line::Ask { stop, plan, .. } = read_line(rt.alloc(), words)? else {
+            return Err(Fail::from("it is another line"));
+        };
+        assert!(rt; stop == None);
+        assert!(rt; plan.cut() == Cut::Docs(block) && plan.workers() == workers);
+    }
     let Line::Search { index, query } = read_line(rt.alloc(), &["search", "c.ix", "red"])? else {
         return Err(Fail::from("it is another line"));
     };

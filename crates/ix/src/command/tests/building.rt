@@ -65,6 +65,40 @@ fn plans_build_one_index(rt: HostRuntime) -> Result<(), Fail> {
 }
 
 #[test]
+fn plans_ask_with_one_answer(rt: HostRuntime) -> Result<(), Fail> {
+    let disk = disk_of_five(&rt)?;
+    for block in ["1", "2", "4", "268435456"] {
+        for workers in ["1", "2", "3", "64"] {
+            for (query, status, names) in [
+                ("y", 0, "a\nb\nd\n"),
+                ("y NEAR/2 y", 0, "d\n"),
+                ("NOT x AND NOT y", 0, "c\n"),
+                ("x OR y AND NOT x", 0, "a\nb\nd\ne\n"),
+                ("z", 1, ""),
+            ] {
+                let words = ["ask", "--block", block, "--workers", workers, "five", query];
+                expect_names(&rt, &disk, &words, status, names)?;
+            }
+        }
+    }
+    let words = [
+        "ask",
+        "one",
+        "--stop=stop",
+        "--block=1",
+        "\"flights to london\"",
+    ];
+    expect_names(&rt, &disk, &words, 0, "d\n")?;
+    expect_names(
+        &rt,
+        &disk,
+        &["ask", "empty", "--workers=64", "NOT a"],
+        1,
+        "",
+    )
+}
+
+#[test]
 fn what_was_built_answers_as_the_collection(rt: HostRuntime) -> Result<(), Fail> {
     let disk = disk_of_five(&rt)?;
     expect(&rt, &disk, &["build", "five", "new"], "")?;
@@ -111,6 +145,22 @@ fn builds_that_are_refused(rt: HostRuntime) -> Result<(), Fail> {
         ),
         (
             ["build", "--workers", "65", "five", "new"].as_slice(),
+            "ix: arguments refused\n",
+        ),
+        (
+            ["ask", "--block", "0", "five", "y"].as_slice(),
+            "ix: arguments refused\n",
+        ),
+        (
+            ["ask", "--block", "268435457", "five", "y"].as_slice(),
+            "ix: arguments refused\n",
+        ),
+        (
+            ["ask", "--workers", "0", "five", "y"].as_slice(),
+            "ix: arguments refused\n",
+        ),
+        (
+            ["ask", "--workers", "65", "five", "y"].as_slice(),
             "ix: arguments refused\n",
         ),
         (

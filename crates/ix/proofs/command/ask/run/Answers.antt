@@ -19,7 +19,7 @@ returns-in_err-ask-clause-refused g c =
     (λ told tells. no_answer front.whole c.in_ok-stop.stop front.held c.in_ok-stop.ensures.held (record {
       error = c.in_err-ask.field-0.0;
       tells = tells;
-      leaves = leaves_whole _ front.whole _ _ _ _ c.in_err-ask.field-0.0 front.cut leaves;
+      leaves = leaves_whole _ _ front.whole _ _ _ _ c.in_err-ask.field-0.0 front.cut leaves;
     }))
 
 pub returns-clause-answered : goal.returns-clause-answered
