@@ -3,6 +3,7 @@ pub mod BuildLemmas
 pub mod Building
 pub mod EachLemmas
 pub mod FileLemmas
+pub mod HeadlineLemmas
 pub mod HelpLemmas
 pub mod IndexLemmas
 pub mod ListingLemmas

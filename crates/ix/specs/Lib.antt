@@ -5,6 +5,7 @@ pub mod BuiltIndexes
 pub mod Commands
 pub mod Entered
 pub mod Files
+pub mod Headline
 pub mod Help
 pub mod IndexFiles
 pub mod LineErrors

@@ -7,6 +7,7 @@ mod command_line;
 mod files;
 mod help;
 mod index_file;
+mod laws;
 mod listing;
 mod names;
 mod output;
