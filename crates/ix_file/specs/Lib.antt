@@ -20,6 +20,7 @@ pub mod PutErrors
 pub mod ReadLists
 pub mod Refusals
 pub mod Rows
+pub mod SectionNames
 pub mod SectionSteps
 pub mod Sections
 pub mod SizeLaws

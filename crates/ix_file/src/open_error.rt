@@ -24,6 +24,11 @@ pub enum Section {
 }
 
 impl fmt::Display for Section {
+    ghost use Rattle.std.specs.Prelude.{Some};
+    ghost use Rattle.ix_file.specs.SectionNames.{section_name};
+
+    ghost output = { λ section. Some (section_name section) };
+
     fn fmt<W: fmt::Write>(&self, f: &mut fmt::Formatter<W>) -> fmt::Result {
         f.write_str(match self {
             Section::Postings => "POSTINGS",
