@@ -100,6 +100,20 @@ fn pieces_stand_in_their_places(rt: HostRuntime) -> Result<(), Fail> {
     Ok(())
 }
 
+#[test]
+fn two_million_places(rt: HostRuntime) -> Result<(), Fail> {
+    let (board, mut desks) = Board::open(rt.alloc(), 2_000_000, 1)?;
+    assert_eq!(rt; board.count(), 2_000_000);
+    let mut desk = desks.pop().ok_or("desk 0")?;
+    desk.deliver(&board, 7u64);
+    assert_eq!(rt; desk.claim(&board), Some(1));
+    desks.push(desk)?;
+    let pieces = board.close(desks);
+    assert_eq!(rt; pieces.len(), 2_000_000);
+    assert_eq!(rt; pieces.first().copied().flatten(), Some(7));
+    Ok(())
+}
+
 // How many tokens were delivered by as many threads as there are workers, and the pieces.
 fn work_out<R: Threads + Sync>(
     rt: &R,
