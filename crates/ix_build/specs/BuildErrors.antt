@@ -1,5 +1,5 @@
--- The errors of building a collection: their numbers, and for what each one stands.
-use Rattle.std.specs.Prelude.{ℕ, ◌<◌}
+-- The errors of building a collection: their numbers, their names, as they are printed, and for what each one stands.
+use Rattle.std.specs.Prelude.{ℕ, ◌<◌, List, ◌++◌, codes, decimal}
 use Rattle.ix_merge.specs.declared.merge_error.MergeError.{MergeError}
 use Rattle.ix_merge.specs.declared.merge_error.MergeError.TheVariants as merge
 use Rattle.ix_build.specs.declared.build_error.BuildError.{BuildError}
@@ -14,6 +14,13 @@ build_error_number (Thread worker) = 1
 build_error_number (Spill place) = 2
 build_error_number Write = 3
 build_error_number Memory = 4
+
+-- the name of an error, with its worker or its place in brackets
+abbrev pub build_error_name : BuildError → List ℕ
+build_error_name (Thread worker) = codes "Thread(" ++ (decimal worker ++ codes ")")
+build_error_name (Spill place) = codes "Spill(" ++ (decimal place ++ codes ")")
+build_error_name Write = codes "Write"
+build_error_name Memory = codes "Memory"
 
 -- the errors of a merge of consecutive blocks
 abbrev pub MayComeOfMerge : {E : Type 0} → MergeError E → Type 0

@@ -4,23 +4,19 @@ ghost use Rattle.std.specs.Prelude.{◌≡◌};
 use crate::by_error::ByError;
 use crate::errors::MakeError;
 use ix_merge::MergeError;
-use thiserror::Error;
+use std::{error, fmt};
 
 /// Why a collection is not built.
-#[derive(Clone, Copy, Debug, PartialEq, Eq, Error)]
+#[derive(Clone, Copy, Debug, PartialEq, Eq)]
 pub enum BuildError {
     /// The thread of the worker with this number, from 0, could not be started.
-    #[error("Thread({0})")]
     Thread(usize),
     /// The run of the block at this place, from 0, was not kept or not given back. It does not come while runs are
     /// kept in memory.
-    #[error("Spill({0})")]
     Spill(usize),
     /// A write or the flush was refused.
-    #[error("Write")]
     Write,
     /// Memory was refused.
-    #[error("Memory")]
     Memory,
 }
 
@@ -55,3 +51,21 @@ impl BuildError {
         }
     }
 }
+
+impl fmt::Display for BuildError {
+    ghost use Rattle.std.specs.Prelude.{Some};
+    ghost use Rattle.ix_build.specs.BuildErrors.{build_error_name};
+
+    ghost output = { λ error. Some (build_error_name error) };
+
+    fn fmt<W: fmt::Write>(&self, f: &mut fmt::Formatter<W>) -> fmt::Result {
+        match self {
+            BuildError::Thread(worker) => write!(f, "Thread({worker})"),
+            BuildError::Spill(place) => write!(f, "Spill({place})"),
+            BuildError::Write => f.write_str("Write"),
+            BuildError::Memory => f.write_str("Memory"),
+        }
+    }
+}
+
+impl error::Error for BuildError {}

@@ -5,8 +5,7 @@ ghost use Rattle.ix_file.specs.declared.open_error.OpenError.TheVariants.{Memory
 
 use ix_vbyte::VbError;
 use std::alloc::{AllocError, AllocFailed};
-use std::fmt;
-use thiserror::Error;
+use std::{error, fmt};
 
 /// The sections of an index text, in their order.
 #[derive(Clone, Copy, Debug, PartialEq, Eq)]
@@ -41,70 +40,49 @@ impl fmt::Display for Section {
 }
 
 /// Why bytes are no index text of a lawful collection, or `Memory`.
-#[derive(Clone, Copy, Debug, PartialEq, Eq, Error)]
+#[derive(Clone, Copy, Debug, PartialEq, Eq)]
 pub enum OpenError {
     /// There are fewer than 64 bytes.
-    #[error("Short")]
     Short,
     /// The first eight bytes are those of no version.
-    #[error("Magic")]
     Magic,
     /// The last eight bytes are not those of the version.
-    #[error("Trailer")]
     Trailer,
     /// The lengths of the sections do not sum to what is there.
-    #[error("Lengths")]
     Lengths,
     /// In this section a number is not coded as it must be, or the section ends inside a number or a text.
-    #[error("Number({0}, {1})")]
     Number(Section, VbError),
     /// A term, a stop term or a name is not UTF-8.
-    #[error("Text")]
     Text,
     /// A name has not 1 to 255 bytes, or holds a TAB or an LF.
-    #[error("Name")]
     Name,
     /// A term or a stop term has not 1 to 255 bytes.
-    #[error("TermSize")]
     TermSize,
     /// A term does not stand above the term before it.
-    #[error("TermOrder")]
     TermOrder,
     /// A stop term does not stand above the one before it.
-    #[error("StopOrder")]
     StopOrder,
     /// A term is one of the stop terms.
-    #[error("StopIndexed")]
     StopIndexed,
     /// A list of postings does not end where its length says, or the lists are not as long as POSTINGS.
-    #[error("ListLength")]
     ListLength,
     /// A gap or a count is 0.
-    #[error("Zero")]
     Zero,
     /// A posting names a document that is not there.
-    #[error("DocRange")]
     DocRange,
     /// A position is not below its document's number of tokens.
-    #[error("PositionRange")]
     PositionRange,
     /// Two terms claim one position of one document.
-    #[error("Doubled")]
     Doubled,
     /// GRAMS is not the section that belongs to the terms.
-    #[error("Grams")]
     Grams,
     /// There are not as many documents or terms as the trailer says.
-    #[error("Counts")]
     Counts,
     /// More than 2^28 documents, stop terms or tokens.
-    #[error("TooLarge")]
     TooLarge,
     /// Memory was refused.
-    #[error("Memory")]
     Memory,
     /// What a term shares with the term before it is not the longest front that they share.
-    #[error("Front")]
     Front,
 }
 
@@ -138,6 +116,41 @@ impl OpenError {
         }
     }
 }
+
+impl fmt::Display for OpenError {
+    ghost use Rattle.std.specs.Prelude.{Some};
+    ghost use Rattle.ix_file.specs.OpenErrors.{open_error_name};
+
+    ghost output = { λ error. Some (open_error_name error) };
+
+    fn fmt<W: fmt::Write>(&self, f: &mut fmt::Formatter<W>) -> fmt::Result {
+        match self {
+            OpenError::Short => f.write_str("Short"),
+            OpenError::Magic => f.write_str("Magic"),
+            OpenError::Trailer => f.write_str("Trailer"),
+            OpenError::Lengths => f.write_str("Lengths"),
+            OpenError::Number(section, fault) => write!(f, "Number({section}, {fault})"),
+            OpenError::Text => f.write_str("Text"),
+            OpenError::Name => f.write_str("Name"),
+            OpenError::TermSize => f.write_str("TermSize"),
+            OpenError::TermOrder => f.write_str("TermOrder"),
+            OpenError::StopOrder => f.write_str("StopOrder"),
+            OpenError::StopIndexed => f.write_str("StopIndexed"),
+            OpenError::ListLength => f.write_str("ListLength"),
+            OpenError::Zero => f.write_str("Zero"),
+            OpenError::DocRange => f.write_str("DocRange"),
+            OpenError::PositionRange => f.write_str("PositionRange"),
+            OpenError::Doubled => f.write_str("Doubled"),
+            OpenError::Grams => f.write_str("Grams"),
+            OpenError::Counts => f.write_str("Counts"),
+            OpenError::TooLarge => f.write_str("TooLarge"),
+            OpenError::Memory => f.write_str("Memory"),
+            OpenError::Front => f.write_str("Front"),
+        }
+    }
+}
+
+impl error::Error for OpenError {}
 
 impl From<AllocError> for OpenError {
     ghost from_gives = { λ _ e. e ≡ Memory };

@@ -5,19 +5,16 @@ ghost use Rattle.ix_gram.specs.PatternErrors.{number_of};
 ghost use Rattle.ix_gram.specs.declared.error.PatternError.TheVariants.{Memory};
 
 use std::alloc::{AllocError, AllocFailed};
-use thiserror::Error;
+use std::{error, fmt};
 
 /// Why a text is not read as a pattern.
-#[derive(Clone, Copy, Debug, PartialEq, Eq, Error)]
+#[derive(Clone, Copy, Debug, PartialEq, Eq)]
 pub enum PatternError {
     /// The text has no star.
-    #[error("NoStar")]
     NoStar,
     /// The text is nothing but stars.
-    #[error("BareStar")]
     BareStar,
     /// Memory ran out.
-    #[error("Memory")]
     Memory,
 }
 
@@ -33,6 +30,23 @@ impl PatternError {
         }
     }
 }
+
+impl fmt::Display for PatternError {
+    ghost use Rattle.std.specs.Prelude.{Some};
+    ghost use Rattle.ix_gram.specs.PatternErrors.{name_of};
+
+    ghost output = { λ error. Some (name_of error) };
+
+    fn fmt<W: fmt::Write>(&self, f: &mut fmt::Formatter<W>) -> fmt::Result {
+        match self {
+            PatternError::NoStar => f.write_str("NoStar"),
+            PatternError::BareStar => f.write_str("BareStar"),
+            PatternError::Memory => f.write_str("Memory"),
+        }
+    }
+}
+
+impl error::Error for PatternError {}
 
 impl From<AllocError> for PatternError {
     ghost from_gives = { λ _ e. e ≡ Memory };

@@ -3,33 +3,24 @@ ghost use Rattle.std.specs.Prelude.{◌≡◌};
 ghost use Rattle.ix_merge.specs.MergeErrors.{merge_error_number};
 
 use std::alloc::AllocError;
-use std::fmt::{Debug, Display};
-use thiserror::Error;
+use std::{error, fmt};
 
 /// Why sources are not merged. A source with n documents covers n numbers: its first one and those that follow.
-#[derive(Debug, Drop, PartialEq, Eq, Error)]
-#[error_bound(E: Debug + Display + Drop)]
+#[derive(Debug, Drop, PartialEq, Eq)]
 pub enum MergeError<E> {
     /// No source covers the document of this number, below the greatest number that one covers.
-    #[error("Gap({0})")]
     Gap(u32),
     /// Two sources or more cover the document of this number.
-    #[error("Overlap({0})")]
     Overlap(u32),
     /// Two sources have different stop terms.
-    #[error("StopDiffers")]
     StopDiffers,
     /// The source at this place of the list, from 0, refused a call.
-    #[error("Source({0}, {1})")]
     Source(usize, E),
     /// All sources together have more than 2^28 tokens.
-    #[error("TooLarge")]
     TooLarge,
     /// A write or the flush was refused.
-    #[error("Write")]
     Write,
     /// Memory was refused.
-    #[error("Memory")]
     Memory,
 }
 
@@ -49,6 +40,26 @@ impl<E> MergeError<E> {
         }
     }
 }
+
+impl<E: fmt::Display> fmt::Display for MergeError<E> {
+    ghost use Rattle.ix_merge.specs.MergeErrors.{merge_error_name};
+
+    ghost output = { merge_error_name E.output };
+
+    fn fmt<W: fmt::Write>(&self, f: &mut fmt::Formatter<W>) -> fmt::Result {
+        match self {
+            MergeError::Gap(document) => write!(f, "Gap({document})"),
+            MergeError::Overlap(document) => write!(f, "Overlap({document})"),
+            MergeError::StopDiffers => f.write_str("StopDiffers"),
+            MergeError::Source(place, error) => write!(f, "Source({place}, {error})"),
+            MergeError::TooLarge => f.write_str("TooLarge"),
+            MergeError::Write => f.write_str("Write"),
+            MergeError::Memory => f.write_str("Memory"),
+        }
+    }
+}
+
+impl<E: fmt::Debug + fmt::Display + Drop> error::Error for MergeError<E> {}
 
 impl<E> From<AllocError> for MergeError<E> {
     ghost use Rattle.std.specs.Prelude.{◌≡◌};

@@ -5,16 +5,15 @@ ghost use Rattle.ix_run.specs.Errors.{run_error_number, write_error_number};
 
 use ix_text::WriteRefused;
 use std::alloc::{AllocError, AllocFailed};
+use std::{error, fmt};
 use thiserror::Error;
 
 /// Why documents are not inverted.
-#[derive(Clone, Copy, Debug, PartialEq, Eq, Error)]
+#[derive(Clone, Copy, Debug, PartialEq, Eq)]
 pub enum RunError {
     /// The numbers of the documents go beyond 2^28, or there are more than 2^28 tokens.
-    #[error("TooLarge")]
     TooLarge,
     /// Memory was refused.
-    #[error("Memory")]
     Memory,
 }
 
@@ -29,6 +28,22 @@ impl RunError {
         }
     }
 }
+
+impl fmt::Display for RunError {
+    ghost use Rattle.std.specs.Prelude.{Some};
+    ghost use Rattle.ix_run.specs.Errors.{run_error_name};
+
+    ghost output = { λ error. Some (run_error_name error) };
+
+    fn fmt<W: fmt::Write>(&self, f: &mut fmt::Formatter<W>) -> fmt::Result {
+        match self {
+            RunError::TooLarge => f.write_str("TooLarge"),
+            RunError::Memory => f.write_str("Memory"),
+        }
+    }
+}
+
+impl error::Error for RunError {}
 
 impl<T: Drop> From<AllocFailed<T>> for RunError {
     ghost use Rattle.std.specs.Prelude.{◌≡◌};

@@ -3,64 +3,46 @@ ghost use Rattle.std.specs.Prelude.{◌≡◌};
 
 use ix_vbyte::VbError;
 use std::alloc::{AllocError, AllocFailed};
-use thiserror::Error;
+use std::{error, fmt};
 
 /// Why some bytes are no run text, or why that could not be told.
-#[derive(Clone, Copy, Debug, Error, PartialEq, Eq)]
+#[derive(Clone, Copy, Debug, PartialEq, Eq)]
 pub enum RunTextError {
     /// The bytes do not begin with the eight bytes of a run text.
-    #[error("Magic")]
     Magic,
     /// A number is not coded as it must be, or the input ends inside a number or a text.
-    #[error("Number({0})")]
     Number(VbError),
     /// A term, a stop term or a name is not UTF-8.
-    #[error("Text")]
     Text,
     /// A name has not 1 to 255 bytes, or holds a TAB or an LF.
-    #[error("Name")]
     Name,
     /// A term has more than 255 bytes, or a stop term has not 1 to 255.
-    #[error("TermSize")]
     TermSize,
     /// A term does not stand above the term before it.
-    #[error("TermOrder")]
     TermOrder,
     /// A list of postings does not end where its length says.
-    #[error("ListLength")]
     ListLength,
     /// A posting names a document that the run does not have.
-    #[error("DocRange")]
     DocRange,
     /// A gap or a count is 0.
-    #[error("Zero")]
     Zero,
     /// A position is not below its document's number of tokens.
-    #[error("PositionRange")]
     PositionRange,
     /// A term is one of the stop terms.
-    #[error("StopIndexed")]
     StopIndexed,
     /// A stop term does not stand above the one before it.
-    #[error("StopOrder")]
     StopOrder,
     /// Bytes stand behind the end mark.
-    #[error("Extra")]
     Extra,
     /// More than 2^28 stop terms, tokens or documents, those before the run included.
-    #[error("TooLarge")]
     TooLarge,
     /// The reader refused a read.
-    #[error("Read")]
     Read,
     /// Memory was refused.
-    #[error("Memory")]
     Memory,
     /// Two terms claim one position of one document.
-    #[error("Doubled")]
     Doubled,
     /// An earlier call was refused.
-    #[error("Failed")]
     Failed,
 }
 
@@ -93,6 +75,38 @@ impl RunTextError {
         }
     }
 }
+
+impl fmt::Display for RunTextError {
+    ghost use Rattle.std.specs.Prelude.{Some};
+    ghost use Rattle.ix_run.specs.RunTextErrors.{run_text_error_name};
+
+    ghost output = { λ error. Some (run_text_error_name error) };
+
+    fn fmt<W: fmt::Write>(&self, f: &mut fmt::Formatter<W>) -> fmt::Result {
+        match self {
+            RunTextError::Magic => f.write_str("Magic"),
+            RunTextError::Number(fault) => write!(f, "Number({fault})"),
+            RunTextError::Text => f.write_str("Text"),
+            RunTextError::Name => f.write_str("Name"),
+            RunTextError::TermSize => f.write_str("TermSize"),
+            RunTextError::TermOrder => f.write_str("TermOrder"),
+            RunTextError::ListLength => f.write_str("ListLength"),
+            RunTextError::DocRange => f.write_str("DocRange"),
+            RunTextError::Zero => f.write_str("Zero"),
+            RunTextError::PositionRange => f.write_str("PositionRange"),
+            RunTextError::StopIndexed => f.write_str("StopIndexed"),
+            RunTextError::StopOrder => f.write_str("StopOrder"),
+            RunTextError::Extra => f.write_str("Extra"),
+            RunTextError::TooLarge => f.write_str("TooLarge"),
+            RunTextError::Read => f.write_str("Read"),
+            RunTextError::Memory => f.write_str("Memory"),
+            RunTextError::Doubled => f.write_str("Doubled"),
+            RunTextError::Failed => f.write_str("Failed"),
+        }
+    }
+}
+
+impl error::Error for RunTextError {}
 
 impl<T: Drop> From<AllocFailed<T>> for RunTextError {
     ghost use Rattle.std.specs.Prelude.{◌≡◌};

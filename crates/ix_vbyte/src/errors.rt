@@ -2,19 +2,16 @@
 ghost use Rattle.std.specs.Prelude.{◌≡◌};
 ghost use Rattle.ix_vbyte.specs.Numbers.{number_of};
 
-use thiserror::Error;
+use std::{error, fmt};
 
 /// Why some bytes do not begin with the code of a number, in the order of the tests at each byte.
-#[derive(Clone, Copy, Debug, Error, PartialEq, Eq)]
+#[derive(Clone, Copy, Debug, PartialEq, Eq)]
 pub enum VbError {
     /// The bytes end before one of them ends the code.
-    #[error("Cut")]
     Cut,
     /// The first byte is `00`.
-    #[error("LeadingZero")]
     LeadingZero,
     /// The bytes come to stand for more than 2^32 - 1.
-    #[error("TooBig")]
     TooBig,
 }
 
@@ -30,3 +27,20 @@ impl VbError {
         }
     }
 }
+
+impl fmt::Display for VbError {
+    ghost use Rattle.std.specs.Prelude.{Some};
+    ghost use Rattle.ix_vbyte.specs.Numbers.{name_of};
+
+    ghost output = { λ error. Some (name_of error) };
+
+    fn fmt<W: fmt::Write>(&self, f: &mut fmt::Formatter<W>) -> fmt::Result {
+        match self {
+            VbError::Cut => f.write_str("Cut"),
+            VbError::LeadingZero => f.write_str("LeadingZero"),
+            VbError::TooBig => f.write_str("TooBig"),
+        }
+    }
+}
+
+impl error::Error for VbError {}
