@@ -1,9 +1,19 @@
 -- Refusals: what each of them tells, and the line that is printed.
-use Rattle.std.specs.Prelude.{◌≡◌, ℕ, ◌⊎◌, ◌/◌, ◌%◌, [], ◌∷◌, ◌++◌, flat_map, Option, None, Some, IfSome, codes, if◌then◌else◌, encode_utf8}
+use Rattle.std.specs.Prelude.{◌≡◌, ℕ, ◌⊎◌, ◌/◌, ◌%◌, [], ◌∷◌, ◌++◌, flat_map, Option, Some, option_map, IfSome, codes, decimal, if◌then◌else◌, encode_utf8}
 use Rattle.std.specs.Char.{digit_char, is_control}
 use Rattle.std.specs.Str.{chars}
 use Rattle.clap.specs.Walk.{Text}
+use Rattle.ix_build.specs.BuildErrors.{build_error_name, build_error_number}
+use Rattle.ix_file.specs.OpenErrors.{open_error_name, open_error_number}
+use Rattle.ix_gram.specs.PatternErrors.{name_of as pattern_error_name, number_of as pattern_error_number}
+use Rattle.ix_merge.specs.MergeErrors.{merge_error_name, merge_error_number}
+use Rattle.ix_query.specs.ErrorNames.{name_of as query_error_name}
+use Rattle.ix_query.specs.QueryErrors.{number_of as query_error_number}
+use Rattle.ix_run.specs.Errors.{run_error_name, run_error_number}
+use Rattle.ix_run.specs.RunTextErrors.{run_text_error_name}
+use Rattle.ix_text.specs.CollectionErrors.{collection_error_name, collection_error_number}
 use Rattle.ix_text.specs.Sinks.{AppendsFront}
+use Rattle.ix_text.specs.StopErrors.{stop_error_name, stop_error_number}
 use Rattle.ix.specs.declared.ask.AskError.{AskError}
 use Rattle.ix.specs.declared.ask.AskError.TheVariants as asking
 use Rattle.ix.specs.declared.search.SearchError.{SearchError}
@@ -53,18 +63,22 @@ IsUnsaved path _ = ⊥
 
 -- ---- its line
 
--- area, number and name; not stated where the name is that of an error of a collection text, a stop text, a query, an
--- index text, a pattern, a run, a build or a merge
+-- an error of an area, by its number in the area's list and its name
+abbrev pub error_text : Text → ℕ → Text → Text
+error_text area number name = area ++ (decimal number ++ (codes ": " ++ name))
+
+-- area, number and name
 abbrev pub text_of : Refusal → Option Text
 text_of refusal.Arguments = Some (codes "arguments refused")
-text_of (refusal.Collection error) = None
-text_of (refusal.Stop error) = None
-text_of (refusal.Query error) = None
-text_of (refusal.Index error) = None
-text_of (refusal.Pattern error) = None
-text_of (refusal.Run error) = None
-text_of (refusal.Build error) = None
-text_of (refusal.Merge error) = None
+text_of (refusal.Collection error) = Some (error_text (codes "collection ") (collection_error_number error) (collection_error_name error))
+text_of (refusal.Stop error) = Some (error_text (codes "stop ") (stop_error_number error) (stop_error_name error))
+text_of (refusal.Query error) = Some (error_text (codes "query ") (query_error_number error) (query_error_name error))
+text_of (refusal.Index error) = Some (error_text (codes "index ") (open_error_number error) (open_error_name error))
+text_of (refusal.Pattern error) = Some (error_text (codes "pattern ") (pattern_error_number error) (pattern_error_name error))
+text_of (refusal.Run error) = Some (error_text (codes "run ") (run_error_number error) (run_error_name error))
+text_of (refusal.Build error) = Some (error_text (codes "build ") (build_error_number error) (build_error_name error))
+text_of (refusal.Merge error) =
+    option_map (error_text (codes "merge ") (merge_error_number error)) (merge_error_name (λ fault. Some (run_text_error_name fault)) error)
 text_of (refusal.Read path) = Some (codes "file 1: Read(" ++ path.now ++ codes ")")
 text_of (refusal.Write path) = Some (codes "file 2: Write(" ++ path.now ++ codes ")")
 text_of (refusal.NotUtf8 path) = Some (codes "file 3: NotUtf8(" ++ path.now ++ codes ")")
