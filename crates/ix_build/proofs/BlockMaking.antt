@@ -26,11 +26,11 @@ weight passes = cond passes 1 0
 weight_itself : (n : ℕ) → weight (nat_eq n n) ≡ 1
 weight_itself n = grind (arith, nat_tests)
 
-weight_within : (k n times : ℕ) → times ≡ weight (nat_lt k n) → 0 < times → k < n
+pub weight_within : (k n times : ℕ) → times ≡ weight (nat_lt k n) → 0 < times → k < n
 weight_within k n times is some = grind (arith, nat_tests)
 
 -- a place that was asked for is counted
-counted_there : (askings : List Asked) (asked : Asked) → Contains askings asked → 0 < times_asked asked.place askings
+pub counted_there : (askings : List Asked) (asked : Asked) → Contains askings asked → 0 < times_asked asked.place askings
 counted_there [] asked c = absurd (let within = c.1 in omega (arith, within))
 counted_there (first ∷ askings) asked c =
     let one : Asked → ℕ = λ a. weight (asks asked.place a) in

@@ -1,7 +1,6 @@
 -- Runs of the blocks of texts: they are of one list of pieces, whose merge is told of the collection of all texts.
 use Rattle.std.proofs.Common.{◌≡◌, ℕ, zero, suc, ◌+◌, ◌-◌, ◌<◌, ◌≤◌, ◌^◌, List, [], ◌∷◌, ◌++◌, map, length, take, drop, Option, refl, sym, ap, subst, ◌∙◌, inl, inr, arith, length-append, add-one}
 use Rattle.std.specs.Prelude.{Some, slice_get, slice_range}
-use Rattle.std.specs.declared.alloc.AllocError.{AllocError}
 use Rattle.std.proofs.lemmas.List.{append_assoc, drop_at, length-map, take_at}
 use Rattle.std.proofs.lemmas.Option.{none-some, same_Some}
 use Rattle.ix_board.proofs.Endings.{get-map}
@@ -122,7 +121,7 @@ module _ (texts : List NamedText) (stop : List (List ℕ)) (bounds : List ℕ) (
         let is : writes.whole ≡ collection_of stop texts = whole_is stop blocks some writes.whole joined ∙ ap (collection_of stop) whole in
         subst (WritesIndexText before now) is writes.written
 
-    headings_are : headings_of runs ≡ headings_from 0 stop blocks
+    pub headings_are : headings_of runs ≡ headings_from 0 stop blocks
     headings_are = headings_of_runs runs (pieces_from 0 stop blocks) are
 
     -- what a refused merge left is a front of the index text of a collection like it
@@ -140,10 +139,10 @@ module _ (texts : List NamedText) (stop : List (List ℕ)) (bounds : List ℕ) (
         })
 
     -- a merge of them is not refused for what they are
-    pub blocks_refused : token_count (collection_of stop texts) ≤ 2 ^ 28 → (error : MergeError AllocError) → IsRefusal (headings_of runs) error → MayComeOfMerge error
-    blocks_refused few error refusal = by error (subst (λ (hs : List Heading). IsRefusal hs error) headings_are refusal)
+    pub blocks_refused : {E : Type 0} → token_count (collection_of stop texts) ≤ 2 ^ 28 → (error : MergeError E) → IsRefusal (headings_of runs) error → MayComeOfMerge error
+    blocks_refused {E} few error refusal = by error (subst (λ (hs : List Heading). IsRefusal hs error) headings_are refusal)
       where
-        by : (e : MergeError AllocError) → IsRefusal (headings_from 0 stop blocks) e → MayComeOfMerge e
+        by : (e : MergeError E) → IsRefusal (headings_from 0 stop blocks) e → MayComeOfMerge e
         by (Gap number) gap = no_gap (headings_from 0 stop blocks) (length (all_in blocks)) number (cover stop blocks) gap
         by (Overlap number) overlap = no_overlap (headings_from 0 stop blocks) (length (all_in blocks)) number (cover stop blocks) overlap
         by StopDiffers differ = no_difference stop blocks differ

@@ -6,7 +6,11 @@ pub mod BuiltBlocks
 pub mod Consecutive
 pub mod LowestLemmas
 pub mod OutcomeLemmas
+pub mod OverBlocks
+pub mod ReadBackLemmas
 pub mod RunMerging
+pub mod SavedPlaces
+pub mod SavedWork
 pub mod ShareLemmas
 pub mod ShiftCounts
 pub mod ShiftLemmas
@@ -14,4 +18,5 @@ pub mod Sums
 pub mod TakingLemmas
 pub mod TeamLemmas
 pub mod WholeBuild
+pub mod WholeOver
 pub mod WorkLemmas

@@ -21,7 +21,7 @@ use Rattle.ix_build.proofs.BlockPieces.{pieces_from}
 use Rattle.ix_build.proofs.BuiltBlocks.{blocks_left, blocks_refused, blocks_written, runs_of_blocks}
 
 -- there is one bound more than blocks
-bounds_counted : (first : ℕ) (blocks : List (List NamedText)) → length (bounds_from first blocks) ≡ length blocks + 1
+pub bounds_counted : (first : ℕ) (blocks : List (List NamedText)) → length (bounds_from first blocks) ≡ length blocks + 1
 bounds_counted first [] = omega arith
 bounds_counted first (block ∷ blocks) = let rest = bounds_counted (first + length block) blocks in omega (arith, rest)
 
@@ -29,7 +29,7 @@ module _ (cut : Cut) (texts : List NamedText) (bounds : List ℕ) (are : AreBoun
   pub some_bound : 0 < length bounds
   some_bound = let size = bounds_counted 0 are.blocks in let same = ap length are.bounds_are in omega (arith, size, same)
 
-  some_block : 0 < length are.blocks
+  pub some_block : 0 < length are.blocks
   some_block =
       let in_order = ap length are.of_cut.in_order in
       let more = length-append are.of_cut.before (are.of_cut.last ∷ []) in

@@ -1,9 +1,10 @@
--- What a refused build leaves.
+-- What a refused build leaves, and what a build over stores writes.
 use Rattle.std.specs.Prelude.{◌≡◌, ◌⊎◌, ℕ, List, Option, map}
 use Rattle.std.specs.Io.KnownBytes.{Keeps}
 use Rattle.ix_text.specs.Collections.{Collection}
 use Rattle.ix_text.specs.Parts.{row_of}
 use Rattle.ix_text.specs.Sinks.{AppendsFront}
+use Rattle.ix_file.specs.Endings.{WritesIndexText}
 use Rattle.ix_file.specs.IndexText.{IsIndexText}
 use Rattle.ix_file.specs.Sections.{FrontCoded}
 
@@ -23,3 +24,9 @@ pub record WritesAlikeFront (collection : Collection) (before now : Option (List
 -- nothing went out, or a front of such a text
 abbrev pub LeavesAlikeFront : Collection → Option (List ℕ) → Option (List ℕ) → Type 0
 LeavesAlikeFront collection before now = Keeps before now ⊎ WritesAlikeFront collection before now
+
+-- Since `before`, the index text went out of a collection like this one.
+pub record WritesAlike (collection : Collection) (before now : Option (List ℕ)) : Type 0 where
+  pub whole : Collection
+  pub alike : AreAlike whole collection
+  pub written : WritesIndexText before now whole

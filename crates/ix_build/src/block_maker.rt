@@ -16,17 +16,20 @@ use std::alloc::Global;
 /// block of place k has the documents from bound k up to bound k + 1.
 #[derive(Drop)]
 pub(crate) struct BlockMaker<'a> {
-    alloc: Global,
-    docs: &'a [Doc<'a>],
-    stop: &'a StopList,
-    bounds: &'a [usize],
-    asked: Vec<Asked>,
+    pub(crate) alloc: Global,
+    pub(crate) docs: &'a [Doc<'a>],
+    pub(crate) stop: &'a StopList,
+    pub(crate) bounds: &'a [usize],
+    pub(crate) asked: Vec<Asked>,
     ghost ascending: { AscendUpTo (length docs.now) bounds.now },
     ghost few_documents: { length docs.now ≤ 2 ^ 28 },
     ghost few_tokens: { token_count (collection_of stop.now (map named_text docs.now)) ≤ 2 ^ 28 },
 }
 
 impl<'a> BlockMaker<'a> {
+    ghost use Rattle.std.specs.Prelude.{◌<◌, ◌-◌, ◌∷◌, ◌++◌, vec_len};
+    ghost use Rattle.std.specs.Vec.{vec_capacity};
+
     /// A maker of the blocks of small documents, which was asked for no place yet. Takes no memory.
     pub(crate) fn new(
         alloc: Global,
@@ -50,10 +53,23 @@ impl<'a> BlockMaker<'a> {
             asked: Vec::new(alloc),
         }
     }
+
+    /// Notes an asking, for which there is room.
+    pub(crate) fn note(&mut self, asked: Asked)
+        requires { 0 < vec_capacity self.old.asked - vec_len self.old.asked }
+        ensures documents { self.new.docs.now ≡ self.old.docs.now }
+        ensures stop { self.new.stop.now ≡ self.old.stop.now }
+        ensures bounds { self.new.bounds.now ≡ self.old.bounds.now }
+        ensures asked { self.new.asked.items ≡ self.old.asked.items ++ asked ∷ [] }
+        ensures room { vec_capacity self.new.asked - vec_len self.new.asked + 1
+            ≡ vec_capacity self.old.asked - vec_len self.old.asked }
+    {
+        self.asked.push_reserved(asked);
+    }
 }
 
 /// The bound of a place and the next one, or none where the place has no block.
-fn block_at(bounds: &[usize], place: usize) -> Option<(usize, usize)>
+pub(crate) fn block_at(bounds: &[usize], place: usize) -> Option<(usize, usize)>
     ensures some { IfSome result (λ block. (slice_get bounds.now place ≡ Some block.0)
         × (slice_get bounds.now (place + 1) ≡ Some block.1)) }
     ensures none { IfNone result (length bounds.now ≤ place + 1) }

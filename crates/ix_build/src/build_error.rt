@@ -4,6 +4,7 @@ ghost use Rattle.std.specs.Prelude.{◌≡◌};
 use crate::by_error::ByError;
 use crate::errors::MakeError;
 use ix_merge::MergeError;
+use ix_run::RunTextError;
 use std::{error, fmt};
 
 /// Why a collection is not built.
@@ -21,7 +22,8 @@ pub enum BuildError {
 }
 
 impl BuildError {
-    ghost use Rattle.ix_build.specs.BuildErrors.{MayComeOfBlocks, build_error_number, told_of};
+    ghost use Rattle.ix_build.specs.BuildErrors.{MayComeOfBlocks, MayComeOfMerge, build_error_number, told_of};
+    ghost use Rattle.ix_build.specs.ReadBack.{told_of_read_merge};
 
     /// The error's number in the list of these errors, from 1.
     pub fn number(&self) -> u8
@@ -48,6 +50,20 @@ impl BuildError {
             ByError::Merge(MergeError::Write) => BuildError::Write,
             ByError::Merge(MergeError::Source(_, _) | MergeError::Memory) => BuildError::Memory,
             ByError::Merge(_) => unreachable!(),
+        }
+    }
+
+    /// The error of a merge of runs that were read back, which is not for what they are. A run that does not read as one
+    /// is told by its place.
+    pub(crate) fn of_read_merge(error: MergeError<RunTextError>) -> BuildError
+        requires { MayComeOfMerge error }
+        ensures { result ≡ told_of_read_merge error }
+    {
+        match error {
+            MergeError::Source(_, RunTextError::Memory) | MergeError::Memory => BuildError::Memory,
+            MergeError::Source(place, _) => BuildError::Spill(place),
+            MergeError::Write => BuildError::Write,
+            _ => unreachable!(),
         }
     }
 }

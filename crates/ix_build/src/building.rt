@@ -60,7 +60,7 @@ pub fn build<W: Write, R: Threads + Wait + Sync>(
 }
 
 /// How many blocks there are between the bounds.
-fn block_count(bounds: &[usize]) -> usize
+pub(crate) fn block_count(bounds: &[usize]) -> usize
     requires { 0 < length bounds.now }
     ensures { result + 1 ≡ length bounds.now }
 {

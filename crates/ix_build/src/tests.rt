@@ -10,6 +10,7 @@ use std::sync::atomic::Ordering::SeqCst;
 use std::test::Fail;
 
 mod building;
+mod building_over;
 mod by_makers;
 
 const FIVE_DOCUMENTS: &[u8] = b"a\tx y\nb\ty\nc\t\nd\ty x y\ne\tx\n";

@@ -1,0 +1,127 @@
+-- Readers of runs that a store gave back, one behind the other.
+use Rattle.std.proofs.Common.{◌≡◌, ◌⊎◌, ℕ, zero, suc, ◌+◌, ◌<◌, ◌↔◌, List, [], ◌∷◌, ◌++◌, length, map, All, refl, sym, ap, subst, ◌∙◌, inl, inr, ⊎_elim, arith}
+use Rattle.std.specs.Prelude.{Option, Some, slice_get}
+use Rattle.std.proofs.lemmas.List.{length-map}
+use Rattle.std.proofs.lemmas.Option.{none-some, same_Some, slice_get_within}
+use Rattle.ix_board.proofs.Closings.{got-map}
+use Rattle.ix_board.proofs.Endings.{get-map}
+use Rattle.ix_board.proofs.SliceGets.{get-within}
+use Rattle.ix_run.specs.Heads.{Heading, heading_of}
+use Rattle.ix_run.specs.Reading.{HasRead}
+use Rattle.ix_run.specs.RunReaders.{heading_read}
+use Rattle.ix_run.specs.Sources.{IsUnread}
+use Rattle.ix_run.specs.declared.head.RunHead.{RunHead}
+use Rattle.ix_run.specs.declared.run_reader.RunReader.{RunReader}
+use Rattle.ix_run.specs.declared.run_text_error.RunTextError.{RunTextError}
+use Rattle.ix_run.specs.declared.run_text_error.RunTextError.TheVariants as text
+use Rattle.ix_merge.specs.Refusals.{IsRefusal}
+use Rattle.ix_merge.specs.declared.merge_error.MergeError.{MergeError}
+use Rattle.ix_merge.specs.declared.merge_error.MergeError.TheVariants as merge
+use Rattle.ix_build.specs.BuildErrors.{MayComeOfMerge}
+use Rattle.ix_build.specs.declared.build_error.BuildError.{BuildError}
+use Rattle.ix_build.specs.declared.build_error.BuildError.TheVariants.{Thread, Spill, Write, Memory}
+use Rattle.ix_build.specs.ReadBack.{AreReadBack, ComesOfMerging, ComesOfReading, IsReadBack, told_of_read_merge, told_of_reading}
+use Rattle.ix_build.proofs.Consecutive.{same_at_each}
+use Rattle.ix_build.proofs.Sums.{all_from_get}
+
+get_push_cases : {A : Type 0} (xs : List A) (x : A) (k : ℕ) (y : A) → slice_get (xs ++ x ∷ []) k ≡ Some y → (slice_get xs k ≡ Some y) ⊎ ((k ≡ length xs) × (x ≡ y))
+get_push_cases [] x zero y at = inr (refl, same_Some x y at)
+get_push_cases [] x (suc k) y at = absurd (none-some y at)
+get_push_cases (z ∷ xs) x zero y at = inl at
+get_push_cases (z ∷ xs) x (suc k) y at = ⊎_elim (λ h. inl h) (λ t. inr (ap suc t.0, t.1)) (get_push_cases xs x k y at)
+
+module _ {R : Type 0} (remaining : R → Option (List ℕ)) where
+  -- each reader is of the run whose head stands at its place
+  abbrev pub AreReadOf : (ℕ → List ℕ → Type 0) → List RunHead → List (RunReader R) → Type 0
+  AreReadOf back heads readers = (place : ℕ) (head : RunHead) (reader : RunReader R) → slice_get heads place ≡ Some head → slice_get readers place ≡ Some reader
+      → IsReadBack remaining (back place) (heading_of head) reader
+
+  pub none_read : (back : ℕ → List ℕ → Type 0) (heads : List RunHead) (readers : List (RunReader R)) → readers ≡ [] → AreReadOf back heads readers
+  none_read back heads readers none place head reader at there = absurd (none-some reader (ap (λ (l : List (RunReader R)). slice_get l place) (sym none) ∙ there))
+
+  -- bytes that may come back later may come back now
+  pub read_before : (now later : List ℕ → Type 0) (heading : Heading) (reader : RunReader R) → ((bytes : List ℕ) → later bytes ↔ now bytes) → IsReadBack remaining later heading reader → IsReadBack remaining now heading reader
+  read_before now later heading reader keeps read = record {
+    headed = read.headed;
+    unread = read.unread;
+    told = λ tell. let is = read.told tell in record { bytes = is.bytes; came = (keeps is.bytes).0 is.came; spelled = is.spelled };
+  }
+
+  pub one_read : (back : ℕ → List ℕ → Type 0) (heads : List RunHead) (readers : List (RunReader R)) (head : RunHead) (reader : RunReader R) → slice_get heads (length readers) ≡ Some head
+      → AreReadOf back heads readers → IsReadBack remaining (back (length readers)) (heading_of head) reader → AreReadOf back heads (readers ++ reader ∷ [])
+  one_read back heads readers head reader at read more place other given there within =
+      ⊎_elim
+      (λ before. read place other given there before)
+      (λ last.
+      let same : head ≡ other = same_Some head other (sym at ∙ ap (slice_get heads) (sym last.0) ∙ there) in
+      let here : IsReadBack remaining (back (length readers)) (heading_of other) given =
+      subst (λ (r : RunReader R). IsReadBack remaining (back (length readers)) (heading_of other) r) last.1
+      (subst (λ (h : RunHead). IsReadBack remaining (back (length readers)) (heading_of h) reader) same more) in
+      subst (λ (k : ℕ). IsReadBack remaining (back k) (heading_of other) given) (sym last.0) here)
+      (get_push_cases readers reader place given within)
+
+  pub all_read : (back : ℕ → List ℕ → Type 0) (heads : List RunHead) (readers : List (RunReader R)) → length readers ≡ length heads → AreReadOf back heads readers → AreReadBack remaining back (map heading_of heads) readers
+  all_read back heads readers long read = record {
+    as_many = long ∙ sym (length-map heads heading_of);
+    each = λ place heading reader at there.
+        let t = got-map heading_of heads place heading at in
+        subst (λ (h : Heading). IsReadBack remaining (back place) h reader) t.2 (read place t.0 reader t.1 there);
+  }
+
+  module _ (back : ℕ → List ℕ → Type 0) (headings : List Heading) (readers : List (RunReader R)) (read : AreReadBack remaining back headings readers) where
+    heading_at : (place : ℕ) (reader : RunReader R) → slice_get readers place ≡ Some reader → (heading : Heading) × (slice_get headings place ≡ Some heading)
+    heading_at place reader at =
+        let within = slice_get_within readers place reader at in
+        let many = read.as_many in
+        get-within headings place (omega (arith, within, many))
+
+    pub headings_read : map heading_read readers ≡ headings
+    headings_read =
+        let many = read.as_many in
+        let told = length-map readers heading_read in
+        same_at_each (map heading_read readers) headings (omega (arith, many, told))
+        (λ k within.
+        let heading = get-within headings k within in
+        let reader = get-within readers k (omega (arith, within, many)) in
+        get-map heading_read readers k reader.0 reader.1 ∙ ap (λ (h : Heading). Some h) (read.each k heading.0 reader.0 heading.1 reader.1).headed ∙ sym heading.1)
+
+    pub all_unread : All (IsUnread HasRead) readers
+    all_unread = all_from_get (IsUnread HasRead) readers (λ k reader at. let heading = heading_at k reader at in (read.each k heading.0 reader heading.1 at).unread)
+
+-- a run that does not read as one is told by its place
+read_told : (count place : ℕ) (error : RunTextError) → place < count → ComesOfMerging count (told_of_reading place error)
+read_told count place text.Memory within = tt
+read_told count place text.Magic within = within
+read_told count place (text.Number fault) within = within
+read_told count place text.Text within = within
+read_told count place text.Name within = within
+read_told count place text.TermSize within = within
+read_told count place text.TermOrder within = within
+read_told count place text.ListLength within = within
+read_told count place text.DocRange within = within
+read_told count place text.Zero within = within
+read_told count place text.PositionRange within = within
+read_told count place text.StopIndexed within = within
+read_told count place text.StopOrder within = within
+read_told count place text.Extra within = within
+read_told count place text.TooLarge within = within
+read_told count place text.Read within = within
+read_told count place text.Doubled within = within
+read_told count place text.Failed within = within
+
+-- what a merge of runs that were read back comes to, where they are not refused for what they are
+pub merge_told : (headings : List Heading) (error : MergeError RunTextError) → IsRefusal headings error → MayComeOfMerge error → ComesOfMerging (length headings) (told_of_read_merge error)
+merge_told headings (merge.Gap number) refused may = absurd may
+merge_told headings (merge.Overlap number) refused may = absurd may
+merge_told headings merge.StopDiffers refused may = absurd may
+merge_told headings (merge.Source place error) refused may = read_told (length headings) place error refused.1
+merge_told headings merge.TooLarge refused may = absurd may
+merge_told headings merge.Write refused may = tt
+merge_told headings merge.Memory refused may = tt
+
+-- a place below the count of reading
+pub reading_within : (place count : ℕ) (error : BuildError) → place < count → ComesOfReading (place + 1) error → ComesOfReading count error
+reading_within place count (Thread worker) within comes = comes
+reading_within place count (Spill at) within comes = omega (arith, within, comes)
+reading_within place count Write within comes = comes
+reading_within place count Memory within comes = tt

@@ -1,0 +1,99 @@
+-- Building over stores the blocks of a cut: what it writes, which errors come, and what they leave.
+use Rattle.std.proofs.Common.{◌≡◌, ℕ, ◌+◌, ◌<◌, ◌≤◌, ◌^◌, List, [], length, map, Option, refl, ap, subst, arith}
+use Rattle.std.specs.Prelude.{None, Some, slice_get, slice_set}
+use Rattle.std.specs.Io.KnownBytes.{Keeps}
+use Rattle.ix_text.specs.Collections.{NamedText, collection_of, token_count}
+use Rattle.ix_text.specs.Sizes.{AreSmall}
+use Rattle.ix_text.proofs.SizeLemmas.{tokens_no_more_than_bytes}
+use Rattle.ix_file.specs.Endings.{WritesIndexText}
+use Rattle.ix_run.specs.Heads.{heading_of}
+use Rattle.ix_run.specs.declared.head.RunHead.{RunHead}
+use Rattle.ix_merge.specs.Pieces.{LeavesFront}
+use Rattle.ix_build.specs.AlikeFronts.{LeavesAlikeFront, WritesAlike}
+use Rattle.ix_build.specs.Blocks.{AreBounds}
+use Rattle.ix_build.specs.BuiltOver.{AreBlocksSaved, FailsOver, IsBlockPlace}
+use Rattle.ix_build.specs.GivenBack.{GivesBlocksBack}
+use Rattle.ix_build.specs.ReadBack.{ComesOfMerging, MayBeMerged, TellBytes, WritesReadBack}
+use Rattle.ix_build.specs.SavedBlocks.{AreHeadsOf, FailsToSave}
+use Rattle.ix_build.specs.SavingMakers.{HasSaved}
+use Rattle.ix_build.specs.Stores.{AreSaved}
+use Rattle.ix_build.specs.declared.build_error.BuildError.{BuildError}
+use Rattle.ix_build.specs.declared.build_error.BuildError.TheVariants.{Thread, Spill, Write, Memory}
+use Rattle.ix_build.specs.declared.plan.Cut.{Cut}
+use Rattle.ix_build.proofs.OverBlocks.{alike_written, exactly_written, heads_left, heads_merge}
+use Rattle.ix_build.proofs.SavedWork.{saved_in_part, saved_on_first}
+use Rattle.ix_build.proofs.WholeBuild.{bounds_counted, some_block}
+
+pub keeps_itself : (known : Option (List ℕ)) → Keeps known known
+keeps_itself None = tt
+keeps_itself (Some bytes) = refl
+
+-- small documents have few tokens
+pub few_tokens : (stop : List (List ℕ)) (texts : List NamedText) → AreSmall texts → token_count (collection_of stop texts) ≤ 2 ^ 28
+few_tokens stop texts small =
+    let few = tokens_no_more_than_bytes stop texts in
+    let short = small.short in
+    omega (arith, few, short)
+
+module _ (cut : Cut) (texts : List NamedText) (bounds : List ℕ) (are : AreBounds cut texts bounds) (count : ℕ) (size : count + 1 ≡ length bounds) where
+  counted : count ≡ length are.blocks
+  counted =
+      let blocks = bounds_counted 0 are.blocks in
+      let same = ap length are.bounds_are in omega (arith, blocks, same, size)
+
+  block_place : (place : ℕ) → place < count → IsBlockPlace cut texts place
+  block_place place within = let many = counted in record { blocks = are.blocks; of_cut = are.of_cut; within = omega (arith, within, many) }
+
+  module _ {T : Type 0} (places : T → List ℕ) (refusals : T → ℕ) (back : T → ℕ → List ℕ → Type 0) where
+    -- an error of the saving, before anything is written
+    pub fails_saving : (stores after : List T) (before now : Option (List ℕ)) (error : BuildError) → Keeps before now → FailsToSave places refusals back stores count after error
+        → FailsOver places refusals back cut texts stores after before now error
+    fails_saving stores after before now (Thread worker) keeps fails = (fails, keeps)
+    fails_saving stores after before now (Spill place) keeps fails = (block_place place fails.0, fails.1)
+    fails_saving stores after before now Write keeps fails = absurd fails
+    fails_saving stores after before now Memory keeps fails = fails
+
+    -- the first store, which all runs were read back from
+    module _ (stores after : List T) (store new : T) (at : slice_get after 0 ≡ Some store) (saved : AreSaved places refusals back stores count after) (read : HasSaved places refusals back store new []) where
+      in_the_end : AreSaved places refusals back stores count (slice_set after 0 new)
+      in_the_end = saved_on_first places refusals back stores count after store new at read saved
+
+      pub blocks_saved : AreBlocksSaved places refusals back cut texts stores (slice_set after 0 new)
+      blocks_saved = record {
+        blocks = are.blocks;
+        of_cut = are.of_cut;
+        saved = subst (λ (n : ℕ). AreSaved places refusals back stores n (slice_set after 0 new)) counted in_the_end;
+      }
+
+      pub fails_merging : (before now : Option (List ℕ)) (error : BuildError) → ComesOfMerging count error → FailsOver places refusals back cut texts stores (slice_set after 0 new) before now error
+      fails_merging before now (Thread worker) comes = absurd comes
+      fails_merging before now (Spill place) comes = (block_place place comes, saved_in_part places refusals back stores count (slice_set after 0 new) in_the_end)
+      fails_merging before now Write comes = saved_in_part places refusals back stores count (slice_set after 0 new) in_the_end
+      fails_merging before now Memory comes = saved_in_part places refusals back stores count (slice_set after 0 new) in_the_end
+
+      -- what may come back was settled before
+      pub gives_as_before : (stop : List (List ℕ)) (first : T) → slice_get stores 0 ≡ Some first → GivesBlocksBack cut texts stop (back first) → GivesBlocksBack cut texts stop (back store)
+      gives_as_before stop first is_first gives found place bytes of_cut within came =
+          gives found place bytes of_cut within (((saved.came_back.each 0 first store is_first at).keeps place bytes).0 came)
+
+  module _ (stop : List (List ℕ)) (heads : List RunHead) (of_blocks : AreHeadsOf texts stop bounds heads) (before now : Option (List ℕ)) where
+    long : length heads ≡ length are.blocks
+    long = let many = of_blocks.as_many in let blocks = counted in omega (arith, many, blocks, size)
+
+    pub as_many_heads : length heads ≡ count
+    as_many_heads = let many = of_blocks.as_many in omega (arith, many, size)
+
+    pub over_merge : token_count (collection_of stop texts) ≤ 2 ^ 28 → MayBeMerged (map heading_of heads)
+    over_merge few = heads_merge texts stop bounds are.blocks are.of_cut.whole are.bounds_are (some_block cut texts bounds are) heads long of_blocks.each before now few
+
+    pub over_left : LeavesFront (map heading_of heads) before now → LeavesAlikeFront (collection_of stop texts) before now
+    over_left = heads_left texts stop bounds are.blocks are.of_cut.whole are.bounds_are (some_block cut texts bounds are) heads long of_blocks.each before now
+
+    module _ {R : Type 0} (remaining : R → Option (List ℕ)) (back : ℕ → List ℕ → Type 0) (writes : WritesReadBack remaining back (map heading_of heads) before now) where
+      pub over_alike : WritesAlike (collection_of stop texts) before now
+      over_alike = alike_written texts stop bounds are.blocks are.of_cut.whole are.bounds_are (some_block cut texts bounds are) heads long of_blocks.each before now remaining back writes
+
+      pub over_exact : TellBytes remaining → GivesBlocksBack cut texts stop back → WritesIndexText before now (collection_of stop texts)
+      over_exact tell gives =
+          exactly_written texts stop bounds are.blocks are.of_cut.whole are.bounds_are (some_block cut texts bounds are) heads long of_blocks.each before now remaining back writes
+          tell (λ place bytes within came. gives bounds place bytes are within came) of_blocks.as_many

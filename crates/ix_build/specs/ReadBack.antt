@@ -1,0 +1,81 @@
+-- Runs read back from a store.
+use Rattle.std.specs.Prelude.{◌≡◌, ℕ, ◌<◌, List, [], length, Option, Some, IsSome, slice_get}
+use Rattle.ix_text.specs.Parts.{DictionaryEntry}
+use Rattle.ix_run.specs.Heads.{Heading, parts_with}
+use Rattle.ix_run.specs.Reading.{HasRead, MayYield}
+use Rattle.ix_run.specs.RunReaders.{heading_read}
+use Rattle.ix_run.specs.RunText.{run_layout}
+use Rattle.ix_run.specs.Sources.{IsUnread}
+use Rattle.ix_run.specs.declared.run_reader.RunReader.{RunReader}
+use Rattle.ix_run.specs.declared.run_text_error.RunTextError.{RunTextError}
+use Rattle.ix_run.specs.declared.run_text_error.RunTextError.TheVariants as text
+use Rattle.ix_merge.specs.Pieces.{WritesConcatenation}
+use Rattle.ix_merge.specs.Refusals.{IsRefusal}
+use Rattle.ix_merge.specs.declared.merge_error.MergeError.{MergeError}
+use Rattle.ix_merge.specs.declared.merge_error.MergeError.TheVariants as merge
+use Rattle.ix_build.specs.BuildErrors.{MayComeOfMerge}
+use Rattle.ix_build.specs.declared.build_error.BuildError.{BuildError}
+use Rattle.ix_build.specs.declared.build_error.BuildError.TheVariants.{Thread, Spill, Write, Memory}
+
+-- what comes of reading places below the count back
+abbrev pub ComesOfReading : ℕ → BuildError → Type 0
+ComesOfReading count (Thread worker) = ⊥
+ComesOfReading count (Spill place) = place < count
+ComesOfReading count Write = ⊥
+ComesOfReading count Memory = Unit {0}
+
+-- what comes of reading and merging them
+abbrev pub ComesOfMerging : ℕ → BuildError → Type 0
+ComesOfMerging count (Thread worker) = ⊥
+ComesOfMerging count (Spill place) = place < count
+ComesOfMerging count Write = Unit {0}
+ComesOfMerging count Memory = Unit {0}
+
+-- a place that was not given back, or want of memory
+abbrev pub told_of_reading : ℕ → RunTextError → BuildError
+told_of_reading place text.Memory = Memory
+told_of_reading place error = Spill place
+
+-- an error of a merge of runs that were read back, as it is told
+abbrev pub told_of_read_merge : MergeError RunTextError → BuildError
+told_of_read_merge (merge.Gap number) = Memory
+told_of_read_merge (merge.Overlap number) = Memory
+told_of_read_merge merge.StopDiffers = Memory
+told_of_read_merge (merge.Source place error) = told_of_reading place error
+told_of_read_merge merge.TooLarge = Memory
+told_of_read_merge merge.Write = Write
+told_of_read_merge merge.Memory = Memory
+
+-- Runs with these headings are not refused for what they are.
+abbrev pub MayBeMerged : List Heading → Type 0
+MayBeMerged headings = (error : MergeError RunTextError) → IsRefusal headings error → MayComeOfMerge error
+
+module _ {R : Type 0} (remaining : R → Option (List ℕ)) where
+  -- The readers tell their bytes.
+  abbrev pub TellBytes : Type 0
+  TellBytes = (reader : R) → IsSome (remaining reader)
+
+  -- Some bytes may have come of which the reader is: they spell the run that it may yield.
+  pub record IsOfBytes (may_come : List ℕ → Type 0) (reader : RunReader R) : Type 0 where
+    pub bytes : List ℕ
+    pub came : may_come bytes
+    pub spelled : (entries : List DictionaryEntry) → MayYield remaining reader [] entries
+        → bytes ≡ run_layout (heading_read reader).first (parts_with (heading_read reader) entries)
+
+  -- A reader of a run with this heading, of which nothing was asked yet.
+  pub record IsReadBack (may_come : List ℕ → Type 0) (heading : Heading) (reader : RunReader R) : Type 0 where
+    pub headed : heading_read reader ≡ heading
+    pub unread : IsUnread HasRead reader
+    pub told : TellBytes → IsOfBytes may_come reader
+
+  -- One for each heading, in order.
+  pub record AreReadBack (back : ℕ → List ℕ → Type 0) (headings : List Heading) (readers : List (RunReader R)) : Type 0 where
+    pub as_many : length readers ≡ length headings
+    pub each : (place : ℕ) (heading : Heading) (reader : RunReader R) → slice_get headings place ≡ Some heading → slice_get readers place ≡ Some reader
+        → IsReadBack (back place) heading reader
+
+  -- Since `before`, the index text went out of the concatenation of what such readers may yield.
+  pub record WritesReadBack (back : ℕ → List ℕ → Type 0) (headings : List Heading) (before now : Option (List ℕ)) : Type 0 where
+    pub readers : List (RunReader R)
+    pub read : AreReadBack back headings readers
+    pub written : WritesConcatenation (MayYield remaining) heading_read readers before now

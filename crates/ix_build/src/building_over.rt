@@ -1,0 +1,97 @@
+//! Building the index text of a collection over run stores.
+ghost use Rattle.std.specs.Prelude.{◌≡◌, Some, IfErr, OnErr, OnOk, slice_get, vec_len};
+ghost use Rattle.ix_text.specs.Collections.{collection_of};
+ghost use Rattle.ix_file.specs.Endings.{WritesIndexText};
+ghost use Rattle.ix_build.specs.AlikeFronts.{LeavesAlikeFront, WritesAlike};
+ghost use Rattle.ix_build.specs.BuiltOver.{AreBlocksSaved, FailsOver};
+ghost use Rattle.ix_build.specs.GivenBack.{GivesBlocksBack};
+ghost use Rattle.ix_build.specs.ReadBack.{TellBytes};
+
+use crate::blocks::bounds_of;
+use crate::build_error::BuildError;
+use crate::building::block_count;
+use crate::plan::Plan;
+use crate::reading::merge_saved;
+use crate::saving::{Saved, save_blocks};
+use crate::store::RunStore;
+use ix_text::{Collection, StopList};
+use std::alloc::Global;
+use std::io::Write;
+use std::sync::Wait;
+use std::thread::Threads;
+
+/// What building over stores comes to.
+pub struct BuiltOver<T> {
+    /// The stores, in the order in which they were handed in. After `Thread` nothing is said of them.
+    pub stores: Vec<T>,
+    /// Nothing, or why the index text was not written whole.
+    pub result: Result<(), BuildError>,
+}
+
+/// Writes the index text, version 2, of a collection under a stop list, as `build` does, but keeps each block's run in a
+/// store until all are merged (IIR 4.3): one store for each worker of the plan. Of a run its head alone stays in memory.
+/// The first store gives all runs back, and the merge reads them as it goes.
+///
+/// What is written has the stop terms, and the names and token counts of the documents, of the collection; it is the
+/// collection's own index text where the first store gives back no other bytes than the runs of the blocks, and its
+/// readers tell their bytes.
+///
+/// Fails with `Thread` where a thread cannot be started, before anything is written; with `Spill` at the lowest place
+/// whose run a store did not save, or else at the lowest that was not given back with the head that was kept of it,
+/// before anything is written; with `Spill` too where a run that is read does not turn out to be one; with `Write` where
+/// a write or the flush is refused; with `Memory` where memory is.
+pub fn build_over<T: RunStore, W: Write, R: Threads + Wait + Sync>(
+    rt: &R,
+    alloc: Global,
+    collection: &Collection<'_>,
+    stop: &StopList,
+    plan: &Plan,
+    stores: Vec<T>,
+    out: &mut W,
+) -> BuiltOver<T>
+    requires { vec_len stores ≡ plan.now.workers }
+
+    ensures written { OnOk result.result (WritesAlike (collection_of stop.now collection.now)
+        (W.contents out.old) (W.contents out.new)) }
+    ensures exact { OnOk result.result ((first : T) → slice_get stores.items 0 ≡ Some first
+        → TellBytes T.Reader.remaining
+        → GivesBlocksBack plan.now.cut collection.now stop.now (T.back first)
+        → WritesIndexText (W.contents out.old) (W.contents out.new)
+        (collection_of stop.now collection.now)) }
+
+    // Each block's run was saved once, by one store.
+    ensures saved { OnOk result.result (AreBlocksSaved T.places T.refusals T.back
+        plan.now.cut collection.now stores.items result.stores.items) }
+
+    // What an error tells, and what it leaves.
+    ensures failed { IfErr result.result (FailsOver T.places T.refusals T.back
+        plan.now.cut collection.now stores.items result.stores.items
+        (W.contents out.old) (W.contents out.new)) }
+    ensures front { OnErr result.result (LeavesAlikeFront (collection_of stop.now collection.now)
+        (W.contents out.old) (W.contents out.new)) }
+{
+    // One store for each worker.
+    let workers = plan.workers();
+    prove!(stores.len() == workers);
+    let docs = collection.docs();
+    let Ok(bounds) = bounds_of(alloc, docs, plan.cut()) else {
+        return BuiltOver {
+            stores,
+            result: Err(BuildError::Memory),
+        };
+    };
+    let bounds = bounds.as_slice();
+    let count = block_count(bounds);
+    let Saved { mut stores, result } = save_blocks(rt, alloc, docs, stop, bounds, count, stores);
+    let heads = match result {
+        Ok(heads) => heads,
+        Err(error) => {
+            return BuiltOver {
+                stores,
+                result: Err(error),
+            };
+        }
+    };
+    let result = merge_saved(alloc, &mut stores[0], heads.as_slice(), out);
+    BuiltOver { stores, result }
+}

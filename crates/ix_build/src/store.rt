@@ -1,0 +1,73 @@
+//! Where runs are kept until they are merged.
+ghost use Rattle.std.specs.Prelude.{◌≡◌, ◌↔◌, ℕ, List, [], ◌∷◌, ◌++◌, IfOk, IfSome, OnErr, OnOk};
+ghost use Rattle.ix_build.specs.Stores.{CountsRefusal};
+
+use ix_run::Run;
+use std::io::Read;
+use thiserror::Error;
+
+/// Why a store did not keep a run, or did not give one back.
+#[derive(Clone, Copy, Debug, PartialEq, Eq, Error)]
+pub enum StoreError {
+    /// The store refused.
+    #[error("Store")]
+    Store,
+    /// Memory was refused.
+    #[error("Memory")]
+    Memory,
+}
+
+impl StoreError {
+    ghost use Rattle.ix_build.specs.StoreErrors.{store_error_number};
+
+    /// The error's number in the list of these errors, from 1.
+    pub fn number(&self) -> u8
+        ensures { result ≡ store_error_number self.now }
+    {
+        match self {
+            StoreError::Store => 1,
+            StoreError::Memory => 2,
+        }
+    }
+}
+
+/// Keeps runs by their places, and gives their bytes back. Several stores may keep theirs in one spot, as in one folder,
+/// so that one of them gives back what another one saved.
+pub trait RunStore: Drop + Send {
+    /// What the bytes of a run are read by.
+    type Reader: Read + Drop + Send;
+
+    // The places that it saved, in order.
+    ghost places: { Self → List ℕ };
+
+    // How many calls it refused.
+    ghost refusals: { Self → ℕ };
+
+    // The bytes that may come back for a place. No call changes what may: it is a promise for as long as the store lives.
+    ghost back: { Self → ℕ → List ℕ → Type 0 };
+
+    /// Saves the run of a place.
+    fn save(&mut self, place: usize, run: &Run) -> Result<(), StoreError>
+        ensures saved { OnOk result (places self.new ≡ places self.old ++ place ∷ []) }
+        ensures unsaved { OnErr result (places self.new ≡ places self.old) }
+        ensures faults { CountsRefusal result (refusals self.old) (refusals self.new) }
+        ensures back { (other : ℕ) (bytes : List ℕ) →
+            back self.new other bytes ↔ back self.old other bytes };
+
+    /// A reader of the run of a place, which gives bytes that may come back for it, if it tells them.
+    fn load(&mut self, place: usize) -> Result<Self::Reader, StoreError>
+        ensures given { IfOk result (λ reader.
+            IfSome (Self.Reader.remaining reader) (back self.old place)) }
+        ensures saved { places self.new ≡ places self.old }
+        ensures faults { CountsRefusal result (refusals self.old) (refusals self.new) }
+        ensures back { (other : ℕ) (bytes : List ℕ) →
+            back self.new other bytes ↔ back self.old other bytes };
+
+    /// The places that it saved, the first one first.
+    fn saved(&self) -> &[usize]
+        ensures { result.now ≡ places self.now };
+
+    /// How many calls it refused, where the greatest number stands for itself and each one above it.
+    fn faults(&self) -> u64
+        ensures { result ≡ refusals self.now };
+}
