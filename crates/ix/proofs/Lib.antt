@@ -12,6 +12,7 @@ pub mod MergedFileLemmas
 pub mod NameLemmas
 pub mod NoFault
 pub mod Numbers
+pub mod OneTextLemmas
 pub mod Rows
 pub mod RunFileLemmas
 pub mod RunLemmas

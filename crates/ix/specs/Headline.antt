@@ -20,6 +20,11 @@ abbrev pub BuildWritesIndexText : Type 0
 BuildWritesIndexText = (text bytes : List ℕ) (stop : List (List ℕ)) (documents : List NamedText) → IsCollectionText text documents
     → WritesIndexText (Some []) (Some bytes) (collection_of stop documents) → IsIndexText FrontCoded (collection_of stop documents) bytes
 
+-- Whatever plans two builds were of, they wrote the same bytes.
+abbrev pub BuildsWriteOneText : Type 0
+BuildsWriteOneText = (bytes others : List ℕ) (stop : List (List ℕ)) (documents : List NamedText) → WritesIndexText (Some []) (Some bytes) (collection_of stop documents)
+    → WritesIndexText (Some []) (Some others) (collection_of stop documents) → bytes ≡ others
+
 -- What opens of it is the index, in version 2, of exactly that collection: whichever collection it is found to be of.
 abbrev pub OpensAsThatCollection : Type 0
 OpensAsThatCollection = (text bytes : List ℕ) (stop : List (List ℕ)) (documents : List NamedText) (opened : Opened) (version : Version) (collection : Collection) → IsCollectionText text documents

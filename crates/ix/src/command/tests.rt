@@ -4,6 +4,7 @@ mod building;
 mod indexes;
 mod merging;
 mod saving;
+mod worked;
 
 use super::{command, command_over};
 use crate::files::{FileSource, FileTarget, ReadFault, WriteFault};

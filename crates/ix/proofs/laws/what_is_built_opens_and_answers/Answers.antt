@@ -5,11 +5,17 @@ use Rattle.ix_file.specs.IndexText.{IsIndexText}
 use Rattle.ix_file.specs.Opened.{IsIndexOf}
 use Rattle.ix_file.specs.Sections.{FrontCoded, Version}
 use Rattle.ix.proofs.HeadlineLemmas.{AreAlone, found_is_answered, the_answer}
+use Rattle.ix.proofs.OneTextLemmas.{one_index_text}
 use Rattle.ix.proofs.laws.what_is_built_opens_and_answers.Goals as goal
 
 pub returns-clause-built : goal.returns-clause-built
 returns-clause-built c = λ text bytes stop documents read writes.
     subst (IsIndexText FrontCoded (collection_of stop documents)) (sym writes.written) writes.of_collection
+
+pub returns-clause-one_text : goal.returns-clause-one_text
+returns-clause-one_text c = λ bytes others stop documents writes again.
+    let same = one_index_text FrontCoded (collection_of stop documents) writes.text again.text writes.of_collection again.of_collection in
+    writes.written ∙ same ∙ sym again.written
 
 pub returns-clause-opened : goal.returns-clause-opened
 returns-clause-opened c = λ text bytes stop documents opened version collection read writes index spelled.
