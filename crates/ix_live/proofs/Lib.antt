@@ -1,0 +1,12 @@
+pub mod Appending
+pub mod Beginnings
+pub mod Falling
+pub mod FoundLemmas
+pub mod Inserting
+pub mod Members
+pub mod NameLemmas
+pub mod PairMerging
+pub mod StateLemmas
+pub mod StoredLemmas
+pub mod TableLemmas
+pub mod VersionLemmas

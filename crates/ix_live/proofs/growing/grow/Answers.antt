@@ -1,0 +1,51 @@
+use Rattle.std.proofs.Common.{◌≡◌, ◌∙◌, List, ap, arith, length, subst}
+use Rattle.ix_text.specs.Collections.{Collection}
+use Rattle.ix_file.specs.Opened.{IsIndexOf}
+use Rattle.ix_file.specs.Sections.{FrontCoded}
+use Rattle.ix_live.specs.Growing.{documents_under}
+use Rattle.ix_live.specs.Segments.{of_documents, rows_in}
+use Rattle.ix_live.proofs.StoredLemmas.{documents_counted, of_its_documents, refused_by_building}
+use Rattle.ix_live.proofs.TableLemmas.{rows_counted}
+use Rattle.ix_live.proofs.growing.grow.Goals as goal
+
+pub returns-in-Err-clause-refused : goal.returns-in-Err-clause-refused
+returns-in-Err-clause-refused g c = refused_by_building (length (rows_in c.args.table.now)) c.args.tokens (documents_under c.args.stop.now c.args.documents.now) c.in-Err.error c.in-Err.ensures.refused
+
+pub merge_alike-requires-clause-some : goal.merge_alike-requires-clause-some
+merge_alike-requires-clause-some g c =
+    let stop = c.args.stop.now in
+    let texts = c.args.documents.now in
+    let built = subst (IsIndexOf c.in-Ok.volume FrontCoded) (of_its_documents stop texts) c.in-Ok.ensures.built in
+    omega (arith, rows_counted c.in-Ok.volume stop (documents_under stop texts) built, documents_counted stop texts, c.requires.some)
+
+pub merge_alike-requires-clause-few : goal.merge_alike-requires-clause-few
+merge_alike-requires-clause-few g c =
+    let stop = c.args.stop.now in
+    let texts = c.args.documents.now in
+    let built = subst (IsIndexOf c.in-Ok.volume FrontCoded) (of_its_documents stop texts) c.in-Ok.ensures.built in
+    omega (arith, rows_counted c.in-Ok.volume stop (documents_under stop texts) built, documents_counted stop texts, c.requires.few)
+
+pub merge_alike-requires-clause-indexed : goal.merge_alike-requires-clause-indexed
+merge_alike-requires-clause-indexed g c =
+    let stop = c.args.stop.now in
+    let texts = c.args.documents.now in
+    record {
+      stop = stop;
+      lists = c.requires.indexed.0;
+      documents = documents_under stop texts;
+      of_lists = c.requires.indexed.1;
+      of_documents = subst (IsIndexOf c.in-Ok.volume FrontCoded) (of_its_documents stop texts) c.in-Ok.ensures.built;
+    }
+
+pub returns-clause-grown : goal.returns-clause-grown
+returns-clause-grown g c =
+    let stop = c.args.stop.now in
+    let texts = c.args.documents.now in
+    let built = subst (IsIndexOf c.in-Ok.volume FrontCoded) (of_its_documents stop texts) c.in-Ok.ensures.built in
+    record {
+      segment = c.in_ok-left.segment;
+      is = c.in_ok-place.ensures;
+      within = c.in_ok-left.ensures.left;
+      falls = c.in_ok-left.ensures.falls;
+      merged = λ lists are. c.in_ok-left.ensures.merges stop lists (documents_under stop texts) are built;
+    }

@@ -1,0 +1,33 @@
+-- What is found in segments one after another.
+use Rattle.std.specs.Prelude.{◌≡◌, ℕ, ◌+◌, ◌==◌, Bool, not, List, ◌++◌, map, filter, Option}
+use Rattle.std.specs.List.{list_any}
+use Rattle.ix_text.specs.Collections.{Document}
+use Rattle.ix_query.specs.declared.tree.Tree.{Tree}
+use Rattle.ix_query.specs.Scans.{IsScan}
+use Rattle.ix_live.specs.Operations.{State}
+use Rattle.ix_live.specs.StateScans.{IsStateScan}
+use Rattle.ix_live.specs.Segments.{AreSegmentsOf, IsSegmentOf, joined, of_documents}
+use Rattle.ix_live.specs.declared.segment.Segment.{Segment}
+
+-- the number is none of those that are removed
+abbrev pub is_kept : List ℕ → ℕ → Bool
+is_kept removed number = not (list_any (λ other. other == number) removed)
+
+-- numbers counted from a first one on, those that are removed left out
+abbrev pub kept_from : List ℕ → ℕ → List ℕ → List ℕ
+kept_from removed first numbers = filter (is_kept removed) (map (λ number. first + number) numbers)
+
+-- What a query finds in a segment, whose documents count from a first number on, was put behind what was found before.
+pub record FindsIn (segment : Option Segment) (first : ℕ) (removed : List ℕ) (query : Tree) (before after : List ℕ) : Type 0 where
+  pub numbers : List ℕ
+  pub gained : after ≡ before ++ kept_from removed first numbers
+  pub scanned : (stop : List (List ℕ)) (documents : List Document) → IsSegmentOf stop segment documents → IsScan (of_documents stop documents) query numbers
+
+-- the state of documents under a stop set, of which some are removed
+abbrev pub with_removed : List (List ℕ) → List Document → List ℕ → State
+with_removed stop documents removed = record { collection = of_documents stop documents; removed = removed }
+
+-- whatever documents the segments are the indexes of, the numbers are the scan of those, but for the removed ones
+abbrev pub AreFound : List (Option Segment) → List ℕ → Tree → List ℕ → Type 0
+AreFound segments removed query numbers =
+    (stop : List (List ℕ)) (lists : List (List Document)) → AreSegmentsOf stop segments lists → IsStateScan (with_removed stop (joined lists) removed) query numbers

@@ -1,0 +1,13 @@
+pub mod Findings
+pub mod Growing
+pub mod Histories
+pub mod LiveErrors
+pub mod Logs
+pub mod NameErrors
+pub mod Names
+pub mod Operations
+pub mod Pieces
+pub mod Segments
+pub mod StateScans
+pub mod Tables
+pub mod Versions

@@ -1,0 +1,48 @@
+-- The errors of operations on a live index: their numbers, their names, as they are printed, and for what each one stands.
+use Rattle.std.specs.Prelude.{◌≡◌, ℕ, ◌+◌, ◌^◌, ◌<◌, ◌≤◌, ◌⊎◌, List, ◌++◌, length, codes, decimal}
+use Rattle.ix_text.specs.Collections.{Document}
+use Rattle.ix_build.specs.BuildErrors.{build_error_name}
+use Rattle.ix_live.specs.Growing.{tokens_of}
+use Rattle.ix_live.specs.Operations.{Operation, documents_added}
+use Rattle.ix_live.specs.declared.live_error.LiveError.{LiveError}
+use Rattle.ix_live.specs.declared.live_error.LiveError.TheVariants.{Build, TooLarge, Memory, Number}
+
+-- an error's place in the list of these errors, from 1
+abbrev pub live_error_number : LiveError → ℕ
+live_error_number (Build error) = 1
+live_error_number TooLarge = 2
+live_error_number Memory = 3
+live_error_number (Number document) = 4
+
+-- the name of an error, with the error of the building or the number in brackets
+abbrev pub live_error_name : LiveError → List ℕ
+live_error_name (Build error) = codes "Build(" ++ (build_error_name error ++ codes ")")
+live_error_name TooLarge = codes "TooLarge"
+live_error_name Memory = codes "Memory"
+live_error_name (Number document) = codes "Number(" ++ (decimal document ++ codes ")")
+
+-- documents are not built
+abbrev pub IsOfBuilding : LiveError → Type 0
+IsOfBuilding (Build error) = Unit {0}
+IsOfBuilding TooLarge = ⊥
+IsOfBuilding Memory = Unit {0}
+IsOfBuilding (Number document) = ⊥
+
+-- documents are not added to so many documents of so many tokens for this reason: they are not built, or would be too
+-- many, or have too many tokens, or memory was refused
+abbrev pub RefusesDocuments : ℕ → ℕ → List Document → LiveError → Type 0
+RefusesDocuments count tokens documents (Build error) = Unit {0}
+RefusesDocuments count tokens documents TooLarge = (2 ^ 28 < count + length documents) ⊎ (2 ^ 28 < tokens + tokens_of documents)
+RefusesDocuments count tokens documents Memory = Unit {0}
+RefusesDocuments count tokens documents (Number document) = ⊥
+
+-- documents are not added behind those of operations for this reason
+abbrev pub RefusesAddition : List Operation → List Document → LiveError → Type 0
+RefusesAddition operations documents = RefusesDocuments (length (documents_added operations)) (tokens_of (documents_added operations)) documents
+
+-- a number is not removed from so many documents for this reason: there is none of that number, or memory was refused
+abbrev pub RefusesRemoval : ℕ → ℕ → LiveError → Type 0
+RefusesRemoval count number (Build error) = ⊥
+RefusesRemoval count number TooLarge = ⊥
+RefusesRemoval count number Memory = Unit {0}
+RefusesRemoval count number (Number document) = (document ≡ number) × (count ≤ number)

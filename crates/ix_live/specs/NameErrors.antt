@@ -1,0 +1,19 @@
+-- The errors of giving names: their numbers, their names, as they are printed, and for what each one stands.
+use Rattle.std.specs.Prelude.{◌≡◌, ℕ, ◌≤◌, List, ◌++◌, length, Some, slice_get, codes, decimal}
+use Rattle.ix_live.specs.declared.name_error.NameError.{NameError}
+use Rattle.ix_live.specs.declared.name_error.NameError.TheVariants.{Number, Memory}
+
+-- an error's place in the list of these errors, from 1
+abbrev pub name_error_number : NameError → ℕ
+name_error_number (Number place) = 1
+name_error_number Memory = 2
+
+-- the name of an error, with its place in brackets
+abbrev pub name_error_name : NameError → List ℕ
+name_error_name (Number place) = codes "Number(" ++ (decimal place ++ codes ")")
+name_error_name Memory = codes "Memory"
+
+-- the number at that place is not below the count of the documents; or memory was refused
+abbrev pub RefusesNames : ℕ → List ℕ → NameError → Type 0
+RefusesNames count numbers (Number place) = (number : ℕ) × (slice_get numbers place ≡ Some number) × (count ≤ number)
+RefusesNames count numbers Memory = Unit {0}

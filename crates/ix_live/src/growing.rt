@@ -1,0 +1,87 @@
+//! A table of segments with documents more.
+ghost use Rattle.std.specs.Prelude.{◌≡◌, ◌^◌, ◌<◌, ◌≤◌, ◌+◌, length, IfOk, IfErr};
+ghost use Rattle.ix_text.specs.PartsLaws.{AreLawful};
+ghost use Rattle.ix_merge.specs.Rows.{tokens_in};
+ghost use Rattle.ix_live.specs.Growing.{Grows, HaveDocuments, documents_under, tokens_of};
+ghost use Rattle.ix_live.specs.LiveErrors.{RefusesDocuments};
+ghost use Rattle.ix_live.specs.Pieces.{Falls, pieces_in};
+ghost use Rattle.ix_live.specs.Segments.{rows_in};
+
+use crate::live_error::LiveError;
+use crate::merging::build_volume;
+use crate::segment::Place;
+use crate::table::merge_alike;
+use ix_build::Plan;
+use ix_file::Volume;
+use ix_text::{Collection, StopList};
+use std::alloc::Global;
+use std::sync::Wait;
+use std::thread::Threads;
+
+/// The most tokens that a live index may have.
+pub const MOST_TOKENS: u32 = 1 << 28;
+
+/// A segment that stands for all from `left` on and for documents more, of which are so many tokens.
+#[derive(Drop)]
+pub struct Grown {
+    pub left: usize,
+    pub place: Place,
+    pub tokens: u32,
+}
+
+/// Builds documents, of which there are some, and merges their segment with those at the end of a table that has so
+/// many tokens.
+///
+/// `Build` where they are not built, `TooLarge` where they have too many tokens, `Memory` where memory is refused.
+pub fn grow<R: Threads + Wait + Sync>(
+    rt: &R,
+    alloc: Global,
+    stop: &StopList,
+    table: &[Place],
+    tokens: u32,
+    documents: &Collection<'_>,
+    plan: &Plan,
+) -> Result<Grown, LiveError>
+    requires falls { Falls (pieces_in table.now) }
+    requires indexed { HaveDocuments stop.now table.now }
+    requires some { 0 < length documents.now }
+    requires few { length (rows_in table.now) + length documents.now ≤ 2 ^ 28 }
+    requires tokens { tokens ≤ 2 ^ 28 }
+    ensures grown { IfOk result (λ grown. Grows stop.now table.now
+        (documents_under stop.now documents.now) grown.left grown.place) }
+    ensures tokens { IfOk result (λ grown.
+        grown.tokens ≡ tokens_of (documents_under stop.now documents.now)) }
+    ensures few { IfOk result (λ grown. tokens + grown.tokens ≤ 2 ^ 28) }
+    ensures refused { IfErr result (RefusesDocuments (length (rows_in table.now)) tokens
+        (documents_under stop.now documents.now)) }
+{
+    let volume = match build_volume(rt, alloc, documents, stop, plan) {
+        Ok(volume) => volume,
+        Err(error) => return Err(error),
+    };
+    let more = token_count(&volume);
+    if more > MOST_TOKENS - tokens {
+        return Err(LiveError::TooLarge);
+    }
+    let (left, segment) = merge_alike(alloc, table, volume)?;
+    let place = Place::new(alloc, segment)?;
+    Ok(Grown {
+        left,
+        place,
+        tokens: more,
+    })
+}
+
+/// How many tokens the documents of an index have.
+fn token_count(volume: &Volume) -> u32
+    ensures count { result ≡ tokens_in volume.now.parts.rows }
+    ensures lawful { AreLawful volume.now.parts }
+{
+    let index = volume.index();
+    let count = index.doc_count();
+    let mut total = 0;
+    for document in 0..count {
+        total += index.token_count(document);
+    }
+    total
+}

@@ -1,0 +1,86 @@
+//! Segments: the documents of a live index lie in index texts that follow one another.
+ghost use Rattle.std.specs.Prelude.{◌≡◌, Some, None, IfOk, MatchOption};
+ghost use Rattle.ix_live.specs.Pieces.{generation_at};
+
+use ix_file::Volume;
+use ix_text::Memory;
+use std::alloc::Global;
+use std::marker::Model;
+use std::sync::Arc;
+
+/// An opened index text with its bytes. One of generation g has at least 2^g documents.
+#[derive(Drop)]
+pub struct Segment {
+    pub generation: u32,
+    pub volume: Volume,
+}
+
+/// A place of a table of segments: it is empty, or has a segment, which it shares with places of other tables.
+#[derive(Drop)]
+pub struct Place {
+    segment: Option<Arc<Segment, Global>>,
+}
+
+impl Model for Place {
+    ghost use Rattle.std.specs.Prelude.{Option, option_map};
+    ghost use Rattle.std.specs.Arc.{arc_value};
+    ghost use Rattle.ix_live.specs.declared.segment.Segment.{Segment};
+
+    ghost Value = { Option Segment };
+
+    ghost view = { λ place. option_map arc_value place.segment };
+}
+
+impl Default for Place {
+    /// An empty place.
+    fn default() -> Place {
+        Place { segment: None }
+    }
+}
+
+impl Place {
+    /// The place of a new segment.
+    pub fn new(alloc: Global, segment: Segment) -> Result<Place, Memory>
+        ensures { IfOk result (λ place. place ≡ Some segment) }
+    {
+        let segment = Arc::new(alloc, segment)?;
+        Ok(Place {
+            segment: Some(segment),
+        })
+    }
+
+    /// A place with the same segment.
+    pub fn again(&self) -> Result<Place, Memory>
+        ensures { IfOk result (λ place. place ≡ self.now) }
+    {
+        match &self.segment {
+            None => Ok(Place { segment: None }),
+            Some(segment) => {
+                let segment = Arc::try_clone(segment)?;
+                Ok(Place {
+                    segment: Some(segment),
+                })
+            }
+        }
+    }
+
+    /// The segment, or none where the place is empty.
+    pub fn segment(&self) -> Option<&Segment>
+        ensures { MatchOption result (self.now ≡ None) (λ segment. self.now ≡ Some segment.now) }
+    {
+        match &self.segment {
+            None => None,
+            Some(segment) => Some(&**segment),
+        }
+    }
+
+    /// The generation of the segment, 0 where the place is empty.
+    pub fn generation(&self) -> u32
+        ensures { result ≡ generation_at self.now }
+    {
+        match self.segment() {
+            None => 0,
+            Some(segment) => segment.generation,
+        }
+    }
+}

@@ -1,0 +1,239 @@
+//! Versions: a live index at one point of its history. A version that is shown is never changed.
+ghost use Rattle.std.specs.Prelude.{◌≡◌, ◌<◌, ◌++◌, ◌∷◌, [], length, map, option_map, slice_get, IfErr, IfOk, OnErr, OnOk};
+ghost use Rattle.std.specs.Arc.{arc_value};
+ghost use Rattle.std.specs.String.{string_bytes};
+ghost use Rattle.ix_live.specs.Growing.{documents_under};
+ghost use Rattle.ix_live.specs.LiveErrors.{RefusesAddition, RefusesRemoval};
+ghost use Rattle.ix_live.specs.Logs.{head_of};
+ghost use Rattle.ix_live.specs.NameErrors.{RefusesNames};
+ghost use Rattle.ix_live.specs.Names.{AreNamesOf};
+ghost use Rattle.ix_live.specs.Operations.{Remove, addition_of, documents_added, state_after};
+ghost use Rattle.ix_live.specs.Pieces.{Falls};
+ghost use Rattle.ix_live.specs.StateScans.{IsStateScan};
+
+use crate::entry::Entry;
+use crate::finding::find_documents;
+use crate::front::Front;
+use crate::growing::grow;
+use crate::live_error::LiveError;
+use crate::log::{Addition, Appending, Head, Removal};
+use crate::name_error::NameError;
+use crate::naming::find_names;
+use crate::removing::insert_number;
+use crate::segment::Place;
+use arrayvec::ArrayVec;
+use ix_build::Plan;
+use ix_query::Query;
+use ix_text::{Collection, Memory, StopList};
+use std::alloc::Global;
+use std::marker::Model;
+use std::sync::{Arc, Wait};
+use std::thread::Threads;
+
+/// The most documents that a live index may have.
+const MOST_DOCUMENTS: u32 = 1 << 28;
+
+/// A live index at one point of its history. Contracts see its stop set, its history and the pieces of its documents.
+#[derive(Drop)]
+pub struct Version {
+    pub(crate) stop: Arc<StopList, Global>,
+    pub(crate) segments: ArrayVec<Place, 32>,
+    // the operations, without their documents
+    pub(crate) entries: Vec<Entry>,
+    // the numbers of the documents that are removed, ascending
+    pub(crate) removed: Vec<u32>,
+    // how many documents there are, and how many tokens they have
+    pub(crate) count: u32,
+    pub(crate) tokens: u32,
+    pub(crate) front: Front,
+}
+
+impl Model for Version {
+    ghost use Rattle.std.specs.Arc.{arc_value};
+    ghost use Rattle.ix_live.specs.Pieces.{pieces_in};
+    ghost use Rattle.ix_live.specs.Versions.{IsStored, VersionValue};
+
+    ghost Value = { VersionValue };
+
+    ghost view = { λ version. record { stop = arc_value version.stop; history = version.front; pieces = pieces_in version.segments.items } };
+
+    ghost invariant = { λ version. IsStored (arc_value version.stop) version.segments.items version.entries.items version.removed.items version.count version.tokens version.front.operations };
+}
+
+impl Version {
+    /// The version without operations, of this stop list and log.
+    pub fn new(alloc: Global, stop: Arc<StopList, Global>, front: Front) -> Version
+        requires { front.operations ≡ [] }
+        ensures stop { result.stop ≡ arc_value stop }
+        ensures history { result.history ≡ front }
+        ensures pieces { result.pieces ≡ [] }
+    {
+        Version {
+            stop,
+            segments: ArrayVec::new(),
+            entries: Vec::new(alloc),
+            removed: Vec::new(alloc),
+            count: 0,
+            tokens: 0,
+            front,
+        }
+    }
+
+    /// A version of the same history, which shares the segments.
+    pub fn copy(&self, alloc: Global) -> Result<Version, Memory>
+        ensures { IfOk result (λ copy. copy ≡ self.now) }
+    {
+        let segments = share_segments(&self.segments)?;
+        Ok(Version {
+            stop: Arc::try_clone(&self.stop)?,
+            segments,
+            entries: Vec::from_slice(alloc, &self.entries)?,
+            removed: Vec::from_slice(alloc, &self.removed)?,
+            count: self.count,
+            tokens: self.tokens,
+            front: self.front.again(),
+        })
+    }
+
+    /// Adds documents behind all others. A collection without documents changes nothing.
+    ///
+    /// `Build` where the documents are not built, `TooLarge` where there would be more than 2^28 documents or tokens,
+    /// and `Memory` where memory is refused; also where the log has gone on beyond the history, which does not come
+    /// while nobody else has its word. All is then as it was.
+    pub fn add<R: Threads + Wait + Sync>(
+        &mut self,
+        rt: &R,
+        alloc: Global,
+        head: &Head,
+        documents: &Collection<'_>,
+        plan: &Plan,
+    ) -> Result<(), LiveError>
+        requires { head.now ≡ head_of self.old.history.book }
+        ensures same { (self.new.stop ≡ self.old.stop)
+            × (self.new.history.book ≡ self.old.history.book) }
+        ensures added { OnOk result (self.new.history.operations ≡ self.old.history.operations
+            ++ addition_of (documents_under self.old.stop documents.now)) }
+        ensures kept { OnErr result (self.new ≡ self.old) }
+        ensures error { IfErr result (RefusesAddition self.old.history.operations
+            (documents_under self.old.stop documents.now)) }
+    {
+        let count = documents.docs().len();
+        if count == 0 {
+            return Ok(());
+        }
+        if count > (MOST_DOCUMENTS - self.count) as usize {
+            return Err(LiveError::TooLarge);
+        }
+        let table = self.segments.as_slice();
+        let grown = match grow(rt, alloc, &self.stop, table, self.tokens, documents, plan) {
+            Ok(grown) => grown,
+            Err(error) => return Err(error),
+        };
+        self.entries.reserve(1)?;
+        let mut front = self.front.again();
+        let asked = Addition {
+            stop: &self.stop,
+            documents,
+        };
+        // Nobody else has the word of the log, so this does not fail.
+        if !front.append::<Addition<'_>, Appending>(head, &asked) {
+            return Err(LiveError::Memory);
+        }
+        self.segments.truncate(grown.left);
+        self.segments.push(grown.place);
+        self.entries.push_reserved(Entry::Added(count as u32));
+        self.count += count as u32;
+        self.tokens += grown.tokens;
+        self.front = front;
+        Ok(())
+    }
+
+    /// Removes the document of a number, which keeps its number and its name. A second removal changes nothing but
+    /// the history.
+    ///
+    /// `Number` where there is no such document, and `Memory` as in `add`. All is then as it was.
+    pub fn remove(&mut self, head: &Head, number: u32) -> Result<(), LiveError>
+        requires { head.now ≡ head_of self.old.history.book }
+        ensures same { (self.new.stop ≡ self.old.stop)
+            × (self.new.history.book ≡ self.old.history.book)
+            × (self.new.pieces ≡ self.old.pieces) }
+        ensures removed { OnOk result (self.new.history.operations
+            ≡ self.old.history.operations ++ Remove number ∷ []) }
+        ensures there { OnOk result
+            (number < length (documents_added self.old.history.operations)) }
+        ensures kept { OnErr result (self.new ≡ self.old) }
+        ensures error { IfErr result (RefusesRemoval
+            (length (documents_added self.old.history.operations)) number) }
+    {
+        if number >= self.count {
+            return Err(LiveError::Number(number));
+        }
+        self.entries.reserve(1)?;
+        self.removed.reserve(1)?;
+        let mut front = self.front.again();
+        // Nobody else has the word of the log, so this does not fail.
+        if !front.append::<Removal, Appending>(head, &Removal { number }) {
+            return Err(LiveError::Memory);
+        }
+        insert_number(&mut self.removed, number);
+        self.entries.push_reserved(Entry::Removed(number));
+        self.front = front;
+        Ok(())
+    }
+
+    /// Its history.
+    pub fn front(&self) -> &Front
+        ensures { result.now ≡ self.now.history }
+    {
+        &self.front
+    }
+
+    /// The generation of the segment at a place, none past the end.
+    pub fn generation(&self, place: usize) -> Option<u32>
+        ensures generation { result
+            ≡ option_map (λ piece. piece.generation) (slice_get self.now.pieces place) }
+        ensures falls { Falls self.now.pieces }
+    {
+        match self.segments.as_slice().get(place) {
+            None => None,
+            Some(segment) => Some(segment.generation()),
+        }
+    }
+
+    /// The numbers of the documents that satisfy a query and are not removed, ascending.
+    pub fn find(&self, alloc: Global, query: &Query) -> Result<Vec<u32>, Memory>
+        ensures { IfOk result (λ numbers.
+            IsStateScan (state_after self.now.stop self.now.history.operations) query.now
+            numbers.items) }
+    {
+        find_documents(
+            alloc,
+            self.segments.as_slice(),
+            self.removed.as_slice(),
+            query,
+        )
+    }
+
+    /// The names of the documents of these numbers, removed ones too. `Number` with the place of a number that is no
+    /// document's, or `Memory`.
+    pub fn names(&self, alloc: Global, numbers: &[u32]) -> Result<Vec<String>, NameError>
+        ensures names { IfOk result (λ names.
+            AreNamesOf (documents_added self.now.history.operations) numbers.now
+            (map string_bytes names.items)) }
+        ensures refused { IfErr result
+            (RefusesNames (length (documents_added self.now.history.operations)) numbers.now) }
+    {
+        find_names(alloc, self.segments.as_slice(), numbers)
+    }
+}
+
+/// A table of the same segments.
+fn share_segments(segments: &ArrayVec<Place, 32>) -> Result<ArrayVec<Place, 32>, Memory>
+    ensures { IfOk result (λ table. table.items ≡ segments.now.items) }
+{
+    let mut table = ArrayVec::new();
+    for place in segments.as_slice() {
+        table.push(place.again()?);
+    }
+    Ok(table)
+}
