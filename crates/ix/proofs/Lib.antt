@@ -13,6 +13,7 @@ pub mod NameLemmas
 pub mod NoFault
 pub mod Numbers
 pub mod OneTextLemmas
+pub mod Plans
 pub mod Rows
 pub mod RunFileLemmas
 pub mod RunLemmas

@@ -4,14 +4,15 @@ use Rattle.std.specs.Prelude.{IsSome, IsSomeAnd}
 use Rattle.clap.specs.Kinds.{HasKind}
 use Rattle.clap.specs.Faults.{fault_of, is_simple_and_free}
 use Rattle.clap.specs.Simple.{App, HasMatchesOf, is_simple, subcommand_of, subcommand_rows_of}
-use Rattle.clap.specs.Walk.{Text}
+use Rattle.clap.specs.Walk.{Row, Text}
 use Rattle.clap.specs.declared.error.Error.{Error}
 use Rattle.clap.specs.declared.parser.matches.ArgMatches.{ArgMatches}
 use Rattle.ix.specs.Commands.{ix_app, ix_built}
 use Rattle.ix.specs.Entered.{Entered}
 use Rattle.ix.specs.LineErrors.{SortsError}
-use Rattle.ix.specs.Lines.{IsMatched, Refuses}
+use Rattle.ix.specs.Lines.{IsMatched, Names, Refuses, RefusesRows}
 use Rattle.ix.specs.declared.command_line.error.LineError.{LineError}
+use Rattle.ix.specs.declared.command_line.error.LineError.TheVariants.{Both, Clap, Memory}
 use Rattle.ix.proofs.EachLemmas.{both}
 use Rattle.ix.proofs.NoFault.{entered_unless_fault, is_usual_app}
 
@@ -46,6 +47,17 @@ refused_up (Err r) a words e is fails err = refused a words e r is fails err
 -- matches with no fault are those of a command that fits them
 pub named : (words : List Text) (m : ArgMatches) → IsMatched words m → IsSomeAnd (subcommand_rows_of m) (λ q. Entered ix_built q.0 q.1)
 named words m is = subst (λ o. IsSomeAnd o (λ q. Entered ix_built q.0 q.1)) (sym is.1) (entered_unless_fault ix_app words ix_usual is.0)
+
+-- why a command's rows are no line is why the words are none
+pub refuses_named : (words : List Text) (name : Text) (rows : List Row) (e : LineError) → Names words name rows → RefusesRows rows e → Refuses words e
+refuses_named words name rows (Clap error) names refuses = absurd refuses
+refuses_named words name rows Memory names refuses = tt
+refuses_named words name rows Both names refuses = (name, rows, names, refuses)
+
+pub rows_refused_up : {T : Type 0} (result : Result T LineError) (words : List Text) (name : Text) (rows : List Row) (e : LineError) → Names words name rows → RefusesRows rows e
+    → IsErrAnd result (λ r. r ≡ e) → IfErr result (Refuses words)
+rows_refused_up (Ok x) words name rows e names refuses is = tt
+rows_refused_up (Err r) words name rows e names refuses is = refuses_named words name rows r names (subst (RefusesRows rows) (sym is) refuses)
 
 pub is_there : {X : Type 0} (P : X → Type 0) (o : Option X) → IsSomeAnd o P → IsSome o
 is_there P None h = absurd h

@@ -21,7 +21,7 @@ use Rattle.clap.specs.declared.error.kind.ErrorKind.{ErrorKind}
 use Rattle.clap.proofs.CallerReads.{signed_reads}
 use Rattle.clap.proofs.ValueTestLemmas.{accepts-Accepts}
 use Rattle.ix.specs.Entered.{Entered, FitsShape, RowFits, ValuesFit}
-use Rattle.ix.specs.Lines.{IsNumberText, number_of}
+use Rattle.ix.specs.Lines.{IsNumberIn, IsNumberText, number_of}
 use Rattle.ix.proofs.EachLemmas.{found, neither}
 use Rattle.ix.proofs.Uses.{same_bytes}
 
@@ -106,16 +106,15 @@ in_range low high small word is = go (number_of (without_minus word)) refl
       ]
     ]
 
--- the number of an option, or another one of its range, is in the range
-pub number_or_in_range : (app : App) (name id : Text) (rows : List Row) (low high otherwise n : ℕ) → high < 2 ^ 32 → low ≤ otherwise → otherwise ≤ high
-    → parser_at app name id ≡ Some (Signed (pos low) (pos high)) → Entered app name rows → n ≡ option_map_or number_of (one_of id rows) otherwise → (low ≤ n) × (n ≤ high)
-number_or_in_range app name id rows low high otherwise n small above within is entered e =
-    let known = given_text (λ t. (low ≤ number_of t) × (number_of t ≤ high)) app name id rows low high (in_range low high small) is entered in
-    subst (λ (k : ℕ). (low ≤ k) × (k ≤ high)) (sym e) (go (one_of id rows) known)
-  where
-    go : (o : Option Text) → IfSome o (λ t. (low ≤ number_of t) × (number_of t ≤ high)) → (low ≤ option_map_or number_of o otherwise) × (option_map_or number_of o otherwise ≤ high)
-    go None known = (above, within)
-    go (Some t) known = known
+-- an option of a number gives one in its range, if any
+pub number_in_given : (app : App) (name id : Text) (rows : List Row) (low high : ℕ) → high < 2 ^ 32 → parser_at app name id ≡ Some (Signed (pos low) (pos high)) → Entered app name rows
+    → IfSome (one_of id rows) (IsNumberIn low high)
+number_in_given app name id rows low high small = given_text (IsNumberIn low high) app name id rows low high
+    (λ word is. record {
+      number = record { word = word; low = low; high = high; read = refl; small = small; in_range = is };
+      above = (in_range low high small word is).0;
+      below = (in_range low high small word is).1;
+    })
 
 -- ---- what is read of it
 

@@ -23,22 +23,24 @@ operands_rule name = record (operand_rule name) {
   range = Some (record { start_inclusive = 1; end_inclusive = usize_max });
 }
 
--- `ask [--stop FILE] [--block N] [--workers W] COLLECTION QUERY`
+-- `ask [--stop FILE] [--block N] [--bytes N] [--workers W] COLLECTION QUERY`
 abbrev pub ask_shape : Shape
 ask_shape = record (new_shape (codes "ask")) {
   rules = option_rule (codes "stop")
       ∷ number_rule (codes "block") (pos 1) (pos 268435456)
+      ∷ number_rule (codes "bytes") (pos 1) (pos 268435456)
       ∷ number_rule (codes "workers") (pos 1) (pos 64)
       ∷ operand_rule (codes "COLLECTION")
       ∷ operand_rule (codes "QUERY")
       ∷ [];
 }
 
--- `build [--stop FILE] [--block N] [--workers W] COLLECTION INDEX`
+-- `build [--stop FILE] [--block N] [--bytes N] [--workers W] COLLECTION INDEX`
 abbrev pub build_shape : Shape
 build_shape = record (new_shape (codes "build")) {
   rules = option_rule (codes "stop")
       ∷ number_rule (codes "block") (pos 1) (pos 268435456)
+      ∷ number_rule (codes "bytes") (pos 1) (pos 268435456)
       ∷ number_rule (codes "workers") (pos 1) (pos 64)
       ∷ operand_rule (codes "COLLECTION")
       ∷ operand_rule (codes "INDEX")

@@ -4,16 +4,18 @@ use Rattle.clap.specs.Words.{kind_of}
 use Rattle.clap.specs.declared.error.Error.{Error}
 use Rattle.clap.specs.declared.error.kind.ErrorKind.TheVariants.{DisplayHelp, OutOfMemory}
 use Rattle.ix.specs.declared.command_line.error.LineError.{LineError}
-use Rattle.ix.specs.declared.command_line.error.LineError.TheVariants.{Clap, Memory}
+use Rattle.ix.specs.declared.command_line.error.LineError.TheVariants.{Both, Clap, Memory}
 
 abbrev pub number_of : LineError → ℕ
 number_of (Clap e) = 1
 number_of Memory = 2
+number_of Both = 3
 
 -- the words ask for help
 abbrev pub IsHelp : LineError → Type 0
 IsHelp (Clap e) = kind_of e ≡ DisplayHelp
 IsHelp Memory = ⊥
+IsHelp Both = ⊥
 
 -- want of memory is an error of its own, and all else is `clap`'s
 abbrev pub SortsError : Error → LineError → Type 0

@@ -1,5 +1,5 @@
 -- Which line the words are, by the matches that `clap` defines for them.
-use Rattle.std.specs.Prelude.{◌≡◌, ◌^◌, ◌<◌, ℕ, List, [], Option, Some, codes, map, option_map, pos}
+use Rattle.std.specs.Prelude.{◌≡◌, ◌^◌, ◌<◌, ◌≤◌, ℕ, List, [], IsSome, Option, None, Some, codes, map, option_map, pos}
 use Rattle.std.specs.Option.{option_map_or}
 use Rattle.std.specs.Str.Parse.{digits_value, without_leading_plus}
 use Rattle.std.specs.Borrow.{Bor}
@@ -11,12 +11,13 @@ use Rattle.clap.specs.Faults.{fault_of}
 use Rattle.clap.specs.Words.{IsAmong, kind_of}
 use Rattle.clap.specs.declared.parser.matches.ArgMatches.{ArgMatches}
 use Rattle.ix_build.specs.Plans.{PlanValue}
-use Rattle.ix_build.specs.declared.plan.Cut.TheVariants.{Docs}
+use Rattle.ix_build.specs.declared.plan.Cut.{Cut}
+use Rattle.ix_build.specs.declared.plan.Cut.TheVariants.{Bytes, Docs}
 use Rattle.ix.specs.Commands.{ix_app}
 use Rattle.ix.specs.declared.command_line.Line.{Line}
 use Rattle.ix.specs.declared.command_line.Line.TheVariants.{Ask, Build, Merge, Run, Search, Terms, Upgrade}
 use Rattle.ix.specs.declared.command_line.error.LineError.{LineError}
-use Rattle.ix.specs.declared.command_line.error.LineError.TheVariants.{Clap, Memory}
+use Rattle.ix.specs.declared.command_line.error.LineError.TheVariants.{Both, Clap, Memory}
 
 -- the words behind references
 abbrev pub texts_of : List (Bor Text) → List Text
@@ -53,12 +54,31 @@ pub record IsNumberText (text : Text) : Type 0 where
   pub small : high < 2 ^ 32
   pub in_range : IsSignedIn (pos low) (pos high) word
 
--- The plan is that of the options `--block`, else 1024, and `--workers`, else 4.
+-- The text is that of a number in this range.
+pub record IsNumberIn (low high : ℕ) (text : Text) : Type 0 where
+  pub number : IsNumberText text
+  pub above : low ≤ number_of text
+  pub below : number_of text ≤ high
+
+-- the number of an option, or none where the words do not give it
+abbrev pub given_number : Text → List Row → Option ℕ
+given_number id rows = option_map number_of (one_of id rows)
+
+-- the cut into blocks by so many documents or by so many bytes, without both by 1024 documents, and none where both are given
+abbrev pub cut_of : Option ℕ → Option ℕ → Option Cut
+cut_of (Some documents) (Some bytes) = None
+cut_of (Some documents) None = Some (Docs documents)
+cut_of None (Some bytes) = Some (Bytes bytes)
+cut_of None None = Some (Docs 1024)
+
+-- The plan is that of one of the options `--block` and `--bytes`, and of `--workers`, else 4.
 pub record HasPlan (rows : List Row) (plan : PlanValue) : Type 0 where
-  pub block : ℕ
-  pub given : HasNumberOr (codes "block") 1024 rows block
-  pub cut : plan.cut ≡ Docs block
+  pub cut : cut_of (given_number (codes "block") rows) (given_number (codes "bytes") rows) ≡ Some plan.cut
   pub workers : HasNumberOr (codes "workers") 4 rows plan.workers
+
+-- `--block` stands beside `--bytes`
+abbrev pub HasBoth : List Row → Type 0
+HasBoth rows = IsSome (one_of (codes "block") rows) × IsSome (one_of (codes "bytes") rows)
 
 -- ---- a line
 
@@ -97,15 +117,26 @@ abbrev pub Names : List Text → Text → List Row → Type 0
 Names words name rows =
     (fault_of ix_app words ≡ []) × (subcommand_of ix_app words ≡ Some (name, rows))
 
+-- the words name a command, and `--block` stands beside `--bytes`
+abbrev pub CutsTwice : List Text → Type 0
+CutsTwice words = (name : Text) × (rows : List Row) × Names words name rows × HasBoth rows
+
+-- the error tells why a command's rows are no line
+abbrev pub RefusesRows : List Row → LineError → Type 0
+RefusesRows rows (Clap e) = ⊥
+RefusesRows rows Memory = Unit {0}
+RefusesRows rows Both = HasBoth rows
+
 -- the words are the line
 abbrev pub Reads : List Text → Line → Type 0
 Reads words line =
     (name : Text) × (rows : List Row) × Names words name rows × Holds name rows line
 
--- the error has one of the kinds of `clap`'s faults of the words
+-- the error has one of the kinds of `clap`'s faults of the words, or says that `--block` stands beside `--bytes`
 abbrev pub Refuses : List Text → LineError → Type 0
 Refuses words (Clap e) = IsAmong (kind_of e) (fault_of ix_app words)
 Refuses words Memory = Unit {0}
+Refuses words Both = CutsTwice words
 
 -- the matches of words with no fault
 abbrev pub IsMatched : List Text → ArgMatches → Type 0

@@ -1,6 +1,6 @@
 -- What an exit status says: that help was printed, that a command was done, or why it was refused. The words are those of
 -- the command line with `help X` spelled as `X --help`.
-use Rattle.std.specs.Prelude.{◌≡◌, ◌≢◌, ℕ, ◌<◌, List, Option, codes}
+use Rattle.std.specs.Prelude.{◌≡◌, ◌≢◌, ℕ, ◌⊎◌, ◌<◌, List, Option, codes}
 use Rattle.std.specs.Borrow.{Bor}
 use Rattle.std.specs.Io.KnownBytes.{Appends, Keeps}
 use Rattle.clap.specs.Walk.{Text}
@@ -15,7 +15,7 @@ use Rattle.ix.specs.Commands.{ix_app}
 use Rattle.ix.specs.Files.{Holding}
 use Rattle.ix.specs.Help.{AsksForHelp, as_flag, help_of}
 use Rattle.ix.specs.IndexFiles.{IsListingRefused, IsPrintedFromFile, IsSearchRefused, IsSearchedFromFile}
-use Rattle.ix.specs.Lines.{Reads, texts_of}
+use Rattle.ix.specs.Lines.{CutsTwice, Reads, texts_of}
 use Rattle.ix.specs.MergedRuns.{IsMerged, IsMergeRefused}
 use Rattle.ix.specs.Refusals.{IsTold}
 use Rattle.ix.specs.Upgrades.{IsUpgradeRefused, IsUpgraded}
@@ -75,9 +75,9 @@ pub record FindsNone (holds saves : Holding) (words : List Text) (old new : Opti
   pub read : Reads words line
   pub done : IsDone holds saves line old new 0
 
--- the words have a fault, and not only that they ask for help
+-- the words have a fault, and not only that they ask for help, or they cut into blocks in two ways
 abbrev pub AreMistaken : List Text → Type 0
-AreMistaken words = (kind : ErrorKind) × IsAmong kind (fault_of ix_app words) × (kind ≢ DisplayHelp)
+AreMistaken words = ((kind : ErrorKind) × IsAmong kind (fault_of ix_app words) × (kind ≢ DisplayHelp)) ⊎ CutsTwice words
 
 -- The refusal tells that the standard output cannot be written, which gained a beginning of the text.
 abbrev pub IsUnwritten : Text → Option Text → Option Text → Refusal → Type 0

@@ -201,6 +201,7 @@ fn answer_without_line<'a, W: Write>(
     }
     match error {
         LineError::Clap(_) => Err(Refusal::Arguments),
+        LineError::Both => Err(Refusal::Arguments),
         LineError::Memory => Err(Refusal::Memory),
     }
 }

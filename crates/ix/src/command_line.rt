@@ -1,14 +1,14 @@
 //! The command line: the words after the program's name, as a line with one variant a command.
-ghost use Rattle.std.specs.Prelude.{◌≡◌, ◌<◌, ◌≤◌, IfOk, IfErr, Some, IsSome, codes};
+ghost use Rattle.std.specs.Prelude.{◌≡◌, IfOk, IfErr, Some, IsSome, codes};
 ghost use Rattle.clap.specs.Words.{found_of, rows_of, subcommand_rows_of};
-ghost use Rattle.ix_build.specs.declared.plan.Cut.TheVariants.{Docs};
 ghost use Rattle.ix.specs.Commands.{ix_built};
 ghost use Rattle.ix.specs.Entered.{Entered};
-ghost use Rattle.ix.specs.Lines.{Holds, IsMatched, Reads, Refuses, texts_of};
+ghost use Rattle.ix.specs.Lines.{Holds, IsMatched, Reads, Refuses, RefusesRows, texts_of};
 
 mod commands;
 mod error;
 mod fields;
+mod plan;
 #[cfg(test)]
 mod tests;
 mod worked;
@@ -16,21 +16,16 @@ mod worked;
 use clap::ArgMatches;
 pub use error::LineError;
 use fields::{number_or, operand, operands, option};
-use ix_build::{Cut, Plan, Runs};
-use std::alloc::{AllocError, Global};
+use ix_build::Plan;
+use plan::read_plan;
+use std::alloc::Global;
 pub use worked::worked_lines;
-
-/// How many documents a block has, where the words do not say it.
-const BLOCK_DOCUMENTS: u32 = 1024;
-
-/// How many workers make the blocks, where the words do not say it.
-const WORKERS: u32 = 4;
 
 /// What the words ask for: a command with its options and operands. Each text is one of the words,
 /// or the part of one after `=`.
 #[derive(Debug, Drop)]
 pub enum Line<'a> {
-    /// `ix ask [--stop FILE] [--block N] [--workers W] COLLECTION QUERY`.
+    /// `ix ask [--stop FILE] [--block N] [--bytes N] [--workers W] COLLECTION QUERY`.
     Ask {
         /// The file of stop words, where one is named.
         stop: Option<&'a str>,
@@ -41,7 +36,7 @@ pub enum Line<'a> {
         /// The text of the query.
         query: &'a str,
     },
-    /// `ix build [--stop FILE] [--block N] [--workers W] COLLECTION INDEX`.
+    /// `ix build [--stop FILE] [--block N] [--bytes N] [--workers W] COLLECTION INDEX`.
     Build {
         /// The file of stop words, where one is named.
         stop: Option<&'a str>,
@@ -95,15 +90,16 @@ pub enum Line<'a> {
 
 /// Reads the words after the program's name.
 ///
-/// Fails with `Clap` where `clap` refuses the words or they ask for help, and with `Memory` where
-/// memory runs out.
+/// Fails with `Clap` where `clap` refuses the words or they ask for help, with `Both` where
+/// `--block` stands beside `--bytes`, and with `Memory` where memory runs out.
 pub fn read_line<'a>(alloc: Global, words: &'a [&'a str]) -> Result<Line<'a>, LineError>
     ensures ok { IfOk result (Reads (texts_of words.entry.now)) }
     ensures err { IfErr result (Refuses (texts_of words.entry.now)) }
 {
     let matches = matched(alloc, words)?;
     let (name, own) = entered(&matches);
-    Ok(line_of(alloc, name, own)?)
+    let line = line_of(alloc, name, own)?;
+    Ok(line)
 }
 
 // The matches of the words, which name a command.
@@ -125,13 +121,14 @@ fn entered<'m, 'a>(matches: &'m ArgMatches<'a>) -> (&'a str, &'m ArgMatches<'a>)
     matches.subcommand().unwrap()
 }
 
-fn line_of<'a>(alloc: Global, name: &str, matches: &ArgMatches<'a>) -> Result<Line<'a>, AllocError>
+fn line_of<'a>(alloc: Global, name: &str, matches: &ArgMatches<'a>) -> Result<Line<'a>, LineError>
     requires { Entered ix_built name.now (rows_of (found_of matches.now)) }
-    ensures { IfOk result (Holds name.now (rows_of (found_of matches.now))) }
+    ensures line { IfOk result (Holds name.now (rows_of (found_of matches.now))) }
+    ensures refused { IfErr result (RefusesRows (rows_of (found_of matches.now))) }
 {
     match name {
-        "ask" => Ok(ask_line(matches)),
-        "build" => Ok(build_line(matches)),
+        "ask" => ask_line(matches),
+        "build" => build_line(matches),
         "search" => Ok(search_line(matches)),
         "terms" => Ok(terms_line(matches)),
         "run" => Ok(run_line(matches)),
@@ -141,48 +138,39 @@ fn line_of<'a>(alloc: Global, name: &str, matches: &ArgMatches<'a>) -> Result<Li
     }
 }
 
-fn ask_line<'a>(matches: &ArgMatches<'a>) -> Line<'a>
+fn ask_line<'a>(matches: &ArgMatches<'a>) -> Result<Line<'a>, LineError>
     requires { Entered ix_built (codes "ask") (rows_of (found_of matches.now)) }
-    ensures { Holds (codes "ask") (rows_of (found_of matches.now)) result }
+    ensures line { IfOk result (Holds (codes "ask") (rows_of (found_of matches.now))) }
+    ensures refused { IfErr result (RefusesRows (rows_of (found_of matches.now))) }
 {
-    let stop = option(matches, "stop");
-    let block = number_or(matches, "block", BLOCK_DOCUMENTS);
-    let workers = number_or(matches, "workers", WORKERS);
-    Line::Ask {
-        stop,
-        plan: plan_of(block, workers),
+    let Some(plan) = read_plan(matches) else {
+        return Err(LineError::Both);
+    };
+    Ok(Line::Ask {
+        stop: option(matches, "stop"),
+        plan,
         collection: operand(matches, "COLLECTION"),
         query: operand(matches, "QUERY"),
-    }
+    })
 }
 
-fn build_line<'a>(matches: &ArgMatches<'a>) -> Line<'a>
+fn build_line<'a>(matches: &ArgMatches<'a>) -> Result<Line<'a>, LineError>
     requires { Entered ix_built (codes "build") (rows_of (found_of matches.now)) }
-    ensures { Holds (codes "build") (rows_of (found_of matches.now)) result }
+    ensures line { IfOk result (Holds (codes "build") (rows_of (found_of matches.now))) }
+    ensures refused { IfErr result (RefusesRows (rows_of (found_of matches.now))) }
 {
+    let Some(plan) = read_plan(matches) else {
+        return Err(LineError::Both);
+    };
     let stop = option(matches, "stop");
-    let block = number_or(matches, "block", BLOCK_DOCUMENTS);
-    let workers = number_or(matches, "workers", WORKERS);
-    let plan = plan_of(block, workers);
     let collection = operand(matches, "COLLECTION");
     let index = operand(matches, "INDEX");
-    Line::Build {
+    Ok(Line::Build {
         stop,
         plan,
         collection,
         index,
-    }
-}
-
-// The plan of blocks of so many documents, and of so many workers.
-fn plan_of(block: u32, workers: u32) -> Plan
-    requires some { 0 < block }
-    requires some_workers { 0 < workers }
-    requires few_workers { workers ≤ 64 }
-    ensures cut { result.cut ≡ Docs block }
-    ensures workers { result.workers ≡ workers }
-{
-    Plan::new(Cut::Docs(block), workers as usize, Runs::Memory).unwrap()
+    })
 }
 
 fn search_line<'a>(matches: &ArgMatches<'a>) -> Line<'a>
@@ -221,9 +209,10 @@ fn run_line<'a>(matches: &ArgMatches<'a>) -> Line<'a>
     }
 }
 
-fn merge_line<'a>(alloc: Global, matches: &ArgMatches<'a>) -> Result<Line<'a>, AllocError>
+fn merge_line<'a>(alloc: Global, matches: &ArgMatches<'a>) -> Result<Line<'a>, LineError>
     requires { Entered ix_built (codes "merge") (rows_of (found_of matches.now)) }
-    ensures { IfOk result (Holds (codes "merge") (rows_of (found_of matches.now))) }
+    ensures line { IfOk result (Holds (codes "merge") (rows_of (found_of matches.now))) }
+    ensures refused { IfErr result (RefusesRows (rows_of (found_of matches.now))) }
 {
     let index = operand(matches, "INDEX");
     let runs = operands(alloc, matches, "RUN")?;

@@ -55,13 +55,15 @@ Examples:
 pub const HELP_ON_ASK: &str = "\
 Prints the names of the documents of a collection that answer a query, one a line.
 
-Usage: ix ask [--stop FILE] [--block N] [--workers W] COLLECTION QUERY
+Usage: ix ask [--stop FILE] [--block N] [--bytes N] [--workers W] COLLECTION QUERY
 
   COLLECTION     the file of documents; `-` is the standard input
   QUERY          the query, as one argument
   --stop FILE    a file of words to leave out, one a line
   --block N      how many documents are inverted at a time,
                  from 1 to 268435456; without it 1024
+  --bytes N      in place of --block: documents are inverted at a time until their
+                 texts have this many bytes, from 1 to 268435456
   --workers W    how many threads invert them, from 1 to 64; without it 4
 
 An index of the collection is built in memory, and answers. The answer is the same
@@ -92,13 +94,15 @@ Examples:
 pub const HELP_ON_BUILD: &str = "\
 Builds an index of a collection: a file that is searched without reading the collection.
 
-Usage: ix build [--stop FILE] [--block N] [--workers W] COLLECTION INDEX
+Usage: ix build [--stop FILE] [--block N] [--bytes N] [--workers W] COLLECTION INDEX
 
   COLLECTION     the file of documents; `-` is the standard input
   INDEX          the index file to be written; it is created once COLLECTION was read
   --stop FILE    a file of words to leave out, one a line
   --block N      how many documents are inverted at a time,
                  from 1 to 268435456; without it 1024
+  --bytes N      in place of --block: documents are inverted at a time until their
+                 texts have this many bytes, from 1 to 268435456
   --workers W    how many threads invert them, from 1 to 64; without it 4
 
 The index is the same whatever N and W are.

@@ -14,6 +14,9 @@ use std::alloc::{AllocError, Global};
 /// The greatest number that a document may have, and one more.
 const MAX_DOCUMENTS: i64 = 1 << 28;
 
+/// The greatest number of bytes of a block: as many as a collection may have.
+const MAX_BYTES: i64 = 1 << 28;
+
 /// How many workers a build may have.
 const MAX_WORKERS: i64 = 64;
 
@@ -47,7 +50,8 @@ fn ask<'a>(alloc: Global) -> Result<Command<'a>, AllocError>
     let plain = Command::new(alloc, "ask");
     let with_stop = plain.arg(option(alloc, "stop"))?;
     let with_block = with_stop.arg(number(alloc, "block", 1, MAX_DOCUMENTS))?;
-    let with_workers = with_block.arg(number(alloc, "workers", 1, MAX_WORKERS))?;
+    let with_bytes = with_block.arg(number(alloc, "bytes", 1, MAX_BYTES))?;
+    let with_workers = with_bytes.arg(number(alloc, "workers", 1, MAX_WORKERS))?;
     let with_collection = with_workers.arg(operand(alloc, "COLLECTION"))?;
     let with_query = with_collection.arg(operand(alloc, "QUERY"))?;
     Ok(with_query)
@@ -59,7 +63,8 @@ fn build<'a>(alloc: Global) -> Result<Command<'a>, AllocError>
     let plain = Command::new(alloc, "build");
     let with_stop = plain.arg(option(alloc, "stop"))?;
     let with_block = with_stop.arg(number(alloc, "block", 1, MAX_DOCUMENTS))?;
-    let with_workers = with_block.arg(number(alloc, "workers", 1, MAX_WORKERS))?;
+    let with_bytes = with_block.arg(number(alloc, "bytes", 1, MAX_BYTES))?;
+    let with_workers = with_bytes.arg(number(alloc, "workers", 1, MAX_WORKERS))?;
     let with_collection = with_workers.arg(operand(alloc, "COLLECTION"))?;
     let with_index = with_collection.arg(operand(alloc, "INDEX"))?;
     Ok(with_index)

@@ -16,6 +16,9 @@ pub enum LineError {
     /// Memory ran out.
     #[error("Memory")]
     Memory,
+    /// `--block` stands beside `--bytes`.
+    #[error("Both")]
+    Both,
 }
 
 impl LineError {
@@ -26,6 +29,7 @@ impl LineError {
         match self {
             LineError::Clap(_) => 1,
             LineError::Memory => 2,
+            LineError::Both => 3,
         }
     }
 

@@ -35,6 +35,16 @@ fn a_line_of_each_command(rt: HostRuntime) -> Result<(), Fail> {
         assert!(rt; stop == None);
         assert!(rt; plan.cut() == Cut::Docs(block) && plan.workers() == workers);
     }
+    for words in [
+        ["ask", "--bytes=7", "c.txt", "red"].as_slice(),
+        ["build", "c.txt", "c.ix", "--bytes", "7"].as_slice(),
+    ] {
+        let (Line::Ask { plan, .. } | Line::Build { plan, .. }) = read_line(rt.alloc(), words)?
+        else {
+            return Err(Fail::from("it is another line"));
+        };
+        assert!(rt; plan.cut() == Cut::Bytes(7) && plan.workers() == 4);
+    }
     let Line::Search { index, query } = read_line(rt.alloc(), &["search", "c.ix", "red"])? else {
         return Err(Fail::from("it is another line"));
     };
@@ -96,6 +106,22 @@ fn words_that_are_refused(rt: HostRuntime) -> Result<(), Fail> {
         assert_eq!(rt; shown.as_str(), wanted.as_str());
     }
     assert_eq!(rt; LineError::Memory.number(), 2);
+    Ok(())
+}
+
+#[test]
+fn blocks_of_documents_and_of_bytes(rt: HostRuntime) -> Result<(), Fail> {
+    for words in [
+        ["ask", "--block", "7", "--bytes", "7", "c.txt", "red"].as_slice(),
+        ["build", "--bytes=7", "c.txt", "c.ix", "--block=1024"].as_slice(),
+    ] {
+        let Err(error) = read_line(rt.alloc(), words) else {
+            return Err(Fail::from("it was read"));
+        };
+        assert!(rt; error.number() == 3 && error.help().is_none());
+        let shown = format!(in rt.alloc(); "{error}")?;
+        assert_eq!(rt; shown.as_str(), "Both");
+    }
     Ok(())
 }
 

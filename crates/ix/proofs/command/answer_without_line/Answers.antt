@@ -1,5 +1,5 @@
 -- An error that asks for no help is a mistake.
-use Rattle.std.proofs.Common.{rules, ◌≡◌, List, Bool, true, false, sym, subst}
+use Rattle.std.proofs.Common.{rules, inl, inr, ◌≡◌, List, Bool, true, false, sym, subst}
 use Rattle.std.specs.Prelude.{◌↔◌}
 use Rattle.clap.specs.Walk.{Text}
 use Rattle.clap.specs.Words.{kind_of}
@@ -14,7 +14,7 @@ use Rattle.ix.proofs.command.answer_without_line.Goals as goal
 mistaken : (words : List Text) (error : LineError) (e : Error) (helps : Bool) → error ≡ Clap e → Refuses words error → (helps ≡ true) ↔ IsHelp error → helps ≡ false → AreMistaken words
 mistaken words error e helps is refuses asked none =
     let refused : Refuses words (Clap e) = subst (Refuses words) is refuses in
-    (kind_of e, refused, λ help. let wrong = asked.1 (subst IsHelp (sym is) help) in absurd (cc))
+    inl (kind_of e, refused, λ help. let wrong = asked.1 (subst IsHelp (sym is) help) in absurd (cc))
 
 pub returns-in-Clap-clause-refused : goal.returns-in-Clap-clause-refused
 returns-in-Clap-clause-refused g c =

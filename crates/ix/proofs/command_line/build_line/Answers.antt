@@ -1,35 +1,21 @@
 -- Both operands of `build` are required, and its numbers are in their ranges.
-use Rattle.std.proofs.Common.{codes, arith, lit<, refl}
+use Rattle.std.proofs.Common.{codes, lit<, refl}
 use Rattle.ix.specs.Commands.{ix_app, ix_built}
-use Rattle.ix.proofs.Numbers.{number_given, number_or_in_range}
+use Rattle.ix.proofs.Numbers.{number_in_given}
 use Rattle.ix.proofs.Rows.{operand_given}
 use Rattle.ix.proofs.command_line.build_line.Goals as goal
 
-pub number_or-block-requires : goal.number_or-block-requires
+pub read_plan-requires-clause-block : goal.read_plan-requires-clause-block
 unfolding ix_app
-number_or-block-requires c = number_given ix_built (codes "build") (codes "block") _ 1 268435456 (lit< tt) refl c.requires
+read_plan-requires-clause-block c = number_in_given ix_built (codes "build") (codes "block") _ 1 268435456 (lit< tt) refl c.requires
 
-pub number_or-workers-requires : goal.number_or-workers-requires
+pub read_plan-requires-clause-bytes : goal.read_plan-requires-clause-bytes
 unfolding ix_app
-number_or-workers-requires c = number_given ix_built (codes "build") (codes "workers") _ 1 64 (lit< tt) refl c.requires
+read_plan-requires-clause-bytes c = number_in_given ix_built (codes "build") (codes "bytes") _ 1 268435456 (lit< tt) refl c.requires
 
-pub plan_of-plan-requires-clause-some : goal.plan_of-plan-requires-clause-some
+pub read_plan-requires-clause-workers : goal.read_plan-requires-clause-workers
 unfolding ix_app
-plan_of-plan-requires-clause-some c =
-    let range = number_or_in_range ix_built (codes "build") (codes "block") _ 1 268435456 1024 _ (lit< tt) (omega arith) (omega arith) refl c.requires c.number_or-block.ensures in
-    omega (arith, range.0)
-
-pub plan_of-plan-requires-clause-some_workers : goal.plan_of-plan-requires-clause-some_workers
-unfolding ix_app
-plan_of-plan-requires-clause-some_workers c =
-    let range = number_or_in_range ix_built (codes "build") (codes "workers") _ 1 64 4 _ (lit< tt) (omega arith) (omega arith) refl c.requires c.number_or-workers.ensures in
-    omega (arith, range.0)
-
-pub plan_of-plan-requires-clause-few_workers : goal.plan_of-plan-requires-clause-few_workers
-unfolding ix_app
-plan_of-plan-requires-clause-few_workers c =
-    let range = number_or_in_range ix_built (codes "build") (codes "workers") _ 1 64 4 _ (lit< tt) (omega arith) (omega arith) refl c.requires c.number_or-workers.ensures in
-    range.1
+read_plan-requires-clause-workers c = number_in_given ix_built (codes "build") (codes "workers") _ 1 64 (lit< tt) refl c.requires
 
 pub operand-collection-requires : goal.operand-collection-requires
 unfolding ix_app

@@ -47,6 +47,10 @@ fn plans_build_one_index(rt: HostRuntime) -> Result<(), Fail> {
         ["build", "--block=2", "--workers=1", "five", "new"].as_slice(),
         ["build", "--block=2", "--workers=3", "five", "new"].as_slice(),
         ["build", "five", "new", "--block", "1024"].as_slice(),
+        ["build", "--bytes", "1", "--workers", "3", "five", "new"].as_slice(),
+        ["build", "--bytes", "3", "five", "new"].as_slice(),
+        ["build", "--bytes=4", "--workers=1", "five", "new"].as_slice(),
+        ["build", "five", "new", "--bytes=268435456"].as_slice(),
         [
             "build",
             "--block",
@@ -137,6 +141,18 @@ fn builds_that_are_refused(rt: HostRuntime) -> Result<(), Fail> {
         ),
         (
             ["build", "--block", "268435457", "five", "new"].as_slice(),
+            "ix: arguments refused\n",
+        ),
+        (
+            ["build", "--bytes", "0", "five", "new"].as_slice(),
+            "ix: arguments refused\n",
+        ),
+        (
+            ["build", "--bytes", "268435457", "five", "new"].as_slice(),
+            "ix: arguments refused\n",
+        ),
+        (
+            ["build", "--block=2", "--bytes=4", "five", "new"].as_slice(),
             "ix: arguments refused\n",
         ),
         (
