@@ -1,6 +1,6 @@
 -- What is found in one segment more.
 use Rattle.std.proofs.Common.{◌≡◌, ℕ, ◌+◌, ◌-◌, ◌<◌, ◌≤◌, ◌⊎◌, inl, inr, List, [], ◌∷◌, ◌++◌, Some, None, map, length, refl, sym, ap, ap₂, ◌∙◌, subst, arith, append_assoc, length-append, take, get_or}
-use Rattle.std.specs.Prelude.{◌↔◌, Contains, Option, slice_get}
+use Rattle.std.specs.Prelude.{Contains, Option}
 use Rattle.std.proofs.lemmas.Bool.{cases_lt}
 use Rattle.std.proofs.lemmas.List.{append-nil, length-map, map-append, take_more}
 use Rattle.std.proofs.lemmas.List.Concat.{flat_map-append}

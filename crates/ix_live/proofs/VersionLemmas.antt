@@ -1,6 +1,6 @@
 -- What versions keep, and what is found and named by it.
-use Rattle.std.proofs.Common.{◌≡◌, ℕ, ◌+◌, ◌≤◌, List, [], ◌∷◌, ◌++◌, Some, map, length, refl, sym, ap, ◌∙◌, subst, arith}
-use Rattle.std.specs.Prelude.{◌↔◌, Contains, Option}
+use Rattle.std.proofs.Common.{◌≡◌, ℕ, List, [], Some, map, length, refl, sym, ap, ◌∙◌, subst, arith}
+use Rattle.std.specs.Prelude.{Option}
 use Rattle.std.proofs.lemmas.List.{length-map}
 use Rattle.ix_text.specs.Collections.{Document}
 use Rattle.ix_text.specs.Parts.{DocumentRow, row_of}
@@ -12,7 +12,7 @@ use Rattle.ix_live.specs.Findings.{AreFound, with_removed}
 use Rattle.ix_live.specs.NameErrors.{RefusesNames}
 use Rattle.ix_live.specs.Names.{AreNamesOf, name_in_rows}
 use Rattle.ix_live.specs.Operations.{Operation, documents_added, state_after}
-use Rattle.ix_live.specs.Segments.{joined, rows_in}
+use Rattle.ix_live.specs.Segments.{rows_in}
 use Rattle.ix_live.specs.StateScans.{IsStateScan}
 use Rattle.ix_live.specs.Versions.{IsStored}
 use Rattle.ix_live.proofs.FoundLemmas.{rows_of_all}

@@ -1,5 +1,5 @@
 -- The errors of giving names: their numbers, their names, as they are printed, and for what each one stands.
-use Rattle.std.specs.Prelude.{◌≡◌, ℕ, ◌≤◌, List, ◌++◌, length, Some, slice_get, codes, decimal}
+use Rattle.std.specs.Prelude.{◌≡◌, ℕ, ◌≤◌, List, ◌++◌, Some, slice_get, codes, decimal}
 use Rattle.ix_live.specs.declared.name_error.NameError.{NameError}
 use Rattle.ix_live.specs.declared.name_error.NameError.TheVariants.{Number, Memory}
 

@@ -1,5 +1,5 @@
 -- Tables of segments, and how a new one is merged with the last ones.
-use Rattle.std.specs.Prelude.{◌≡◌, ℕ, ◌≤◌, List, ◌++◌, drop, Option, Some}
+use Rattle.std.specs.Prelude.{ℕ, List, ◌++◌, drop, Option}
 use Rattle.ix_text.specs.Collections.{Document}
 use Rattle.ix_file.specs.Opened.{IsIndexOf, Opened}
 use Rattle.ix_file.specs.Sections.{FrontCoded}

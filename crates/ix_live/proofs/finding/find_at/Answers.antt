@@ -1,4 +1,4 @@
-use Rattle.std.proofs.Common.{List, ℕ, Some, sym, subst}
+use Rattle.std.proofs.Common.{Some, sym, subst}
 use Rattle.std.specs.Prelude.{Option}
 use Rattle.ix_file.specs.Opened.{IsIndexOf, Opened}
 use Rattle.ix_file.specs.Sections.{FrontCoded}

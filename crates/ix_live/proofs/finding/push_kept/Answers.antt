@@ -1,4 +1,4 @@
-use Rattle.std.proofs.Common.{ap, sym, ◌∙◌}
+use Rattle.std.proofs.Common.{ap, ◌∙◌}
 use Rattle.ix_live.proofs.Members.{kept_left_out, kept_pushed}
 use Rattle.ix_live.proofs.finding.push_kept.Goals.{then-not-is_among+in_ok-push, else-not-is_among}
 use Rattle.ix_live.proofs.finding.push_kept.Goals as goal

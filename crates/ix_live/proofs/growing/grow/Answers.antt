@@ -1,9 +1,8 @@
-use Rattle.std.proofs.Common.{◌≡◌, ◌∙◌, List, ap, arith, length, subst}
-use Rattle.ix_text.specs.Collections.{Collection}
+use Rattle.std.proofs.Common.{arith, length, subst}
 use Rattle.ix_file.specs.Opened.{IsIndexOf}
 use Rattle.ix_file.specs.Sections.{FrontCoded}
 use Rattle.ix_live.specs.Growing.{documents_under}
-use Rattle.ix_live.specs.Segments.{of_documents, rows_in}
+use Rattle.ix_live.specs.Segments.{rows_in}
 use Rattle.ix_live.proofs.StoredLemmas.{documents_counted, of_its_documents, refused_by_building}
 use Rattle.ix_live.proofs.TableLemmas.{rows_counted}
 use Rattle.ix_live.proofs.growing.grow.Goals as goal

@@ -1,4 +1,4 @@
-use Rattle.std.proofs.Common.{◌≡◌, ◌+◌, ◌-◌, ◌<◌, Some, ap, arith, length, refl, sym, ◌∙◌, ◌^◌}
+use Rattle.std.proofs.Common.{◌-◌, ◌<◌, Some, ap, arith, length, refl, sym, ◌∙◌, ◌^◌}
 use Rattle.std.specs.Prelude.{Option}
 use Rattle.std.proofs.lemmas.List.{length-map}
 use Rattle.std.proofs.lemmas.Option.{slice_get_read}
