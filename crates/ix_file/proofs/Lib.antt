@@ -25,6 +25,7 @@ pub mod GramTexts
 pub mod GramWindows
 pub mod HeldLemmas
 pub mod IndexTold
+pub mod ListEntering
 pub mod ListReading
 pub mod ListingReading
 pub mod ListingsTold

@@ -83,7 +83,7 @@ in_range_small rows number position few range =
     subst (λ (row : DocumentRow). row.tokens ≤ sum_by (λ (r : DocumentRow). r.tokens) rows) there (get_or-le-sum_by (λ (row : DocumentRow). row.tokens) rows number range.row within) in
     (omega (arith, few.documents), omega (arith, few.tokens, range.below))
 
-posting_small : (rows : List DocumentRow) (posting : Posting) → AreFew rows → IsPostingIn rows posting → LiesBelow (2 ^ 32 - 1) posting
+pub posting_small : (rows : List DocumentRow) (posting : Posting) → AreFew rows → IsPostingIn rows posting → LiesBelow (2 ^ 32 - 1) posting
 posting_small rows posting few is =
     let (first, here) = contains_first posting.1 is.is.0 in
     (omega (arith, (small first here).0), λ k d within. omega (arith, (small (get_or posting.1 k d) (Contains-get_or posting.1 k d within)).1))

@@ -1,7 +1,7 @@
 -- What stands at a place of a table, and what it tells.
-use Rattle.std.proofs.Common.{◌≡◌, ℕ, ◌-◌, ◌^◌, ◌<◌, ◌≤◌, List, [], ◌∷◌, map, length, get_or, Some, Result, Ok, Err, is_ok, true, Equal, All, Contains, MatchOption, refl, sym, ap, ◌∙◌, subst, arith, string_bytes}
+use Rattle.std.proofs.Common.{◌≡◌, ℕ, ◌-◌, ◌^◌, ◌<◌, ◌≤◌, ◌⊎◌, ⊎_elim, List, [], ◌∷◌, map, length, get_or, Some, Result, Ok, Err, is_ok, true, Equal, All, Contains, MatchOption, refl, sym, ap, ◌∙◌, subst, arith, string_bytes}
 use Rattle.std.proofs.lemmas.List.{length-map}
-use Rattle.std.proofs.lemmas.List.Elements.{All-get_or, Contains-get_or}
+use Rattle.std.proofs.lemmas.List.Elements.{All-contains, All-get_or, Contains-get_or}
 use Rattle.std.proofs.lemmas.Option.{slice_get-get_or, slice_get-map, slice_get_read, slice_get_within}
 use Rattle.std.specs.Cmp.Lexicographic.{slice_cmp}
 use Rattle.std.specs.List.{HoldsAt, slice_get}
@@ -17,10 +17,16 @@ use Rattle.ix_text.specs.PartsLaws.{AreLawful}
 use Rattle.ix_text.proofs.CollectionTold.{has_collection}
 use Rattle.ix_vbyte.specs.Postings.{Posting, ArePostings, list_bytes}
 use Rattle.ix_vbyte.specs.Walking.{IsCodedList, postings_told}
+use Rattle.ix_vbyte.specs.Skips.{AreSkips}
+use Rattle.ix_vbyte.specs.declared.skips.Skip.{Skip}
+use Rattle.ix_vbyte.proofs.Places.{no_skips}
 use Rattle.ix_vbyte.proofs.Walks.{coded_list}
 use Rattle.ix_file.specs.Opened.{lists_of}
-use Rattle.ix_file.specs.Tables.{entries_in, term_in}
+use Rattle.ix_file.specs.LongLists.{IsLongIn}
+use Rattle.ix_file.specs.ReadLists.{list_in}
+use Rattle.ix_file.specs.Tables.{entries_in, entry_in, term_in}
 use Rattle.ix_file.specs.declared.open.dictionary.TermRow.{TermRow}
+use Rattle.ix_file.specs.declared.tables.LongList.{LongList}
 use Rattle.ix_file.proofs.SectionSizes.{few_entries, small_parts}
 
 -- what a row that was read from a table stands for
@@ -94,3 +100,19 @@ number_at parts n term terms are same at =
     let numbered : slice_get (terms_of parts.entries) n ≡ Some term = ap (λ ts. slice_get ts n) same ∙ at in
     let below : n < length parts.entries = omega (arith, slice_get_within (terms_of parts.entries) n term numbered, length-map parts.entries (λ (e : DictionaryEntry). e.term)) in
     record { numbered = numbered; below = below; small = omega (arith, below, few_terms parts are) }
+
+-- ---- the places of a list
+pub row_at : (section : List ℕ) (terms : List TermRow) (n : ℕ) (row : TermRow) → n < length (entries_in section terms) → row ≡ get_or terms n row → slice_get terms n ≡ Some row
+row_at section terms n row below read = slice_get_read terms (length terms) n row refl (omega (arith, below, length-map terms (entry_in section))) read
+
+pub with_places : (section : List ℕ) (terms : List TermRow) (longs : List LongList) (n : ℕ) (row : TermRow) (postings : List Posting) (skips : List Skip) → All (IsLongIn section terms) longs → slice_get terms n ≡ Some row
+    → IsCodedList row.documents (list_in section row) → ((are : List Posting) → ArePostings 0 (2 ^ 32 - 1) are → length are ≡ row.documents → list_in section row ≡ list_bytes are → postings ≡ are)
+    → (skips ≡ []) ⊎ ((long : LongList) × Contains longs long × (long.number ≡ n) × (skips ≡ long.skips.items)) → AreSkips postings skips
+with_places section terms longs n row postings skips all there list gives found =
+    let same : postings ≡ list.postings = gives list.postings list.are list.counted list.coded in
+    subst (λ ps. AreSkips ps skips) (sym same)
+    (⊎_elim (λ none. subst (AreSkips list.postings) (sym none) (no_skips list.postings))
+    (λ one.
+    subst (AreSkips list.postings) (sym one.3)
+    (All-contains (IsLongIn section terms) longs one.0 all one.1 row (subst (λ m. slice_get terms m ≡ Some row) (sym one.2) there) list.postings list.are list.counted list.coded))
+    found)

@@ -12,6 +12,7 @@ use Rattle.ix_text.proofs.TokensApart.{lawful_if_distinct}
 use Rattle.ix_file.specs.Frames.{SectionTexts}
 use Rattle.ix_file.specs.Grams.{AreGramsOfTerms}
 use Rattle.ix_file.specs.Listings.{AreLaidOut, AreListings, Listing, listing_in, listing_of, listings_in, listings_section, sizes_sum}
+use Rattle.ix_file.specs.LongLists.{IsLongIn}
 use Rattle.ix_file.specs.OpenedGrams.{IsGramRow, grams_in}
 use Rattle.ix_file.specs.OpenedRows.{AreRows, IsNameRow, row_in, rows_in}
 use Rattle.ix_file.specs.ReadLists.{AreListsIn}
@@ -40,6 +41,7 @@ pub record AreRead (version : Version) (texts : SectionTexts) (tables : Tables) 
   pub laid_out : AreLaidOut tables.terms.items
   pub lists : List (List Posting)
   pub listed : AreListsIn (rows_in texts.documents tables.rows.items) texts.postings tables.terms.items lists
+  pub longs : All (IsLongIn texts.postings tables.terms.items) tables.longs.items
   pub of_terms : AreGramsOfTerms (map term_in tables.terms.items) (grams_in texts.grams tables.grams.items)
   pub grams : texts.grams ≡ grams_section (grams_in texts.grams tables.grams.items)
   pub gaps : All (IsGramRow texts.grams) tables.grams.items
@@ -115,6 +117,7 @@ module _ (version : Version) (texts : SectionTexts) (tables : Tables) (document_
     grams = subst (λ (terms : List (List ℕ)). AreGramsOfTerms terms (grams_in texts.grams tables.grams.items)) (sym (terms_in texts.postings tables.terms.items)) read.of_terms;
     names = read.names;
     lists = λ k d below. list_row rows texts.postings (get_or tables.terms.items k d) few (each k d below) (within k d below);
+    longs = read.longs;
     gaps = read.gaps;
   }
 

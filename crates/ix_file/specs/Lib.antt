@@ -10,6 +10,7 @@ pub mod HeldGrams
 pub mod IndexText
 pub mod Laws
 pub mod Listings
+pub mod LongLists
 pub mod OpenErrors
 pub mod Opened
 pub mod OpenedGrams

@@ -5,6 +5,7 @@ use Rattle.ix_text.specs.PartsLaws.{AreLawful}
 use Rattle.ix_vbyte.specs.Walking.{IsCodedList, postings_told}
 use Rattle.ix_file.specs.Frames.{SectionTexts, version_in}
 use Rattle.ix_file.specs.Grams.{AreGramsOfTerms}
+use Rattle.ix_file.specs.LongLists.{IsLongIn}
 use Rattle.ix_file.specs.Opened.{Opened}
 use Rattle.ix_file.specs.OpenedGrams.{IsGramRow, grams_in}
 use Rattle.ix_file.specs.OpenedRows.{IsNameRow, rows_in}
@@ -46,6 +47,7 @@ pub record AreTablesOf (texts : SectionTexts) (tables : Tables) : Type 0 where
   pub grams : AreGramsOfTerms (terms_of (entries_in texts.postings tables.terms.items)) (grams_in texts.grams tables.grams.items)
   pub names : All (IsNameRow texts.documents) tables.rows.items
   pub lists : All (IsListRow texts.postings) tables.terms.items
+  pub longs : All (IsLongIn texts.postings tables.terms.items) tables.longs.items
   pub gaps : All (IsGramRow texts.grams) tables.grams.items
 
 -- the tables that are held or lent

@@ -8,8 +8,9 @@ use crate::numbers::Numbers;
 use crate::open::dictionary::TermRow;
 use crate::open::frame::{SectionBytes, Version, cut};
 use crate::open::grams::find_gram;
+use crate::open::lists::list_of;
 use crate::open::read_tables;
-use crate::tables::Held;
+use crate::tables::{Held, skips_of};
 use ix_text::StopList;
 use ix_vbyte::cursor::Postings;
 use std::alloc::Global;
@@ -156,14 +157,25 @@ impl<'a> Index<'a> {
         Postings::new(&self.sections.postings[row.start..end], row.documents)
     }
 
-    /// The postings of a term, or none where no document has the term.
-    pub fn find(&self, term: &str) -> Option<Postings<'a>>
+    /// The same list, which may be entered anywhere: `seek` does not walk a long list, but goes on near what is sought.
+    fn list_by_places(&self, number: u32) -> Postings<'_>
+        requires { number < length self.now.parts.entries }
+        ensures { slice_get (lists_of self.now.parts.entries) number ≡ Some result }
+    {
+        let tables = self.tables.tables();
+        let row = &tables.terms[number as usize];
+        let postings = Postings::new(list_of(self.sections.postings, row), row.documents);
+        postings.with_skips(skips_of(tables.longs.as_slice(), number as usize))
+    }
+
+    /// The postings of a term, or none where no document has the term. To `seek` in them costs little.
+    pub fn find(&self, term: &str) -> Option<Postings<'_>>
         ensures { MatchOption result (¬ (Contains (terms_of self.now.parts.entries) term.now))
             (λ postings. Contains self.now.parts.entries
             (record { term = term.now; postings = postings })) }
     {
         let number = place_of(self.tables.tables().terms.as_slice(), term)?;
-        Some(self.list(number as u32))
+        Some(self.list_by_places(number as u32))
     }
 
     /// The numbers of the terms that have a gram, or none where no term has it.

@@ -69,13 +69,14 @@ pub(crate) fn read_tables(alloc: Global, frame: &Frame<'_>) -> Result<Tables, Op
     )?;
     let tokens = table_of(alloc, &rows)?;
     let claims = Claims::new(alloc, token_total(&rows), postings)?;
-    check_lists(sections.postings, &terms, &tokens, claims)?;
+    let longs = check_lists(alloc, sections.postings, &terms, &tokens, claims)?;
     let grams = read_grams(alloc, sections.grams, &terms)?;
     Ok(Tables {
         version: frame.version,
         stop,
         rows,
         terms,
+        longs,
         grams,
     })
 }

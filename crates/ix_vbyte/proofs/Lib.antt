@@ -6,6 +6,7 @@ pub mod Gaps
 pub mod Marks
 pub mod OnePosition
 pub mod Pieces
+pub mod Places
 pub mod Postings
 pub mod Shifting
 pub mod ShortPostings

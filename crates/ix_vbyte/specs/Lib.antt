@@ -8,5 +8,6 @@ pub mod OnePosition
 pub mod Postings
 pub mod ShortPostings
 pub mod Reading
+pub mod Skips
 pub mod Texts
 pub mod Walking

@@ -4,6 +4,7 @@ ghost use Rattle.std.specs.Prelude.{◌+◌, ◌<◌, ◌≤◌, ◌++◌, OnErr
 ghost use Rattle.std.specs.Iterator.{YieldsFirstBy, item_count};
 ghost use Rattle.ix_vbyte.specs.OnePosition.{ReadsSingle};
 ghost use Rattle.ix_vbyte.specs.Postings.{ArePostings, list_bytes, list_bytes_from, shifted};
+ghost use Rattle.ix_vbyte.specs.Skips.{AreSkips};
 ghost use Rattle.ix_vbyte.specs.Walking.{IsCodedList, BeginsWithPosting, ReadsPosting, from_document};
 
 use crate::appending::push_code_and;
@@ -11,6 +12,8 @@ use crate::decoding::first_number;
 pub use crate::positions::Positions;
 use crate::singles::{Single, WORD, single_posting};
 use crate::skip_codes;
+pub use crate::skips::Skip;
+use crate::skips::pass_skips;
 use std::alloc::AllocError;
 use std::marker::Model;
 
@@ -102,17 +105,22 @@ pub struct Postings<'a> {
     next: u32,
     // how many postings are left
     count: u32,
+    // places at which the walk may go on, some of them perhaps passed
+    skips: &'a [Skip],
 }
 
 impl<'a> Model for Postings<'a> {
     ghost use Rattle.std.specs.Prelude.{List, ℕ};
+    ghost use Rattle.ix_vbyte.specs.Skips.{AreSkips};
     ghost use Rattle.ix_vbyte.specs.Walking.{ArePostingsFrom, postings_told};
 
     ghost Value = { List (ℕ × List ℕ) };
 
     ghost view = { λ postings. postings_told postings.count postings.next postings.bytes.now };
 
-    ghost invariant = { λ postings. ArePostingsFrom postings.next postings.count postings.bytes.now };
+    ghost invariant = { λ postings. ArePostingsFrom postings.next postings.count postings.bytes.now
+        × AreSkips (postings_told postings.count postings.next postings.bytes.now)
+        postings.skips.now };
 }
 
 impl<'a> Postings<'a> {
@@ -127,7 +135,19 @@ impl<'a> Postings<'a> {
             bytes,
             next: 0,
             count,
+            skips: &[],
         }
+    }
+
+    /// The same postings, where `seek` may go on at these places.
+    #[inline]
+    pub fn with_skips(self, skips: &'a [Skip]) -> Postings<'a>
+        requires { AreSkips self skips.now }
+        ensures { result ≡ self.entry }
+    {
+        let mut postings = self;
+        postings.skips = skips;
+        postings
     }
 
     /// The postings that are left once more, walked apart from these.
@@ -139,6 +159,7 @@ impl<'a> Postings<'a> {
             bytes: self.bytes,
             next: self.next,
             count: self.count,
+            skips: self.skips,
         }
     }
 
@@ -159,12 +180,33 @@ impl<'a> Postings<'a> {
             from_document document self.old ≡ (posting.document, posting.positions) ∷ self.new) }
         ensures none { IfNone result ((from_document document self.old ≡ []) × (self.new ≡ [])) }
     {
+        if let Some(skip) = self.skips.first()
+            && skip.next <= document
+        {
+            self.skip(document);
+        }
         while let Some(posting) = self.next() {
             if posting.document >= document {
                 return Some(posting);
             }
         }
         None
+    }
+
+    /// Goes on at the last place before which no document stands that is as high as the one named, if it lies ahead.
+    #[inline(never)]
+    fn skip(&mut self, document: u32)
+        ensures { from_document document self.new ≡ from_document document self.old }
+    {
+        let (last, ahead) = pass_skips(self.skips, document);
+        self.skips = ahead;
+        if let Some(skip) = last
+            && skip.left < self.count
+        {
+            self.bytes = &self.bytes[self.bytes.len() - skip.size..];
+            self.next = skip.next;
+            self.count = skip.left;
+        }
     }
 
     /// Appends the bytes of the postings that are left, each document's number raised by `first`, where `next` is one

@@ -14,6 +14,7 @@ mod positions;
 mod short_postings;
 mod singles;
 mod skipping;
+mod skips;
 #[cfg(test)]
 mod tests;
 #[cfg(test)]

@@ -1,33 +1,46 @@
 //! The lists of an index text.
-ghost use Rattle.std.specs.Prelude.{◌≡◌, ◌≢◌, ◌⊎◌, ℕ, ◌+◌, ◌-◌, ◌*◌, ◌^◌, ◌<◌, ◌≤◌, ◌++◌, [], List, map, length, All, IfOk, IfErr, IfSome, OnErr};
+ghost use Rattle.std.specs.Prelude.{◌≡◌, ◌≢◌, ◌⊎◌, ℕ, ◌+◌, ◌-◌, ◌*◌, ◌^◌, ◌<◌, ◌≤◌, ◌∷◌, ◌++◌, [], List, map, length, All, IfOk, IfErr, IfSome, OnErr, OnOk};
 ghost use Rattle.ix_vbyte.specs.Code.{code_of};
 ghost use Rattle.ix_vbyte.specs.Gaps.{Ascends, gaps_of};
 ghost use Rattle.ix_vbyte.specs.Postings.{codes_of, posting_bytes};
+ghost use Rattle.ix_vbyte.specs.Skips.{AreSkipsIn};
 ghost use Rattle.ix_text.specs.Parts.{DocumentRow, Posting};
 ghost use Rattle.ix_text.specs.TokenLaws.{IsPostingIn};
 ghost use Rattle.ix_text.specs.TokenNumbers.{numbers_of_posting, numbers_of_postings};
 ghost use Rattle.ix_text.specs.TokenTables.{HasTokens};
 ghost use Rattle.ix_file.specs.Claimed.{HasClaimed, HasRoom, HaveClaimed, mark_count};
 ghost use Rattle.ix_file.specs.Listings.{AreLaidOut, HasListedCounts, listings_in, sizes_sum};
+ghost use Rattle.ix_file.specs.LongLists.{IsLongIn};
 ghost use Rattle.ix_file.specs.ReadLists.{AreListedIn, AreListsIn, ArePositionsIn, IsNextPosting, MayClaim, list_in};
 ghost use Rattle.ix_file.specs.declared.open_error.OpenError.TheVariants.{Memory};
 
 use crate::open::claims::Claims;
 use crate::open::dictionary::TermRow;
+use crate::tables::LongList;
 use crate::{OpenError, Section};
 use ix_text::TokenTable;
+use ix_vbyte::cursor::Skip;
 use ix_vbyte::{VbError, decode, short_posting};
+use std::alloc::{AllocError, Global};
 
-/// Checks the list of each term, where it stands in POSTINGS, and that no token is claimed twice.
+/// How many bytes stand between two places at which a list may be entered, at least.
+const SPAN: usize = 64;
+
+/// How many bytes a list has, at least, of which such places are kept.
+const LONG: usize = 512;
+
+/// Checks the list of each term, where it stands in POSTINGS, and that no token is claimed twice. Answers where the long
+/// lists may be entered.
 ///
 /// The errors of a list, list by list; behind the last, `Doubled` where two terms, or one term twice, claim a token;
 /// or `Memory`.
 pub(crate) fn check_lists(
+    alloc: Global,
     section: &[u8],
     terms: &[TermRow],
     tokens: &TokenTable,
     claims: Claims,
-) -> Result<(), OpenError>
+) -> Result<Vec<LongList>, OpenError>
     requires laid_out { AreLaidOut terms.now }
     requires whole { sizes_sum (listings_in terms.now) ≡ length section.now }
     requires counts { All HasListedCounts (listings_in terms.now) }
@@ -36,17 +49,35 @@ pub(crate) fn check_lists(
     requires few { mark_count claims ≤ 8 * length section.now }
     ensures found { IfOk result (λ _. (rows : List DocumentRow) → HasTokens tokens.now rows →
         (lists : List (List Posting)) × AreListsIn rows section.now terms.now lists) }
+    ensures entered { IfOk result (λ longs.
+        All (IsLongIn section.now terms.now) longs.items) }
     ensures refused { IfErr result (λ error. (error ≡ Memory)
         ⊎ ((rows : List DocumentRow) (lists : List (List Posting)) → HasTokens tokens.now rows →
         ¬ (AreListsIn rows section.now terms.now lists))) }
 {
     let mut claims = claims;
-    for term in terms {
-        check_list(list_of(section, term), term.documents, tokens, &mut claims)?;
+    let mut longs = Vec::new(alloc);
+    for (number, term) in terms.iter().enumerate() {
+        let list = list_of(section, term);
+        let skips = check_list(alloc, list, term.documents, tokens, &mut claims)?;
+        keep_long(&mut longs, number, skips)?;
     }
     if claims.are_doubled() {
         return Err(OpenError::Doubled);
     }
+    Ok(longs)
+}
+
+/// Keeps the places of the list of a term, if there are any.
+#[inline]
+fn keep_long(longs: &mut Vec<LongList>, number: usize, skips: Vec<Skip>) -> Result<(), AllocError>
+    ensures { OnOk result ((longs.new.items ≡ longs.old.items) ⊎ (longs.new.items
+        ≡ longs.old.items ++ record { number = number; skips = skips } ∷ [])) }
+{
+    if skips.is_empty() {
+        return Ok(());
+    }
+    longs.push(LongList { number, skips })?;
     Ok(())
 }
 
@@ -59,31 +90,42 @@ pub(crate) fn list_of<'a>(section: &'a [u8], term: &TermRow) -> &'a [u8]
     &section[term.start..term.start + term.size as usize]
 }
 
-/// Checks the bytes of one list, which has this many documents, and claims its tokens.
+/// Checks the bytes of one list, which has this many documents, and claims its tokens. Answers where it may be entered:
+/// nowhere, if it is not long.
 ///
 /// For each document `Number` of its gap, `Zero` where it is 0, `DocRange` where there is no such document, `Number`
 /// of the number of its positions, `Zero` where it is 0; for each position `Number` of its gap, `Zero` where it is 0,
 /// `PositionRange` where the document has no such token; `ListLength` where the list ends before its last position,
 /// also within a number, or goes on behind it; or `Memory`.
 fn check_list(
+    alloc: Global,
     bytes: &[u8],
     documents: u32,
     tokens: &TokenTable,
     claims: &mut Claims,
-) -> Result<(), OpenError>
+) -> Result<Vec<Skip>, OpenError>
     requires some { 0 < documents }
     requires ready { MayClaim tokens.now claims.old }
     ensures found { IfOk result (λ _. (rows : List DocumentRow) → HasTokens tokens.now rows →
         (postings : List Posting) × AreListedIn rows documents bytes.now postings
         × HaveClaimed claims.old claims.new (numbers_of_postings rows postings)) }
+    ensures entered { IfOk result (λ skips. AreSkipsIn documents bytes.now skips.items) }
     ensures room { MayClaim tokens.now claims.new }
     ensures refused { IfErr result (λ error. (error ≡ Memory)
         ⊎ ((rows : List DocumentRow) (postings : List Posting) → HasTokens tokens.now rows →
         ¬ (AreListedIn rows documents bytes.now postings))) }
 {
+    let mut skips = Vec::new(alloc);
+    let mut end = first_end(bytes);
     let mut left = bytes;
     let mut next = 0;
-    for _document in 0..documents {
+    for document in 0..documents {
+        let place = Skip {
+            next,
+            left: documents - document,
+            size: left.len(),
+        };
+        end = keep_place(&mut skips, place, end)?;
         let (behind, rest) = check_posting(left, next, tokens, claims)?;
         next = behind;
         left = rest;
@@ -91,7 +133,30 @@ fn check_list(
     if !left.is_empty() {
         return Err(OpenError::ListLength);
     }
-    Ok(())
+    Ok(skips)
+}
+
+/// A place of a list is kept where fewer bytes than these are left: none of a list that is not long.
+#[inline]
+fn first_end(bytes: &[u8]) -> usize {
+    if bytes.len() < LONG {
+        0
+    } else {
+        bytes.len() - SPAN
+    }
+}
+
+/// Keeps a place of a list where fewer bytes are left from it on than `end`. Answers this bound for the next.
+#[inline(always)]
+fn keep_place(skips: &mut Vec<Skip>, place: Skip, end: usize) -> Result<usize, AllocError>
+    ensures { OnOk result ((skips.new.items ≡ skips.old.items)
+        ⊎ (skips.new.items ≡ skips.old.items ++ place ∷ [])) }
+{
+    if place.size >= end {
+        return Ok(end);
+    }
+    skips.push(place)?;
+    Ok(place.size.saturating_sub(SPAN))
 }
 
 /// Checks the posting that what is left of a list begins with, where `next` is one above the document before, and

@@ -98,7 +98,7 @@ fn word_numbers(alloc: Global, index: &Index<'_>, term: &Term) -> Result<Vec<u32
 
 /// The documents that a part of a query finds, as a stream: those of a term, a phrase or a NEAR without a list of them.
 #[cycle(find)]
-fn find<'a>(alloc: Global, index: &Index<'a>, query: &Tree) -> Result<Leaf<'a>, Memory>
+fn find<'a>(alloc: Global, index: &'a Index<'_>, query: &Tree) -> Result<Leaf<'a>, Memory>
     ensures { IfOk result (λ leaf. AreFound index.now.parts query.now (Have (HasNumber leaf))) }
 {
     match query {
@@ -159,7 +159,7 @@ fn find_others(alloc: Global, index: &Index<'_>, part: &Tree) -> Result<Vec<u32>
 }
 
 /// The documents that each present part finds and no absent one. Where there is no present part, they are among all.
-fn meet_of<'a>(index: &Index<'a>, present: Vec<Leaf<'a>>, absent: Vec<Leaf<'a>>) -> Meet<'a>
+fn meet_of<'a>(index: &'a Index<'_>, present: Vec<Leaf<'a>>, absent: Vec<Leaf<'a>>) -> Meet<'a>
     ensures { (n : ℕ) → HasMeet result.first result.others.items result.absent.items n
         ↔ (HaveAll HasNumber present.entry.items n
         × (present.entry.items ≡ [] → n < length index.now.parts.rows)
@@ -181,7 +181,7 @@ fn meet_of<'a>(index: &Index<'a>, present: Vec<Leaf<'a>>, absent: Vec<Leaf<'a>>)
 }
 
 /// The documents in which two terms are near.
-fn near_or_nothing<'a>(index: &Index<'a>, first: &Term, second: &Term, distance: u32) -> Leaf<'a>
+fn near_or_nothing<'a>(index: &'a Index<'_>, first: &Term, second: &Term, distance: u32) -> Leaf<'a>
     ensures { AreFound index.now.parts (asks.Near first.now second.now distance)
         (Have (HasNumber result)) }
 {

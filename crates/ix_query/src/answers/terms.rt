@@ -21,7 +21,7 @@ use ix_vbyte::cursor::Postings;
 use std::alloc::Global;
 
 /// The postings of a term, or none where no document has it.
-pub(crate) fn postings_of<'a>(index: &Index<'a>, term: &Term) -> Option<Postings<'a>>
+pub(crate) fn postings_of<'a>(index: &'a Index<'_>, term: &Term) -> Option<Postings<'a>>
     ensures { MatchOption result
         (IsNowhere index.now.parts term.now)
         (AreOfTerm index.now.parts term.now) }
@@ -43,7 +43,7 @@ pub(crate) fn nothing<'a>() -> Leaf<'a>
 }
 
 /// Every document of the index.
-pub(crate) fn every_document<'a>(index: &Index<'a>) -> Leaf<'a>
+pub(crate) fn every_document<'a>(index: &'a Index<'_>) -> Leaf<'a>
     ensures { AreEvery index.now.parts (Have (HasNumber result)) }
 {
     Leaf::Span(Span {
@@ -54,7 +54,7 @@ pub(crate) fn every_document<'a>(index: &Index<'a>) -> Leaf<'a>
 
 /// The documents in which two terms are near, or none where a term is in no document.
 pub(crate) fn find_near<'a>(
-    index: &Index<'a>,
+    index: &'a Index<'_>,
     first: &Term,
     second: &Term,
     distance: u32,
@@ -78,7 +78,7 @@ pub(crate) fn find_near<'a>(
 }
 
 /// The documents of a term.
-pub(crate) fn find_word<'a>(index: &Index<'a>, term: &Term) -> Leaf<'a>
+pub(crate) fn find_word<'a>(index: &'a Index<'_>, term: &Term) -> Leaf<'a>
     ensures { AreFound index.now.parts (asks.Phrase (Some term.now ∷ []))
         (Have (HasNumber result)) }
 {
@@ -111,7 +111,7 @@ pub(crate) struct Placed<'a> {
 /// The documents of a phrase. `Memory` where memory is refused for its parts.
 pub(crate) fn find_phrase<'a>(
     alloc: Global,
-    index: &Index<'a>,
+    index: &'a Index<'_>,
     parts: &[Option<Term>],
 ) -> Result<Leaf<'a>, Memory>
     ensures { IfOk result (λ leaf.
@@ -130,7 +130,7 @@ pub(crate) fn find_phrase<'a>(
 /// that no position is there.
 fn place_terms<'a>(
     alloc: Global,
-    index: &Index<'a>,
+    index: &'a Index<'_>,
     parts: &[Option<Term>],
 ) -> Result<Option<Placed<'a>>, Memory>
     ensures { IfOk result (λ found. MatchOption found
@@ -162,7 +162,7 @@ fn place_terms<'a>(
 /// The postings of a term of a phrase, its place, and room for where it lets the phrase start. None where no document
 /// has the term so far from its start.
 fn place_term<'a>(
-    index: &Index<'a>,
+    index: &'a Index<'_>,
     term: &Term,
     place: usize,
 ) -> Option<(Reader<'a>, u32, Start<'a>)>
@@ -184,7 +184,7 @@ fn place_term<'a>(
 }
 
 /// The documents in which the terms stand together: all documents where the phrase has no term.
-fn join_terms<'a>(index: &Index<'a>, placed: Placed<'a>) -> Leaf<'a>
+fn join_terms<'a>(index: &'a Index<'_>, placed: Placed<'a>) -> Leaf<'a>
     ensures { (entries : List (Option (List ℕ)))
         → ArePlaced index.now.parts entries (length entries)
         placed.entry.lists.items placed.entry.places.items

@@ -21,20 +21,20 @@ returns-in_err-terms-clause-refused c =
     no_listings version texts c.args.frame.now.documents c.args.frame.now.terms parts grams lawful of is c.in_ok-stop.stop c.in_ok-stop.ensures.terms.1 none))
     c.in_err-terms.ensures.refused)
 
-pub returns-in_err-check_lists-clause-refused : goal.returns-in_err-check_lists-clause-refused
-returns-in_err-check_lists-clause-refused c =
+pub returns-in_err-longs-clause-refused : goal.returns-in_err-longs-clause-refused
+returns-in_err-longs-clause-refused c =
     let version = version_in c.args.frame.now.version in
     let texts = texts_in c.args.frame.now.sections in
     let rows = rows_in texts.documents c.in_ok-rows.rows.items in
     let terms = c.in_ok-terms.terms.items in
     let has : HasTokens c.in_ok-tokens.tokens rows = rw (← c.deref.ensures.value) (c.in_ok-tokens.ensures texts.documents) in
-    let p = err_from_is_err_and c.from_residual-in_err-check_lists.result c.from_residual-in_err-check_lists.ensures.1 in
+    let p = err_from_is_err_and c.from_residual-in_err-longs.result c.from_residual-in_err-longs.ensures.1 in
     rw (p.1, p.2)
     (⊎_elim inl
     (λ none. inr (λ parts grams lawful of is.
     no_lists version texts c.args.frame.now.documents c.args.frame.now.terms parts grams lawful of is rows terms c.in_ok-rows.ensures.rows.1 c.in_ok-terms.ensures.terms.1 c.in_ok-terms.ensures.starts c.in_ok-terms.ensures.counts.1
     (λ lists are. none rows lists has (rw c.deref-3.ensures.value are))))
-    c.in_err-check_lists.ensures.refused)
+    c.in_err-longs.ensures.refused)
 
 pub returns-in_err-grams-clause-refused : goal.returns-in_err-grams-clause-refused
 returns-in_err-grams-clause-refused c =
@@ -55,11 +55,11 @@ pub returns : goal.returns
 returns c =
     let version = version_in c.args.frame.now.version in
     let texts = texts_in c.args.frame.now.sections in
-    let tables : Tables = record { version = c.args.frame.now.version; stop = c.in_ok-stop.stop; rows = c.in_ok-rows.rows; terms = c.in_ok-terms.terms; grams = c.in_ok-grams.grams } in
+    let tables : Tables = record { version = c.args.frame.now.version; stop = c.in_ok-stop.stop; rows = c.in_ok-rows.rows; terms = c.in_ok-terms.terms; longs = c.in_ok-longs.longs; grams = c.in_ok-grams.grams } in
     let rows = rows_in texts.documents c.in_ok-rows.rows.items in
     let terms = c.in_ok-terms.terms.items in
     let has : HasTokens c.in_ok-tokens.tokens rows = rw (← c.deref.ensures.value) (c.in_ok-tokens.ensures texts.documents) in
-    let found : (lists : List (List Posting)) × AreListsIn rows texts.postings terms lists = rw (← c.deref-3.ensures.value) (c.in_ok-check_lists.ensures.found rows has) in
+    let found : (lists : List (List Posting)) × AreListsIn rows texts.postings terms lists = rw (← c.deref-3.ensures.value) (c.in_ok-longs.ensures.found rows has) in
     let read : AreRead version texts tables c.args.frame.now.documents c.args.frame.now.terms = record {
       stop_set = c.in_ok-stop.ensures.terms.0;
       stop = c.in_ok-stop.ensures.terms.1;
@@ -75,6 +75,7 @@ returns c =
       laid_out = c.in_ok-terms.ensures.starts;
       lists = found.0;
       listed = found.1;
+      longs = rw (← c.deref-3.ensures.value) c.in_ok-longs.ensures.entered;
       of_terms = rw (← c.deref-4.ensures.value) c.in_ok-grams.ensures.grams.0;
       grams = c.in_ok-grams.ensures.grams.1;
       gaps = c.in_ok-grams.ensures.rows;

@@ -32,8 +32,8 @@ overflow_cast-number c =
     let number = number_at (parts_in texts tables) c.in_ok-number.number c.args.term.now (map term_in c.as_slice.result.now) lawful same c.in_ok-number.ensures in
     omega (arith, number.small)
 
-pub list-requires : goal.list-requires
-list-requires c =
+pub list_by_places-requires : goal.list_by_places-requires
+list_by_places-requires c =
     let texts = texts_in c.self.inside.sections in
     let tables = c.tables.result.now in
     let same : terms_of (entries_in texts.postings tables.terms.items) ≡ map term_in c.as_slice.result.now = terms_in texts.postings tables.terms.items ∙ ap (map term_in) (sym c.as_slice.ensures.value) in
@@ -48,4 +48,4 @@ returns c =
     let same : terms_of (entries_in texts.postings tables.terms.items) ≡ map term_in c.as_slice.result.now = terms_in texts.postings tables.terms.items ∙ ap (map term_in) (sym c.as_slice.ensures.value) in
     let lawful : AreLawful (parts_in texts tables) = rw c.tables.ensures c.self.invariant.lawful in
     let number = number_at (parts_in texts tables) c.in_ok-number.number c.args.term.now (map term_in c.as_slice.result.now) lawful same c.in_ok-number.ensures in
-    entry_at c.args.self.now.parts.entries c.in_ok-number.number c.args.term.now c.list.result (rw (← c.self.view_is, ← c.tables.ensures) number.numbered) c.list.ensures
+    entry_at c.args.self.now.parts.entries c.in_ok-number.number c.args.term.now c.list_by_places.result (rw (← c.self.view_is, ← c.tables.ensures) number.numbered) c.list_by_places.ensures

@@ -1,13 +1,15 @@
 use Rattle.std.proofs.Common.{List}
 use Rattle.ix_text.specs.Parts.{DocumentRow, Posting}
 use Rattle.ix_text.specs.TokenTables.{HasTokens}
+use Rattle.ix_vbyte.specs.Skips.{AreSkipsIn}
 use Rattle.ix_file.specs.ReadLists.{AreListedIn, MayClaim}
 use Rattle.ix_file.proofs.ListReading.{HasReadList, ListGoesOn}
 use Rattle.ix_file.proofs.open.lists.check_list.Given as goal
 
 abbrev pub invariant-loop-document : goal.invariant-loop-document
 invariant-loop-document l = record {
-  read : (rows : List DocumentRow) → HasTokens l.tokens rows → HasReadList rows l.next l._document l.bytes l.left l.initial.claims l.claims;
-  goes_on : (rows : List DocumentRow) (postings : List Posting) → HasTokens l.tokens rows → AreListedIn rows l.documents l.bytes postings → ListGoesOn rows l.next l._document l.documents l.left;
+  read : (rows : List DocumentRow) → HasTokens l.tokens rows → HasReadList rows l.next l.document l.bytes l.left l.initial.claims l.claims;
+  goes_on : (rows : List DocumentRow) (postings : List Posting) → HasTokens l.tokens rows → AreListedIn rows l.documents l.bytes postings → ListGoesOn rows l.next l.document l.documents l.left;
+  entered : AreSkipsIn l.documents l.bytes l.skips.items;
   ready : MayClaim l.tokens l.claims;
 }

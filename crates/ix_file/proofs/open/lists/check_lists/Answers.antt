@@ -1,56 +1,71 @@
-use Rattle.std.proofs.Common.{ℕ, List, inl, inr, sym, subst, ⊎_elim, arith}
+use Rattle.std.proofs.Common.{ℕ, List, inl, inr, refl, sym, subst, ⊎_elim, arith}
 use Rattle.std.proofs.lemmas.Result.{err_from_is_err_and}
+use Rattle.std.proofs.lemmas.List.Elements.{All-nil}
+use Rattle.ix_vbyte.specs.Skips.{AreSkipsIn}
+use Rattle.ix_file.specs.LongLists.{IsLongIn}
 use Rattle.ix_file.specs.ReadLists.{AreListedIn}
+use Rattle.ix_file.specs.declared.tables.LongList.{LongList}
 use Rattle.ix_file.proofs.AllLists.{counts_at, list_within, lists_are, lists_are_not, no_list, read_all_lists, read_no_list, read_one_list}
+use Rattle.ix_file.proofs.ListEntering.{long_in, long_kept}
 use Rattle.ix_file.proofs.open.lists.check_lists.Goals as goal
 
-pub loop-term-init : goal.loop-term-init
-loop-term-init c = record {
+pub loop-number-init : goal.loop-number-init
+loop-number-init c = record {
   read = λ rows has. read_no_list rows c.args.section.now c.args.claims;
+  entered = rw c.new-longs.ensures.items (All-nil (IsLongIn c.args.section.now c.args.terms.now));
   ready = c.requires.ready;
 }
 
-pub list_of-requires : goal.list_of-requires
-list_of-requires c = omega (arith, list_within c.args.terms.now c.loop-term.term-index c.term-item.result c.requires.laid_out c.loop-term-test.true c.term-item.is, c.requires.whole)
+pub list_of-list-requires : goal.list_of-list-requires
+list_of-list-requires c = omega (arith, list_within c.args.terms.now c.loop-number.number c.index-terms-number.result c.requires.laid_out c.loop-number-test.true c.index-terms-number.is, c.requires.whole)
 
 pub check_list-requires-clause-some : goal.check_list-requires-clause-some
-check_list-requires-clause-some c = (counts_at c.args.terms.now c.loop-term.term-index c.term-item.result c.requires.counts c.loop-term-test.true c.term-item.is).some
+check_list-requires-clause-some c = (counts_at c.args.terms.now c.loop-number.number c.index-terms-number.result c.requires.counts c.loop-number-test.true c.index-terms-number.is).some
 
 pub check_list-requires-clause-ready : goal.check_list-requires-clause-ready
-check_list-requires-clause-ready c = c.loop-term.invariant.ready
+check_list-requires-clause-ready c = c.loop-number.invariant.ready
 
-pub returns-in_err-check_list-clause-refused : goal.returns-in_err-check_list-clause-refused
-returns-in_err-check_list-clause-refused c =
+pub returns-in_err-skips-clause-refused : goal.returns-in_err-skips-clause-refused
+returns-in_err-skips-clause-refused c =
     let p = err_from_is_err_and c.from_residual.result c.from_residual.ensures.1 in
     rw (p.1, p.2)
     (⊎_elim inl
     (λ refused.
     inr
     (λ rows lists has are.
-    no_list rows c.args.section.now c.args.terms.now lists c.loop-term.term-index c.term-item.result c.loop-term-test.true c.term-item.is
-    (λ postings listed. refused rows postings has (subst (λ (bytes : List ℕ). AreListedIn rows c.term-item.result.documents bytes postings) (sym c.list_of.ensures) listed))
+    no_list rows c.args.section.now c.args.terms.now lists c.loop-number.number c.index-terms-number.result c.loop-number-test.true c.index-terms-number.is
+    (λ postings listed. refused rows postings has (subst (λ (bytes : List ℕ). AreListedIn rows c.index-terms-number.result.documents bytes postings) (sym c.list_of-list.ensures) listed))
     are))
-    c.in_err-check_list.ensures.refused)
+    c.in_err-skips.ensures.refused)
 
-pub loop-term-preserved : goal.loop-term-preserved
-loop-term-preserved c = record {
+pub loop-number-preserved : goal.loop-number-preserved
+loop-number-preserved c = record {
   read = λ rows has.
-      let found = c.in_ok-check_list.ensures.found rows has in
-      read_one_list rows c.args.section.now c.args.terms.now c.loop-term.term-index c.term-item.result found.0 c.args.claims c.loop-term.claims c.check_list.new.claims
-      (c.loop-term.invariant.read rows has) c.loop-term-test.true c.term-item.is
-      (subst (λ (bytes : List ℕ). AreListedIn rows c.term-item.result.documents bytes found.0) c.list_of.ensures found.1) found.2;
-  ready = c.in_ok-check_list.ensures.room;
+      let found = c.in_ok-skips.ensures.found rows has in
+      read_one_list rows c.args.section.now c.args.terms.now c.loop-number.number c.index-terms-number.result found.0 c.args.claims c.loop-number.claims c.check_list.new.claims
+      (c.loop-number.invariant.read rows has) c.loop-number-test.true c.index-terms-number.is
+      (subst (λ (bytes : List ℕ). AreListedIn rows c.index-terms-number.result.documents bytes found.0) c.list_of-list.ensures found.1) found.2;
+  entered =
+      let term = c.index-terms-number.result in
+      let long : LongList = record { number = c.loop-number.number; skips = c.in_ok-skips.skips } in
+      let skips = subst (λ (bytes : List ℕ). AreSkipsIn term.documents bytes c.in_ok-skips.skips.items) c.list_of-list.ensures c.in_ok-skips.ensures.entered in
+      long_kept c.args.section.now c.args.terms.now c.loop-number.longs.items c.keep_long.new.longs.items long c.loop-number.invariant.entered c.in_ok-keep_long.ensures
+      (long_in c.args.section.now c.args.terms.now c.loop-number.number term long refl c.index-terms-number.is skips);
+  ready = c.in_ok-skips.ensures.room;
 }
 
 pub returns-then-are_doubled-clause-refused : goal.returns-then-are_doubled-clause-refused
 returns-then-are_doubled-clause-refused c =
     inr
     (λ rows lists has are.
-    lists_are_not rows c.args.section.now c.args.terms.now c.args.claims c.loop-term.claims c.are_doubled.result lists
-    (read_all_lists rows c.args.section.now c.args.terms.now c.loop-term.term-index c.args.claims c.loop-term.claims c.loop-term-test.false (c.loop-term.invariant.read rows has))
+    lists_are_not rows c.args.section.now c.args.terms.now c.args.claims c.loop-number.claims c.are_doubled.result lists
+    (read_all_lists rows c.args.section.now c.args.terms.now c.loop-number.number c.args.claims c.loop-number.claims c.loop-number-test.false (c.loop-number.invariant.read rows has))
     c.requires.none c.are_doubled.ensures c.if-are_doubled.true are)
 
 pub returns-clause-found : goal.returns-clause-found
 returns-clause-found c rows has =
-    let read = read_all_lists rows c.args.section.now c.args.terms.now c.loop-term.term-index c.args.claims c.loop-term.claims c.loop-term-test.false (c.loop-term.invariant.read rows has) in
-    (read.lists, lists_are rows c.args.section.now c.args.terms.now c.args.claims c.loop-term.claims c.are_doubled.result read c.requires.none c.are_doubled.ensures (λ twice. cc (twice, c.if-are_doubled.false)))
+    let read = read_all_lists rows c.args.section.now c.args.terms.now c.loop-number.number c.args.claims c.loop-number.claims c.loop-number-test.false (c.loop-number.invariant.read rows has) in
+    (read.lists, lists_are rows c.args.section.now c.args.terms.now c.args.claims c.loop-number.claims c.are_doubled.result read c.requires.none c.are_doubled.ensures (λ twice. cc (twice, c.if-are_doubled.false)))
+
+pub returns-clause-entered : goal.returns-clause-entered
+returns-clause-entered c = c.loop-number.invariant.entered
