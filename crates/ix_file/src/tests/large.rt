@@ -180,3 +180,61 @@ fn a_hundred_thousand_postings(rt: HostRuntime) -> Result<(), Fail> {
     let volume = Volume::open(alloc, text)?;
     check_index(&rt, alloc, &volume.index(), &rows, &entries)
 }
+
+/// The first document not below one that has the term of `sparse_entry`.
+fn sparse_from(document: u32) -> u32
+    requires { document < 2000 }
+{
+    if document % 7 == 3 {
+        document + 1
+    } else {
+        document
+    }
+}
+
+/// A term in each document but every seventh.
+fn sparse_entry(alloc: Global) -> Result<Entry, Fail> {
+    let mut postings = Vec::new(alloc);
+    for document in 0..DOCUMENTS {
+        if sparse_from(document) == document {
+            let mut positions = Vec::new(alloc);
+            positions.push(document % 100)?;
+            postings.push((document, positions))?;
+        }
+    }
+    let term = String::from_str(alloc, "y")?;
+    Ok(Entry { term, postings })
+}
+
+#[test]
+fn a_long_list_is_entered_anywhere(rt: HostRuntime) -> Result<(), Fail> {
+    let alloc = rt.alloc();
+    let names = names(alloc)?;
+    let rows = rows(alloc, &names)?;
+    let mut entries = Vec::new(alloc);
+    entries.push(sparse_entry(alloc)?)?;
+    let mut text = Vec::new(alloc);
+    let stop = StopList::empty(alloc);
+    assert_eq!(rt; tell(&rt, alloc, &mut text, &stop, &rows, &entries), Ok(()));
+    let index = Index::open(alloc, &text)?;
+    assert!(rt; index.term_count() == 1);
+    for low in 0..DOCUMENTS {
+        let mut postings = index.find("y").ok_or("the term is missing")?;
+        let first = postings.seek(low).ok_or("a posting is missing")?;
+        assert_eq!(rt; first.document, sparse_from(low));
+        assert_eq!(rt; first.positions().next(), Some(sparse_from(low) % 100));
+        let mut walked = index.list(0);
+        assert!(rt; walked.seek(low).is_some());
+        assert_eq!(rt; postings.len(), walked.len());
+        let further = postings.seek(low + 40).map(|posting| posting.document);
+        assert_eq!(rt;
+            further,
+            Some(sparse_from(low + 40)).filter(|found| *found < DOCUMENTS)
+        );
+        assert_eq!(rt;
+            postings.seek(0).is_some(),
+            further.is_some_and(|found| found < DOCUMENTS - 1)
+        );
+    }
+    Ok(())
+}
