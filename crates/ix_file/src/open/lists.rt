@@ -24,10 +24,10 @@ use ix_vbyte::{VbError, decode, short_posting};
 use std::alloc::{AllocError, Global};
 
 /// How many bytes stand between two places at which a list may be entered, at least.
-const SPAN: usize = 64;
+const SPAN: usize = 128;
 
 /// How many bytes a list has, at least, of which such places are kept.
-const LONG: usize = 512;
+const LONG: usize = 1024;
 
 /// Checks the list of each term, where it stands in POSTINGS, and that no token is claimed twice. Answers where the long
 /// lists may be entered.
