@@ -7,6 +7,7 @@ The crates' own tests call `ix::command` over files in memory. Here the operatin
 pipe, a full device, a folder where a file is wanted. Expected bytes are those of docs/specification.md. All files are made
 in a folder of the system's own choice, which is gone at the end. Status 0: all is as expected.
 """
+import itertools
 import os
 import subprocess
 import sys
@@ -190,6 +191,34 @@ def files():
     gives("an output in a folder that is not there", ["build", "c.txt", "none/c.ix"], 2, b"", b"ix: file 2: Write(none/c.ix)")
 
 
+def merging():
+    """Runs of parts of a collection, merged."""
+    lines = FIVE.splitlines(keepends=True)
+    for first in RUNS:
+        Path("block.txt").write_bytes(b"".join(lines[first:first + 2]))
+        gives(f"run --first {first} for merging", ["run", "--first", str(first), "block.txt", f"run-{first}"], 0)
+    for order in itertools.permutations(("run-0", "run-2", "run-4")):
+        gives(f"merge {' '.join(order)}", ["merge", "c.ix", *order], 0)
+        holds(f"the index that {' '.join(order)} make", "c.ix", FIVE_INDEX)
+    gives("a run that is missing", ["merge", "c.ix", "run-4", "run-0"], 2, b"", b"ix: merge 1: Gap(2)")
+    gives("a run that is there twice", ["merge", "c.ix", "run-0", "run-2", "run-4", "run-0"], 2, b"", b"ix: merge 2: Overlap(0)")
+    Path("short").write_bytes(Path("run-0").read_bytes()[:-1])
+    gives("a run without its last byte", ["merge", "c.ix", "short"], 2, b"", b"ix: merge 4: Source(0, Number(Cut))")
+    gives("no runs", ["merge", "c.ix"], 2, b"", b"ix: arguments refused")
+    gives("a run that is not there", ["merge", "new.ix", "run-0", "none"], 2, b"", b"ix: file 1: Read(none)")
+    check("no output where a run is not there", not Path("new.ix").exists())
+
+
+def plans():
+    """`ask` by each plan."""
+    Path("c.txt").write_bytes(FIVE)
+    for block in ("1", "2", "1024"):
+        for workers in ("1", "2", "3", "64"):
+            gives(f"ask --block {block} --workers {workers}", ["ask", "--block", block, "--workers", workers, "c.txt", '"y x"'], 0, b"d\n")
+    for words in (["--block", "0"], ["--block", "268435457"], ["--workers", "0"], ["--workers", "65"], ["--block", "x"]):
+        gives(f"ask {' '.join(words)}", ["ask", *words, "c.txt", "x"], 2, b"", b"ix: arguments refused")
+
+
 def system():
     """What the operating system does."""
     Path("c.txt").write_bytes(FIVE)
@@ -232,7 +261,7 @@ def main():
         return 2
     with tempfile.TemporaryDirectory() as folder:
         os.chdir(folder)
-        for part in (rows, refusals, files, system):
+        for part in (rows, refusals, files, merging, plans, system):
             part()
         os.chdir("/")
     print(f"{failed} failed" if failed else "all as expected")
