@@ -42,7 +42,8 @@ fn makers_over<'a, T: Drop>(
     requires small { AreSmall (map named_text docs.now) }
     requires room { (makers.items ≡ []) × (vec_len stores ≤ vec_capacity makers) }
     ensures stores { map store_of result.items ≡ stores.items }
-    ensures each { All (IsSavingMakerOf (map named_text docs.now) stop.now bounds.now) result.items }
+    ensures each { All (IsSavingMakerOf (map named_text docs.now) stop.now bounds.now)
+        result.items }
 {
     for store in stores {
         let inverter = BlockMaker::new(alloc, docs, stop, bounds);

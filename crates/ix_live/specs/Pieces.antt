@@ -19,7 +19,7 @@ piece_at segment = record { generation = generation_at segment; documents = leng
 abbrev pub pieces_in : List (Option Segment) → List Piece
 pieces_in segments = map piece_at segments
 
--- generations fall strictly, and one of generation g has at least 2^g documents
+-- each piece has a higher generation than all behind it, and a piece of generation g has 2^g documents or more
 abbrev pub Falls : List Piece → Type 0
 Falls [] = ⊤
 Falls (piece ∷ pieces) = All (λ later. later.generation < piece.generation) pieces × (2 ^ piece.generation ≤ piece.documents) × Falls pieces

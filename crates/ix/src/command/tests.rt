@@ -11,7 +11,7 @@ use crate::files::{FileSource, FileTarget, ReadFault, WriteFault};
 use crate::help::{
     HELP, HELP_ON_ASK, HELP_ON_BUILD, HELP_ON_RUN, HELP_ON_SEARCH, HELP_ON_TERMS, HELP_ON_UPGRADE,
 };
-use indexes::{EMPTY, FIVE_FRONT_CODED, FIVE_PLAIN, ONE, RED, STOPPED};
+use indexes::{EMPTY, FIVE_FRONT_CODED, FIVE_PLAIN, LONG_TEXT, ONE, RED, STOPPED};
 use std::alloc::Global;
 use std::io::{ErrorKind, Write};
 use std::process::Abort;
@@ -119,8 +119,6 @@ fn expect<R: AllocGlobal + Abort + Threads + Wait + Sync>(
     };
     expect_over(rt, &files, words, row)
 }
-
-const LONG_TEXT: &[u8] = b"a\tThis text is no index, and it has more than sixty-four bytes.\n";
 
 /// The same over these files.
 fn expect_over<R: AllocGlobal + Abort + Threads + Wait + Sync>(

@@ -200,7 +200,8 @@ fn mixed_sources<'a, 'b>(
     blocks: &'a [Forms],
     indexes: &'b [Index<'b>],
 ) -> Result<Vec<Mixed<'a, 'b>>, Fail>
-    ensures { IfOk result (λ sources. All (IsUnread ⟦<Mixed<'a, 'b> as Source>⟧.gives) sources.items) }
+    ensures { IfOk result (λ sources.
+        All (IsUnread ⟦<Mixed<'a, 'b> as Source>⟧.gives) sources.items) }
 {
     let mut sources = Vec::new(alloc);
     let mut form = form;
