@@ -205,8 +205,8 @@ def merging():
     Path("short").write_bytes(Path("run-0").read_bytes()[:-1])
     gives("a run without its last byte", ["merge", "c.ix", "short"], 2, b"", b"ix: merge 4: Source(0, Number(Cut))")
     gives("no runs", ["merge", "c.ix"], 2, b"", b"ix: arguments refused")
-    gives("a run that is not there", ["merge", "new.ix", "run-0", "none"], 2, b"", b"ix: file 1: Read(none)")
-    check("no output where a run is not there", not Path("new.ix").exists())
+    gives("a run that is not there", ["merge", "fresh.ix", "run-0", "none"], 2, b"", b"ix: file 1: Read(none)")
+    check("no output where a run is not there", not Path("fresh.ix").exists())
 
 
 def plans():
