@@ -1,10 +1,20 @@
 # make        proves and builds the program, puts it at build/ix, and asks the sample collection a question
 # make test   the gate: proves every crate from nothing, tries the must-fail edits, runs the tests and the program
+# make install PREFIX=/usr/local   puts the program, its man page, completions and notices below PREFIX (and DESTDIR)
+# make uninstall PREFIX=/usr/local takes these away again
+# make clean  takes away what was built, and the proofs that were kept
 # make cookbook   runs each recipe of docs/cookbook.md with build/ix
 # make check-program   runs build/ix whole, as a process, on worked examples, pipes, full devices and refused files
+# make check-faults    refuses each request for memory, each read and each write of build/ix in turn, and forges its files (docs/faults.md)
+# make lib    proves crates/ix_c and builds the library for C, Python and Rust: build/libix.a, build/libix.so, header, ix.pc
+# make check-lib  checks that library from C, Python and Rust, and against an oracle
+# make check-examples  runs the cookbook, the builds in pieces, what is installed, the notices and the pictures
+#             (wants of Debian: apt install parallel python3-distributed zsh fish mandoc)
 RT := $(shell command -v rt 2> /dev/null)
+PREFIX ?= /usr/local
+DATA = $(DESTDIR)$(PREFIX)/share
 
-.PHONY: all test cookbook check-program toolchain
+.PHONY: all test cookbook check-program check-faults check-examples lib check-lib install uninstall clean toolchain
 
 all: toolchain
 	@echo "proving and building crates/ix (the first time takes some minutes; build/prove.log tells how it goes) .."
@@ -13,6 +23,7 @@ all: toolchain
 	@cp crates/ix/out/ix build/ix
 	@echo "built build/ix; asking: build/ix ask examples/mail.txt 'contract AND NOT hotel'"
 	@build/ix ask examples/mail.txt 'contract AND NOT hotel'
+	@share/notices.py --whole > build/NOTICES || { rm -f build/NOTICES; echo "no build/NOTICES, which make install wants" >&2; }
 
 test: toolchain
 	@echo "the gate: every proof from nothing, the must-fail edits, the tests, the program .."
@@ -23,6 +34,39 @@ cookbook: all
 
 check-program: all
 	@tests/check_program.py build/ix
+
+check-faults: all
+	@tests/check_faults.py build/ix
+
+check-examples: all
+	@examples/check-all.sh build/ix
+
+lib: toolchain
+	@echo "proving crates/ix_c and building the library (the first time takes some minutes; build/lib.log tells how it goes) .."
+	@mkdir -p build
+	@include/build.sh
+	@echo "built build/libix.a, build/libix.so, build/include/ix.h; from Python: cd python; python3 -m doctest -v ix.py"
+
+check-lib: lib
+	@tests/check_library.sh
+
+# The program has to be there already, so that an installing root needs no toolchain.
+install:
+	@test -x build/ix && test -f build/NOTICES || { echo "there is no build/ix or build/NOTICES yet: run make first" >&2; exit 1; }
+	install -D build/ix $(DESTDIR)$(PREFIX)/bin/ix
+	install -D -m 644 share/ix.1 $(DATA)/man/man1/ix.1
+	install -D -m 644 share/ix.bash $(DATA)/bash-completion/completions/ix
+	install -D -m 644 share/_ix $(DATA)/zsh/site-functions/_ix
+	install -D -m 644 share/ix.fish $(DATA)/fish/vendor_completions.d/ix.fish
+	install -D -m 644 build/NOTICES $(DATA)/doc/ix/NOTICES
+
+uninstall:
+	rm -f $(DESTDIR)$(PREFIX)/bin/ix $(DATA)/man/man1/ix.1 $(DATA)/bash-completion/completions/ix
+	rm -f $(DATA)/zsh/site-functions/_ix $(DATA)/fish/vendor_completions.d/ix.fish $(DATA)/doc/ix/NOTICES
+	@rmdir $(DATA)/doc/ix 2> /dev/null || true
+
+clean:
+	rm -rf build crates/*/out bench/*/out bench/out
 
 toolchain:
 ifeq ($(RT),)

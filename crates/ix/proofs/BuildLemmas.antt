@@ -8,6 +8,7 @@ use Rattle.ix.specs.AskedFiles.{IsStopHeld}
 use Rattle.ix.specs.BuiltIndexes.{AreOfFiles, IsUnbuilt, RefusesDocuments}
 use Rattle.ix.specs.Files.{Holding, IsFront}
 use Rattle.ix.specs.Refusals.{IsUnsaved}
+use Rattle.ix_ask.specs.declared.refusal.EngineRefusal.TheVariants as engine
 use Rattle.ix.specs.declared.refusal.Refusal.{Refusal}
 use Rattle.ix.specs.declared.refusal.Refusal.TheVariants as refusal
 use Rattle.ix.proofs.FileLemmas.{read_whole, refuses_collection_whole, room}
@@ -24,10 +25,10 @@ documents_of_files holds stop_file path bytes stop documents front stop_held rea
 
 -- and so is the reason why there are none
 pub refuses_documents_whole : (bytes whole : List ℕ) (told : Refusal) → bytes ≡ take room whole → RefusesDocuments bytes told → RefusesDocuments whole told
-refuses_documents_whole bytes whole (refusal.Collection error) cut why = refuses_collection_whole bytes whole error cut why
+refuses_documents_whole bytes whole (refusal.Engine (engine.Collection error)) cut why = refuses_collection_whole bytes whole error cut why
 refuses_documents_whole bytes whole _ cut why = absurd why
 
 -- what is not saved is not built
 pub unbuilt_unsaved : (workers : ℕ) (path : List ℕ) (told : Refusal) → IsUnsaved path told → IsUnbuilt workers path told
-unbuilt_unsaved workers path (refusal.Build error) is = absurd is
+unbuilt_unsaved workers path (refusal.Engine (engine.Build error)) is = absurd is
 unbuilt_unsaved workers path told is = is

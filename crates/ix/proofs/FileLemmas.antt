@@ -10,10 +10,10 @@ use Rattle.ix_text.specs.StopText.{IsStopText}
 use Rattle.ix_text.specs.declared.collection.CollectionError.{CollectionError}
 use Rattle.ix_text.specs.declared.collection.CollectionError.TheVariants.{TooLarge, NotUtf8, NoTab, Name, NoLineEnd, Memory}
 use Rattle.ix.specs.AskedFiles.{IsNoStopText, IsStopHeld, RefusesStop}
-use Rattle.ix.specs.Asking.{IsAnswered, IsCutShort, Leaves, RefusesCollection}
+use Rattle.ix_ask.specs.Asking.{IsAnswered, IsCutShort, Leaves, RefusesCollection}
 use Rattle.ix.specs.Files.{Holding, IsFront}
-use Rattle.ix.specs.declared.ask.AskError.{AskError}
-use Rattle.ix.specs.declared.ask.AskError.TheVariants as asking
+use Rattle.ix_ask.specs.declared.asking.AskError.{AskError}
+use Rattle.ix_ask.specs.declared.asking.AskError.TheVariants as asking
 use Rattle.ix.specs.declared.refusal.Refusal.{Refusal}
 
 abbrev pub room : ℕ

@@ -16,6 +16,7 @@ use Rattle.ix.specs.Files.{Holding}
 use Rattle.ix.specs.MergedRuns.{AreOpened, HoldHeads, HoldRuns, HoldsHead, HoldsRun, IsMerged, IsOpened, RefusesMerge, RefusesRunFiles, SavesConcatenation, unread}
 use Rattle.ix.specs.Lines.{texts_of}
 use Rattle.ix.specs.Refusals.{IsUnsaved}
+use Rattle.ix_ask.specs.declared.refusal.EngineRefusal.TheVariants as engine
 use Rattle.ix.specs.declared.refusal.Refusal.{Refusal}
 use Rattle.ix.specs.declared.refusal.Refusal.TheVariants as refusal
 
@@ -115,14 +116,14 @@ module _ {R : Type 0} (holds : Holding) (remaining : R → Option (List ℕ)) (p
 
 -- a file that was not saved
 pub refuses_unsaved : (headings : List Heading) (path : List ℕ) (told : Refusal) → IsUnsaved path told → RefusesMerge headings path told
-refuses_unsaved headings path (refusal.Merge error) is = absurd is
+refuses_unsaved headings path (refusal.Engine (engine.Merge error)) is = absurd is
 refuses_unsaved headings path told is = is
 
 -- the path at a place of a list that is passed
 pub path_at : (paths : List (Bor (List ℕ))) (k : ℕ) (d : Bor (List ℕ)) → k < length paths → slice_get (texts_of paths) k ≡ Some (get_or paths k d).now
 path_at paths k d below = slice_get-map (λ (word : Bor (List ℕ)). word.now) paths k ∙ ap (option_map (λ (word : Bor (List ℕ)). word.now)) (slice_get-get_or paths k d below)
 
-pub no_memory : (holds : Holding) (paths : List (Bor (List ℕ))) (k : ℕ) → k < length paths → RefusesRunFiles holds (texts_of paths) refusal.Memory
+pub no_memory : (holds : Holding) (paths : List (Bor (List ℕ))) (k : ℕ) → k < length paths → RefusesRunFiles holds (texts_of paths) (refusal.Engine engine.Memory)
 no_memory holds paths k below =
     let path = at_place (texts_of paths) (texts_of paths) k (omega (arith, below, length-map paths (λ (word : Bor (List ℕ)). word.now))) refl in
     record { place = k; path = path.0; at_place = path.1; refuses = unread tt }

@@ -7,6 +7,7 @@ use Rattle.ix_run.proofs.RunSizes.{run_text}
 use Rattle.ix.specs.AskedFiles.{IsStopHeld}
 use Rattle.ix.specs.Files.{Holding, IsFront}
 use Rattle.ix.specs.WrittenRuns.{HasRun, IsRunOfFiles, RefusesInversion, RefusesRun}
+use Rattle.ix_ask.specs.declared.refusal.EngineRefusal.TheVariants as engine
 use Rattle.ix.specs.declared.refusal.Refusal.{Refusal}
 use Rattle.ix.specs.declared.refusal.Refusal.TheVariants as refusal
 use Rattle.ix.proofs.FileLemmas.{read_whole, refuses_collection_whole, room}
@@ -29,7 +30,7 @@ run_of_files holds stop_file first path bytes stop run front stop_held has =
 
 -- and so is the reason why there is none
 pub refuses_run_whole : (bytes whole : List ℕ) (stop : List (List ℕ)) (first : ℕ) (told : Refusal) → bytes ≡ take room whole → RefusesRun bytes stop first told → RefusesRun whole stop first told
-refuses_run_whole bytes whole stop first (refusal.Collection error) cut why = refuses_collection_whole bytes whole error cut why
-refuses_run_whole bytes whole stop first (refusal.Run error) cut why =
+refuses_run_whole bytes whole stop first (refusal.Engine (engine.Collection error)) cut why = refuses_collection_whole bytes whole error cut why
+refuses_run_whole bytes whole stop first (refusal.Engine (engine.Run error)) cut why =
     (why.0, subst (λ text. IsCollectionText text why.0) (read_whole bytes whole cut why.1.size) why.1, why.2)
 refuses_run_whole bytes whole stop first _ cut why = absurd why

@@ -6,10 +6,11 @@ use Rattle.clap.specs.Walk.{Text}
 use Rattle.ix_text.specs.StopText.{IsStopText}
 use Rattle.ix_text.specs.StopFaults.{IsStopFault}
 use Rattle.ix_text.specs.declared.stop.StopError.TheVariants as stop_error
-use Rattle.ix.specs.Asking.{IsAnswered, Leaves}
+use Rattle.ix_ask.specs.Asking.{IsAnswered, Leaves}
 use Rattle.ix.specs.Files.{Holding}
 use Rattle.ix.specs.Refusals.{IsUnread, Tells}
-use Rattle.ix.specs.declared.ask.AskError.{AskError}
+use Rattle.ix_ask.specs.declared.asking.AskError.{AskError}
+use Rattle.ix_ask.specs.declared.refusal.EngineRefusal.TheVariants as engine
 use Rattle.ix.specs.declared.refusal.Refusal.{Refusal}
 use Rattle.ix.specs.declared.refusal.Refusal.TheVariants as refusal
 
@@ -28,7 +29,7 @@ pub record IsAnsweredFromFiles (holds : Holding) (stop_file : Option (Bor Text))
 
 -- The refusal tells why this text of the file of this path is no stop text, or that memory ran out.
 abbrev pub IsNoStopText : Text → Text → Refusal → Type 0
-IsNoStopText path text (refusal.Stop error) = (error ≡ stop_error.Memory) ⊎ IsStopFault text error
+IsNoStopText path text (refusal.Engine (engine.Stop error)) = (error ≡ stop_error.Memory) ⊎ IsStopFault text error
 IsNoStopText path text (refusal.NotUtf8 named) = (named.now ≡ path) × ¬ (IsUtf8 text)
 IsNoStopText path text _ = ⊥
 

@@ -6,10 +6,11 @@ use Rattle.ix_text.specs.Collections.{NamedText, collection_of}
 use Rattle.ix_text.specs.CollectionText.{IsCollectionText}
 use Rattle.ix_build.specs.BuildErrors.{IsBuildRefusal}
 use Rattle.ix.specs.AskedFiles.{IsStopHeld, RefusesStop}
-use Rattle.ix.specs.Asking.{RefusesCollection}
+use Rattle.ix_ask.specs.Asking.{RefusesCollection}
 use Rattle.ix.specs.Files.{Holding}
 use Rattle.ix.specs.Refusals.{IsUnread, IsUnsaved}
 use Rattle.ix.specs.SavedIndexes.{SavesIndex}
+use Rattle.ix_ask.specs.declared.refusal.EngineRefusal.TheVariants as engine
 use Rattle.ix.specs.declared.refusal.Refusal.{Refusal}
 use Rattle.ix.specs.declared.refusal.Refusal.TheVariants as refusal
 
@@ -30,12 +31,12 @@ pub record IsBuilt (holds saves : Holding) (stop_file : Option (Bor Text)) (path
 
 -- why the text gave no documents
 abbrev pub RefusesDocuments : Text → Refusal → Type 0
-RefusesDocuments text (refusal.Collection error) = RefusesCollection text error
+RefusesDocuments text (refusal.Engine (engine.Collection error)) = RefusesCollection text error
 RefusesDocuments text _ = ⊥
 
 -- Why so many workers did not build what was to be saved under this path.
 abbrev pub IsUnbuilt : ℕ → Text → Refusal → Type 0
-IsUnbuilt workers path (refusal.Build error) = IsBuildRefusal workers error
+IsUnbuilt workers path (refusal.Engine (engine.Build error)) = IsBuildRefusal workers error
 IsUnbuilt workers path told = IsUnsaved path told
 
 -- Why `build` was refused, by so many workers: the stop file is refused, the collection file cannot be read or holds no

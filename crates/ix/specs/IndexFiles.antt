@@ -8,13 +8,14 @@ use Rattle.ix_file.specs.Opened.{IsIndexOf, Opened}
 use Rattle.ix_file.specs.Sections.{Version}
 use Rattle.ix_file.specs.declared.open_error.OpenError.TheVariants as open_error
 use Rattle.ix.specs.Files.{Holding}
-use Rattle.ix.specs.Listing.{IsPrinted, LeavesListing}
+use Rattle.ix_ask.specs.Listing.{IsPrinted, LeavesListing}
 use Rattle.ix.specs.Refusals.{IsUnread, TellsListing, TellsSearch}
-use Rattle.ix.specs.Searching.{IsSearched, LeavesSearch}
-use Rattle.ix.specs.declared.listing.ListingError.{ListingError}
+use Rattle.ix_ask.specs.Searching.{IsSearched, LeavesSearch}
+use Rattle.ix_ask.specs.declared.listing.ListingError.{ListingError}
+use Rattle.ix_ask.specs.declared.refusal.EngineRefusal.TheVariants as engine
 use Rattle.ix.specs.declared.refusal.Refusal.{Refusal}
 use Rattle.ix.specs.declared.refusal.Refusal.TheVariants as refusal
-use Rattle.ix.specs.declared.search.SearchError.{SearchError}
+use Rattle.ix_ask.specs.declared.searching.SearchError.{SearchError}
 
 -- The file of this path holds an index text of this version and collection.
 pub record IsIndexHeld (holds : Holding) (path : Text) (version : Version) (collection : Collection) : Type 0 where
@@ -31,7 +32,7 @@ pub record IsOpened (holds : Holding) (path : Text) (opened : Opened) : Type 0 w
 
 -- The refusal tells why the text was not opened: memory ran out, unless it is an index text of no collection.
 abbrev pub RefusesIndexText : Text → Refusal → Type 0
-RefusesIndexText text (refusal.Index error) =
+RefusesIndexText text (refusal.Engine (engine.Index error)) =
     (version : Version) (collection : Collection) → IsIndexText version collection text → error ≡ open_error.Memory
 RefusesIndexText text _ = ⊥
 

@@ -19,6 +19,7 @@ use Rattle.ix_merge.specs.declared.merge_error.MergeError.TheVariants as merge_e
 use Rattle.ix.specs.Files.{Holding}
 use Rattle.ix.specs.Refusals.{IsUnread as IsUnreadFile, IsUnsaved}
 use Rattle.ix.specs.SavedIndexes.{SavesIndex}
+use Rattle.ix_ask.specs.declared.refusal.EngineRefusal.TheVariants as engine
 use Rattle.ix.specs.declared.refusal.Refusal.{Refusal}
 use Rattle.ix.specs.declared.refusal.Refusal.TheVariants as refusal
 
@@ -97,7 +98,7 @@ RefusesHead Holds error = IsOtherRefusal error ⊎ LacksHead Holds
 pub data RefusesRunFile (holds : Holding) (path : Text) (place : ℕ) : Refusal → Type 0 where
   unread : {told : Refusal} → IsUnreadFile path told → RefusesRunFile holds path place told
   no_head : (error : RunTextError) → RefusesHead (holds path) error
-      → RefusesRunFile holds path place (refusal.Merge (merge_error.Source place error))
+      → RefusesRunFile holds path place (refusal.Engine (engine.Merge (merge_error.Source place error)))
 
 -- Why run files were not opened: one of them was not.
 pub record RefusesRunFiles (holds : Holding) (paths : List Text) (told : Refusal) : Type 0 where
@@ -108,7 +109,7 @@ pub record RefusesRunFiles (holds : Holding) (paths : List Text) (told : Refusal
 
 -- Why runs with these heads gave no index file: they are not merged, or the file cannot be saved.
 abbrev pub RefusesMerge : List Heading → Text → Refusal → Type 0
-RefusesMerge headings path (refusal.Merge error) = IsRefusal headings error
+RefusesMerge headings path (refusal.Engine (engine.Merge error)) = IsRefusal headings error
 RefusesMerge headings path told = IsUnsaved path told
 
 -- Why `merge` was refused: the run files were not opened, or gave no index file.

@@ -3,23 +3,15 @@ use Rattle.std.specs.Prelude.{◌≡◌, ℕ, ◌⊎◌, ◌/◌, ◌%◌, [], �
 use Rattle.std.specs.Char.{digit_char, is_control}
 use Rattle.std.specs.Str.{chars}
 use Rattle.clap.specs.Walk.{Text}
-use Rattle.ix_build.specs.BuildErrors.{build_error_name, build_error_number}
-use Rattle.ix_file.specs.OpenErrors.{open_error_name, open_error_number}
-use Rattle.ix_gram.specs.PatternErrors.{name_of as pattern_error_name, number_of as pattern_error_number}
-use Rattle.ix_merge.specs.MergeErrors.{merge_error_name, merge_error_number}
-use Rattle.ix_query.specs.ErrorNames.{name_of as query_error_name}
-use Rattle.ix_query.specs.QueryErrors.{number_of as query_error_number}
-use Rattle.ix_run.specs.Errors.{run_error_name, run_error_number}
-use Rattle.ix_run.specs.RunTextErrors.{run_text_error_name}
-use Rattle.ix_text.specs.CollectionErrors.{collection_error_name, collection_error_number}
 use Rattle.ix_text.specs.Sinks.{AppendsFront}
-use Rattle.ix_text.specs.StopErrors.{stop_error_name, stop_error_number}
-use Rattle.ix.specs.declared.ask.AskError.{AskError}
-use Rattle.ix.specs.declared.ask.AskError.TheVariants as asking
-use Rattle.ix.specs.declared.search.SearchError.{SearchError}
-use Rattle.ix.specs.declared.search.SearchError.TheVariants as searching
-use Rattle.ix.specs.declared.listing.ListingError.{ListingError}
-use Rattle.ix.specs.declared.listing.ListingError.TheVariants as listing
+use Rattle.ix_ask.specs.declared.asking.AskError.{AskError}
+use Rattle.ix_ask.specs.declared.asking.AskError.TheVariants as asking
+use Rattle.ix_ask.specs.declared.searching.SearchError.{SearchError}
+use Rattle.ix_ask.specs.declared.searching.SearchError.TheVariants as searching
+use Rattle.ix_ask.specs.declared.listing.ListingError.{ListingError}
+use Rattle.ix_ask.specs.declared.listing.ListingError.TheVariants as listing
+use Rattle.ix_ask.specs.EngineRefusals.{line_of}
+use Rattle.ix_ask.specs.declared.refusal.EngineRefusal.TheVariants as engine
 use Rattle.ix.specs.declared.refusal.Refusal.{Refusal}
 use Rattle.ix.specs.declared.refusal.Refusal.TheVariants as refusal
 
@@ -27,62 +19,49 @@ use Rattle.ix.specs.declared.refusal.Refusal.TheVariants as refusal
 
 -- the refusal tells the error in its own area, with what it wraps; what cannot be written is the standard output
 abbrev pub Tells : AskError → Refusal → Type 0
-Tells (asking.Collection error) told = told ≡ refusal.Collection error
-Tells (asking.Query error) told = told ≡ refusal.Query error
-Tells (asking.Build error) told = told ≡ refusal.Build error
-Tells (asking.Open error) told = told ≡ refusal.Index error
+Tells (asking.Collection error) told = told ≡ refusal.Engine (engine.Collection error)
+Tells (asking.Query error) told = told ≡ refusal.Engine (engine.Query error)
+Tells (asking.Build error) told = told ≡ refusal.Engine (engine.Build error)
+Tells (asking.Open error) told = told ≡ refusal.Engine (engine.Index error)
 Tells asking.Write (refusal.Write path) = path.now ≡ codes "-"
 Tells asking.Write _ = ⊥
-Tells asking.Memory told = told ≡ refusal.Memory
+Tells asking.Memory told = told ≡ refusal.Engine engine.Memory
 
 -- the same of a question to an index
 abbrev pub TellsSearch : SearchError → Refusal → Type 0
-TellsSearch (searching.Query error) told = told ≡ refusal.Query error
+TellsSearch (searching.Query error) told = told ≡ refusal.Engine (engine.Query error)
 TellsSearch searching.Write (refusal.Write path) = path.now ≡ codes "-"
 TellsSearch searching.Write _ = ⊥
-TellsSearch searching.Memory told = told ≡ refusal.Memory
+TellsSearch searching.Memory told = told ≡ refusal.Engine engine.Memory
 
 -- the same of a listing of terms
 abbrev pub TellsListing : ListingError → Refusal → Type 0
-TellsListing (listing.Pattern error) told = told ≡ refusal.Pattern error
+TellsListing (listing.Pattern error) told = told ≡ refusal.Engine (engine.Pattern error)
 TellsListing listing.Write (refusal.Write path) = path.now ≡ codes "-"
 TellsListing listing.Write _ = ⊥
-TellsListing listing.Memory told = told ≡ refusal.Memory
+TellsListing listing.Memory told = told ≡ refusal.Engine engine.Memory
 
 -- the refusal tells that the file of this path cannot be read, or that memory ran out
 abbrev pub IsUnread : Text → Refusal → Type 0
 IsUnread path (refusal.Read named) = named.now ≡ path
-IsUnread path refusal.Memory = Unit {0}
+IsUnread path (refusal.Engine engine.Memory) = Unit {0}
 IsUnread path _ = ⊥
 
 -- the refusal tells that the file of this path cannot be written, or that memory ran out
 abbrev pub IsUnsaved : Text → Refusal → Type 0
 IsUnsaved path (refusal.Write named) = named.now ≡ path
-IsUnsaved path refusal.Memory = Unit {0}
+IsUnsaved path (refusal.Engine engine.Memory) = Unit {0}
 IsUnsaved path _ = ⊥
 
 -- ---- its line
 
--- an error of an area, by its number in the area's list and its name
-abbrev pub error_text : Text → ℕ → Text → Text
-error_text area number name = area ++ (decimal number ++ (codes ": " ++ name))
-
--- area, number and name
+-- what the engine refused, as it tells it; and the refusals of files and of words
 abbrev pub text_of : Refusal → Option Text
 text_of refusal.Arguments = Some (codes "arguments refused")
-text_of (refusal.Collection error) = Some (error_text (codes "collection ") (collection_error_number error) (collection_error_name error))
-text_of (refusal.Stop error) = Some (error_text (codes "stop ") (stop_error_number error) (stop_error_name error))
-text_of (refusal.Query error) = Some (error_text (codes "query ") (query_error_number error) (query_error_name error))
-text_of (refusal.Index error) = Some (error_text (codes "index ") (open_error_number error) (open_error_name error))
-text_of (refusal.Pattern error) = Some (error_text (codes "pattern ") (pattern_error_number error) (pattern_error_name error))
-text_of (refusal.Run error) = Some (error_text (codes "run ") (run_error_number error) (run_error_name error))
-text_of (refusal.Build error) = Some (error_text (codes "build ") (build_error_number error) (build_error_name error))
-text_of (refusal.Merge error) =
-    option_map (error_text (codes "merge ") (merge_error_number error)) (merge_error_name (λ fault. Some (run_text_error_name fault)) error)
+text_of (refusal.Engine told) = line_of told
 text_of (refusal.Read path) = Some (codes "file 1: Read(" ++ path.now ++ codes ")")
 text_of (refusal.Write path) = Some (codes "file 2: Write(" ++ path.now ++ codes ")")
 text_of (refusal.NotUtf8 path) = Some (codes "file 3: NotUtf8(" ++ path.now ++ codes ")")
-text_of refusal.Memory = Some (codes "memory 1: Memory")
 
 -- a control character as `\x` and two hexadecimal digits, and any other as it is
 abbrev pub shown_char : ℕ → Text

@@ -22,6 +22,7 @@ use Rattle.ix.specs.Upgrades.{IsUpgradeRefused, IsUpgraded}
 use Rattle.ix.specs.WrittenRuns.{IsRunRefused, IsRunSaved}
 use Rattle.ix.specs.declared.command_line.Line.{Line}
 use Rattle.ix.specs.declared.command_line.Line.TheVariants.{Ask, Build, Merge, Run, Search, Terms, Upgrade}
+use Rattle.ix_ask.specs.declared.refusal.EngineRefusal.TheVariants as engine
 use Rattle.ix.specs.declared.refusal.Refusal.{Refusal}
 use Rattle.ix.specs.declared.refusal.Refusal.TheVariants as refusal
 
@@ -88,7 +89,7 @@ IsUnwritten text old new _ = ⊥
 -- or the help that they ask for cannot be written.
 abbrev pub IsLineless : List Text → Option Text → Option Text → Refusal → Type 0
 IsLineless words old new refusal.Arguments = AreMistaken words × Keeps old new
-IsLineless words old new refusal.Memory = Keeps old new
+IsLineless words old new (refusal.Engine engine.Memory) = Keeps old new
 IsLineless words old new told = AsksForHelp words × IsUnwritten (help_of words) old new told
 
 -- The words were refused for this reason, and this is left of the standard output: they are no line, or what their line

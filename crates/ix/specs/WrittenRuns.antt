@@ -9,9 +9,10 @@ use Rattle.ix_run.specs.Runs.{IsRunOf, IsTooLarge, RunValue}
 use Rattle.ix_run.specs.declared.errors.RunError.{RunError}
 use Rattle.ix_run.specs.declared.errors.RunError.TheVariants as run_error
 use Rattle.ix.specs.AskedFiles.{IsStopHeld, RefusesStop}
-use Rattle.ix.specs.Asking.{RefusesCollection}
+use Rattle.ix_ask.specs.Asking.{RefusesCollection}
 use Rattle.ix.specs.Files.{Holding}
 use Rattle.ix.specs.Refusals.{IsUnread, IsUnsaved}
+use Rattle.ix_ask.specs.declared.refusal.EngineRefusal.TheVariants as engine
 use Rattle.ix.specs.declared.refusal.Refusal.{Refusal}
 use Rattle.ix.specs.declared.refusal.Refusal.TheVariants as refusal
 
@@ -44,8 +45,8 @@ RefusesInversion collection first run_error.Memory = Unit {0}
 
 -- Why a text and stop terms gave no run: the text is no collection text, or its collection was not inverted.
 abbrev pub RefusesRun : Text → List Text → ℕ → Refusal → Type 0
-RefusesRun text stop first (refusal.Collection error) = RefusesCollection text error
-RefusesRun text stop first (refusal.Run error) =
+RefusesRun text stop first (refusal.Engine (engine.Collection error)) = RefusesCollection text error
+RefusesRun text stop first (refusal.Engine (engine.Run error)) =
     (documents : List NamedText) × IsCollectionText text documents × RefusesInversion (collection_of stop documents) first error
 RefusesRun text stop first _ = ⊥
 

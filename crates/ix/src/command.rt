@@ -25,6 +25,7 @@ use crate::files::{FileSource, FileTarget, HostFiles};
 use crate::help::{help_on, with_help_as_flag};
 use crate::refusal::Refusal;
 use crate::refuse::refuse;
+use ix_ask::EngineRefusal;
 use ix_text::{flush, put_all};
 use std::alloc::{AllocError, Global};
 use std::io::{Input, Write};
@@ -94,7 +95,7 @@ pub fn command_over<R: Threads + Wait + Sync, F: FileSource + FileTarget, W: Wri
 {
     let words = match with_help_as_flag(alloc, words) {
         Ok(words) => words,
-        Err(AllocError) => return refuse(alloc, err, &Refusal::Memory),
+        Err(AllocError) => return refuse(alloc, err, &Refusal::Engine(EngineRefusal::Memory)),
     };
     match run(rt, alloc, files, words.as_slice(), out) {
         Ok(status) => status,
@@ -202,7 +203,7 @@ fn answer_without_line<'a, W: Write>(
     match error {
         LineError::Clap(_) => Err(Refusal::Arguments),
         LineError::Both => Err(Refusal::Arguments),
-        LineError::Memory => Err(Refusal::Memory),
+        LineError::Memory => Err(Refusal::Engine(EngineRefusal::Memory)),
     }
 }
 

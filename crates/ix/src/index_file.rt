@@ -4,6 +4,7 @@ ghost use Rattle.ix.specs.IndexFiles.{IsOpened, RefusesIndex};
 
 use crate::files::{FileSource, ReadFault};
 use crate::refusal::Refusal;
+use ix_ask::EngineRefusal;
 use ix_file::{OpenError, Volume};
 use std::alloc::Global;
 
@@ -20,9 +21,9 @@ pub fn open_index<'a, F: FileSource>(
     match files.read(path, usize::MAX) {
         Ok(bytes) => match Volume::open(alloc, bytes) {
             Ok(volume) => Ok(volume),
-            Err(error) => Err(Refusal::Index(error)),
+            Err(error) => Err(Refusal::Engine(EngineRefusal::Index(error))),
         },
         Err(ReadFault::Refused) => Err(Refusal::Read(path)),
-        Err(ReadFault::Memory) => Err(Refusal::Memory),
+        Err(ReadFault::Memory) => Err(Refusal::Engine(EngineRefusal::Memory)),
     }
 }

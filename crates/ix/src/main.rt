@@ -1,21 +1,16 @@
 //! The program `ix`: asks a collection of named documents, or an index of one.
 #![tactic(auto)]
 
-mod ask;
 mod command;
 mod command_line;
 mod files;
 mod help;
 mod index_file;
-mod laws;
-mod listing;
-mod names;
-mod output;
 mod refusal;
 mod refuse;
-mod search;
 
 use command::command;
+use ix_ask::EngineRefusal;
 use refusal::Refusal;
 use refuse::refuse;
 use std::alloc::AllocError;
@@ -30,9 +25,11 @@ fn main(rt: HostRuntime) -> ExitCode {
     let refusal = match env::args(&rt) {
         Ok(args) => match run(&rt, args, &mut rt.stdout(), &mut rt.stderr()) {
             Ok(status) => return ExitCode::from(status),
-            Err(AllocError) => Refusal::Memory,
+            Err(AllocError) => Refusal::Engine(EngineRefusal::Memory),
         },
-        Err(error) if error.kind() == ErrorKind::OutOfMemory => Refusal::Memory,
+        Err(error) if error.kind() == ErrorKind::OutOfMemory => Refusal::Engine(
+            EngineRefusal::Memory,
+        ),
         Err(_) => Refusal::Arguments,
     };
     ExitCode::from(refuse(rt.alloc(), &mut rt.stderr(), &refusal))

@@ -1,17 +1,7 @@
 //! The one line by which the program says why it refused.
 
-use crate::ask::AskError;
-use crate::command_line::LineError;
 use crate::files::WriteFault;
-use crate::listing::ListingError;
-use crate::search::SearchError;
-use ix_build::BuildError;
-use ix_file::OpenError;
-use ix_gram::PatternError;
-use ix_merge::MergeError;
-use ix_query::QueryError;
-use ix_run::{RunError, RunTextError};
-use ix_text::{CollectionError, StopError};
+use ix_ask::{AskError, EngineRefusal, ListingError, SearchError};
 use std::fmt;
 
 /// Why the program refused, in the area that it is told in. It prints as area, number and name, as
@@ -20,30 +10,14 @@ use std::fmt;
 pub enum Refusal<'a> {
     /// The words of the command line are refused.
     Arguments,
-    /// The collection text breaks a rule.
-    Collection(CollectionError),
-    /// The stop text breaks a rule.
-    Stop(StopError),
-    /// The query breaks a rule.
-    Query(QueryError),
-    /// The index text breaks a rule.
-    Index(OpenError),
-    /// The pattern breaks a rule.
-    Pattern(PatternError),
-    /// The documents are not inverted.
-    Run(RunError),
-    /// The collection is not built.
-    Build(BuildError),
-    /// The runs are not merged.
-    Merge(MergeError<RunTextError>),
+    /// A text breaks a rule, or the engine did not do its work.
+    Engine(EngineRefusal),
     /// The file of this path cannot be read.
     Read(&'a str),
     /// The file of this path cannot be written; `-` is the standard output.
     Write(&'a str),
     /// The file of this path is not UTF-8.
     NotUtf8(&'a str),
-    /// A growth was refused.
-    Memory,
 }
 
 impl<'a> Refusal<'a> {
@@ -55,7 +29,7 @@ impl<'a> Refusal<'a> {
     {
         match fault {
             WriteFault::Refused => Refusal::Write(path),
-            WriteFault::Memory => Refusal::Memory,
+            WriteFault::Memory => Refusal::Engine(EngineRefusal::Memory),
         }
     }
 }
@@ -68,18 +42,10 @@ impl fmt::Display for Refusal<'_> {
     fn fmt<W: fmt::Write>(&self, f: &mut fmt::Formatter<W>) -> fmt::Result {
         match self {
             Refusal::Arguments => write!(f, "arguments refused"),
-            Refusal::Collection(error) => write!(f, "collection {}: {error}", error.number()),
-            Refusal::Stop(error) => write!(f, "stop {}: {error}", error.number()),
-            Refusal::Query(error) => write!(f, "query {}: {error}", error.number()),
-            Refusal::Index(error) => write!(f, "index {}: {error}", error.number()),
-            Refusal::Pattern(error) => write!(f, "pattern {}: {error}", error.number()),
-            Refusal::Run(error) => write!(f, "run {}: {error}", error.number()),
-            Refusal::Build(error) => write!(f, "build {}: {error}", error.number()),
-            Refusal::Merge(error) => write!(f, "merge {}: {error}", error.number()),
+            Refusal::Engine(refusal) => write!(f, "{refusal}"),
             Refusal::Read(path) => write!(f, "file 1: Read({path})"),
             Refusal::Write(path) => write!(f, "file 2: Write({path})"),
             Refusal::NotUtf8(path) => write!(f, "file 3: NotUtf8({path})"),
-            Refusal::Memory => write!(f, "memory 1: Memory"),
         }
     }
 }
@@ -91,12 +57,12 @@ impl From<AskError> for Refusal<'_> {
 
     fn from(error: AskError) -> Self {
         match error {
-            AskError::Collection(error) => Refusal::Collection(error),
-            AskError::Query(error) => Refusal::Query(error),
-            AskError::Build(error) => Refusal::Build(error),
-            AskError::Open(error) => Refusal::Index(error),
+            AskError::Collection(error) => Refusal::Engine(EngineRefusal::Collection(error)),
+            AskError::Query(error) => Refusal::Engine(EngineRefusal::Query(error)),
+            AskError::Build(error) => Refusal::Engine(EngineRefusal::Build(error)),
+            AskError::Open(error) => Refusal::Engine(EngineRefusal::Index(error)),
             AskError::Write => Refusal::Write("-"),
-            AskError::Memory => Refusal::Memory,
+            AskError::Memory => Refusal::Engine(EngineRefusal::Memory),
         }
     }
 }
@@ -108,9 +74,9 @@ impl From<SearchError> for Refusal<'_> {
 
     fn from(error: SearchError) -> Self {
         match error {
-            SearchError::Query(error) => Refusal::Query(error),
+            SearchError::Query(error) => Refusal::Engine(EngineRefusal::Query(error)),
             SearchError::Write => Refusal::Write("-"),
-            SearchError::Memory => Refusal::Memory,
+            SearchError::Memory => Refusal::Engine(EngineRefusal::Memory),
         }
     }
 }
@@ -122,9 +88,9 @@ impl From<ListingError> for Refusal<'_> {
 
     fn from(error: ListingError) -> Self {
         match error {
-            ListingError::Pattern(error) => Refusal::Pattern(error),
+            ListingError::Pattern(error) => Refusal::Engine(EngineRefusal::Pattern(error)),
             ListingError::Write => Refusal::Write("-"),
-            ListingError::Memory => Refusal::Memory,
+            ListingError::Memory => Refusal::Engine(EngineRefusal::Memory),
         }
     }
 }

@@ -13,7 +13,7 @@ use std::io::Write;
 /// The command was refused.
 const REFUSED: u8 = 2;
 
-/// The line of `Refusal::Memory`.
+/// The line of want of memory.
 const OUT_OF_MEMORY: &str = "ix: memory 1: Memory\n";
 
 /// Prints the line of the refusal on the error output, and answers the exit status. Where there is

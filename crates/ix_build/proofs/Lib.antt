@@ -4,11 +4,14 @@ pub mod BlockPieces
 pub mod BlockRunLemmas
 pub mod BuiltBlocks
 pub mod Consecutive
+pub mod FolderLemmas
 pub mod LowestLemmas
+pub mod LowestUnsaved
 pub mod OutcomeLemmas
 pub mod OverBlocks
 pub mod ReadBackLemmas
 pub mod RunMerging
+pub mod RunPathLemmas
 pub mod SavedPlaces
 pub mod SavedWork
 pub mod ShareLemmas

@@ -22,7 +22,7 @@ use Rattle.ix_build.specs.Stores.{AreSaved, AreSavedInPart, IsLaterStore, NoneSa
 -- ---- one list of askings
 
 -- what was made was asked for
-made_asked : (place : ℕ) (askings : List Asked) → count_by (is_place place) (made_places askings) ≤ times_asked place askings
+pub made_asked : (place : ℕ) (askings : List Asked) → count_by (is_place place) (made_places askings) ≤ times_asked place askings
 made_asked place [] = omega arith
 made_asked place (asked ∷ askings) = by asked.error (made_asked place askings)
   where
@@ -50,7 +50,7 @@ all_made place (asked ∷ askings) none =
 
 -- ---- the shares of several
 
-flat_made : (shares : List (List Asked)) → flat_map (λ share. share) (map made_places shares) ≡ made_places (all_of shares)
+pub flat_made : (shares : List (List Asked)) → flat_map (λ share. share) (map made_places shares) ≡ made_places (all_of shares)
 flat_made [] = refl
 flat_made (share ∷ shares) =
     flat_map-cons (λ (l : List ℕ). l) (made_places share) (map made_places shares)
@@ -90,7 +90,7 @@ own_first count shares begin none w share within at =
 -- ---- makers and their stores
 
 module _ {T : Type 0} (places : T → List ℕ) (refusals : T → ℕ) (back : T → ℕ → List ℕ → Type 0) where
-  abbrev Later : SavingMaker T → SavingMaker T → Type 0
+  abbrev pub Later : SavingMaker T → SavingMaker T → Type 0
   Later = IsLater asked_of_saving (GivesHead {T = T}) (StaysSavingMaker places refusals back)
 
   gained_saved : (old new : T) (more : List ℕ) → HasSaved places refusals back old new more → gained_places (places old) (places new) ≡ more
@@ -116,7 +116,7 @@ module _ {T : Type 0} (places : T → List ℕ) (refusals : T → ℕ) (back : T
   }
 
   -- what each store saved is what its maker made
-  shares_saved : (before after : List (SavingMaker T)) → ((w : ℕ) (old new : SavingMaker T) → slice_get before w ≡ Some old → slice_get after w ≡ Some new → Later old new)
+  pub shares_saved : (before after : List (SavingMaker T)) → ((w : ℕ) (old new : SavingMaker T) → slice_get before w ≡ Some old → slice_get after w ≡ Some new → Later old new)
       → new_places places (map store_of before) (map store_of after) ≡ map made_places (new_askings asked_of_saving before after)
   shares_saved [] after each = refl
   shares_saved (old ∷ before) [] each = refl

@@ -18,9 +18,10 @@ use Rattle.ix_build.specs.Outcomes.{IsMade, IsRefusedAt, IsStopped}
 use Rattle.ix_build.specs.SavedBlocks.{AreHeadsOf, FailsToSave, unsaved_at}
 use Rattle.ix_build.specs.SavingMakers.{GivesHead, HasSaved, IsHeadOfBlock, IsSavingMakerOf, StaysSavingMaker, asked_of_saving, store_of}
 use Rattle.ix_build.specs.Shares.{NoneTwice, all_of, new_askings}
-use Rattle.ix_build.specs.Stores.{AreSaved, AreSavedInPart, IsLaterStore, SaveOwnFirst, SavedOnce, StoresCameBack, gained_places, is_place, new_places, times_saved}
+use Rattle.ix_build.specs.Stores.{AreSaved, AreSavedInPart, IsLaterStore, IsLowestUnsaved, SaveOwnFirst, SavedOnce, StoresCameBack, gained_places, is_place, new_places, times_saved}
 use Rattle.ix_build.proofs.BlockMaking.{counted_there, weight_within}
-use Rattle.ix_build.proofs.SavedPlaces.{are_saved, are_saved_in_part, later_store}
+use Rattle.ix_build.proofs.LowestUnsaved.{lowest_unsaved}
+use Rattle.ix_build.proofs.SavedPlaces.{are_saved, are_saved_in_part, later_store, shares_saved}
 use Rattle.ix_build.specs.SavingLaws.{saved_none}
 
 at_most_one : (k n times : ℕ) → times ≡ cond (nat_lt k n) 1 0 → times ≤ 1
@@ -70,7 +71,7 @@ module _ {T : Type 0} (places : T → List ℕ) (refusals : T → ℕ) (back : T
     stopped_in_part stopped = in_part stopped.none_twice stopped
 
     pub fails_at : (place : ℕ) (error : MakeError) → Refused makers count after place error → FailsToSave places refusals back stores count (map store_of after) (unsaved_at place error)
-    fails_at place error refused = by error within part
+    fails_at place error refused = by error within part lowest
       where
         shares : List (List Asked)
         shares = new_askings asked_of_saving makers after
@@ -85,9 +86,16 @@ module _ {T : Type 0} (places : T → List ℕ) (refusals : T → ℕ) (back : T
             let twice : NoneTwice shares = λ k. at_most_one k count (times_asked k (all_of shares)) (refused.once k) in
             in_part twice (record { back = refused.back; none_twice = twice })
 
-        by : (e : MakeError) → place < count → AreSavedInPart places refusals back stores (map store_of after) → FailsToSave places refusals back stores count (map store_of after) (unsaved_at place e)
-        by make.Refused inside saved = (inside, saved)
-        by make.Memory inside saved = saved
+        lowest : IsLowestUnsaved (new_places places stores (map store_of after)) place
+        lowest =
+            let saved = lowest_unsaved count shares place error refused.once within refused.lowest in
+            subst (λ (l : List T). IsLowestUnsaved (new_places places l (map store_of after)) place) are
+            (subst (λ (l : List (List ℕ)). IsLowestUnsaved l place) (sym (shares_saved places refusals back makers after refused.back.each)) saved)
+
+        by : (e : MakeError) → place < count → AreSavedInPart places refusals back stores (map store_of after) → IsLowestUnsaved (new_places places stores (map store_of after)) place
+            → FailsToSave places refusals back stores count (map store_of after) (unsaved_at place e)
+        by make.Refused inside saved first = (inside, saved, first)
+        by make.Memory inside saved first = saved
 
     -- each head is that of its block
     pub heads_of_blocks : (texts : List NamedText) (stop : List (List ℕ)) (bounds : List ℕ) → All (IsSavingMakerOf texts stop bounds) makers → count + 1 ≡ length bounds

@@ -1,5 +1,5 @@
 -- Building over stores the blocks of a cut: what it writes, which errors come, and what they leave.
-use Rattle.std.proofs.Common.{◌≡◌, ℕ, ◌+◌, ◌<◌, ◌≤◌, ◌^◌, List, [], length, map, Option, refl, ap, subst, arith}
+use Rattle.std.proofs.Common.{◌≡◌, ℕ, ◌+◌, ◌<◌, ◌≤◌, ◌^◌, List, [], length, map, Option, refl, ap, subst, inl, inr, arith}
 use Rattle.std.specs.Prelude.{None, Some, slice_get, slice_set}
 use Rattle.std.specs.Io.KnownBytes.{Keeps}
 use Rattle.ix_text.specs.Collections.{NamedText, collection_of, token_count}
@@ -10,8 +10,8 @@ use Rattle.ix_run.specs.Heads.{heading_of}
 use Rattle.ix_run.specs.declared.head.RunHead.{RunHead}
 use Rattle.ix_merge.specs.Pieces.{LeavesFront}
 use Rattle.ix_build.specs.AlikeFronts.{LeavesAlikeFront, WritesAlike}
-use Rattle.ix_build.specs.Blocks.{AreBounds}
-use Rattle.ix_build.specs.BuiltOver.{AreBlocksSaved, FailsOver, IsBlockPlace}
+use Rattle.ix_build.specs.Blocks.{AreBounds, IsBlockPlace}
+use Rattle.ix_build.specs.BuiltOver.{AreBlocksSaved, FailsOver}
 use Rattle.ix_build.specs.GivenBack.{GivesBlocksBack}
 use Rattle.ix_build.specs.ReadBack.{ComesOfMerging, MayBeMerged, TellBytes, WritesReadBack}
 use Rattle.ix_build.specs.SavedBlocks.{AreHeadsOf, FailsToSave}
@@ -49,7 +49,7 @@ module _ (cut : Cut) (texts : List NamedText) (bounds : List ℕ) (are : AreBoun
     pub fails_saving : (stores after : List T) (before now : Option (List ℕ)) (error : BuildError) → Keeps before now → FailsToSave places refusals back stores count after error
         → FailsOver places refusals back cut texts stores after before now error
     fails_saving stores after before now (Thread worker) keeps fails = (fails, keeps)
-    fails_saving stores after before now (Spill place) keeps fails = (block_place place fails.0, fails.1)
+    fails_saving stores after before now (Spill place) keeps fails = (block_place place fails.0, inl (record { in_part = fails.1; lowest = fails.2; unwritten = keeps }))
     fails_saving stores after before now Write keeps fails = absurd fails
     fails_saving stores after before now Memory keeps fails = fails
 
@@ -67,8 +67,8 @@ module _ (cut : Cut) (texts : List NamedText) (bounds : List ℕ) (are : AreBoun
 
       pub fails_merging : (before now : Option (List ℕ)) (error : BuildError) → ComesOfMerging count error → FailsOver places refusals back cut texts stores (slice_set after 0 new) before now error
       fails_merging before now (Thread worker) comes = absurd comes
-      fails_merging before now (Spill place) comes = (block_place place comes, saved_in_part places refusals back stores count (slice_set after 0 new) in_the_end)
-      fails_merging before now Write comes = saved_in_part places refusals back stores count (slice_set after 0 new) in_the_end
+      fails_merging before now (Spill place) comes = (block_place place comes, inr blocks_saved)
+      fails_merging before now Write comes = blocks_saved
       fails_merging before now Memory comes = saved_in_part places refusals back stores count (slice_set after 0 new) in_the_end
 
       -- what may come back was settled before

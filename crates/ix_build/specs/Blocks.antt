@@ -36,6 +36,12 @@ pub record AreBlocks (cut : Cut) (texts : List NamedText) (blocks : List (List N
   pub not_empty : 0 < length texts → 0 < length last
   pub one : texts ≡ [] → before ≡ []
 
+-- The place is that of a block of the cut.
+pub record IsBlockPlace (cut : Cut) (texts : List NamedText) (place : ℕ) : Type 0 where
+  pub blocks : List (List NamedText)
+  pub of_cut : AreBlocks cut texts blocks
+  pub within : place < length blocks
+
 -- the number of the first element of each block, where the first block begins with this number, and behind them the
 -- number at which the last block ends
 abbrev pub bounds_from : {X : Type 0} → ℕ → List (List X) → List ℕ

@@ -1,5 +1,6 @@
 -- The errors of building a collection: their numbers, their names, as they are printed, and for what each one stands.
 use Rattle.std.specs.Prelude.{ℕ, ◌<◌, List, ◌++◌, codes, decimal}
+use Rattle.ix_text.specs.Collections.{NamedText}
 use Rattle.ix_merge.specs.declared.merge_error.MergeError.{MergeError}
 use Rattle.ix_merge.specs.declared.merge_error.MergeError.TheVariants as merge
 use Rattle.ix_build.specs.declared.build_error.BuildError.{BuildError}
@@ -7,6 +8,8 @@ use Rattle.ix_build.specs.declared.build_error.BuildError.TheVariants.{Thread, S
 use Rattle.ix_build.specs.declared.by_error.ByError.{ByError}
 use Rattle.ix_build.specs.declared.by_error.ByError.TheVariants as by
 use Rattle.ix_build.specs.declared.errors.MakeError.TheVariants as make
+use Rattle.ix_build.specs.Blocks.{IsBlockPlace}
+use Rattle.ix_build.specs.Plans.{PlanValue}
 
 -- an error's place in the list of these errors, from 1
 abbrev pub build_error_number : BuildError → ℕ
@@ -57,7 +60,14 @@ told_of (by.Make place error) = Memory
 told_of (by.Merge error) = told_of_merge error
 told_of by.Memory = Memory
 
--- which errors come: `Thread` of one of so many workers, and `Spill` never
+-- which errors come with runs in a folder: `Thread` of one of the plan's workers, and `Spill` of a block
+abbrev pub IsFolderRefusal : PlanValue → List NamedText → BuildError → Type 0
+IsFolderRefusal plan texts (Thread worker) = worker < plan.workers
+IsFolderRefusal plan texts (Spill place) = IsBlockPlace plan.cut texts place
+IsFolderRefusal plan texts Write = Unit {0}
+IsFolderRefusal plan texts Memory = Unit {0}
+
+-- which errors come with runs in memory: `Thread` of one of so many workers, and `Spill` never
 abbrev pub IsBuildRefusal : ℕ → BuildError → Type 0
 IsBuildRefusal workers (Thread worker) = worker < workers
 IsBuildRefusal workers (Spill place) = ⊥

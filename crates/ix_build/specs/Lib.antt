@@ -10,11 +10,13 @@ pub mod BuiltOver
 pub mod ByErrors
 pub mod Endings
 pub mod Errors
+pub mod FolderStores
 pub mod GivenBack
 pub mod Lowest
 pub mod Outcomes
 pub mod Plans
 pub mod ReadBack
+pub mod RunPaths
 pub mod RunPieces
 pub mod SavedBlocks
 pub mod SavingLaws

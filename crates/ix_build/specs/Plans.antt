@@ -1,16 +1,25 @@
 -- Plans as contracts see them.
-use Rattle.std.specs.Prelude.{ℕ, ◌<◌, ◌≤◌}
+use Rattle.std.specs.Prelude.{ℕ, ◌<◌, ◌≤◌, List, Option, Some, None, string_bytes}
 use Rattle.ix_build.specs.declared.plan.Cut.{Cut}
+use Rattle.ix_build.specs.declared.plan.Runs.{Runs}
+use Rattle.ix_build.specs.declared.plan.Runs.TheVariants.{Memory, Folder}
 use Rattle.ix_build.specs.Blocks.{cut_number}
 
--- how a collection is cut into blocks, and by how many workers these are made
+-- how a collection is cut into blocks, by how many workers these are made, and in which folder their runs are kept, where they
+-- are not kept in memory
 pub record PlanValue : Type 0 where
   pub cut : Cut
   pub workers : ℕ
+  pub folder : Option (List ℕ)
 
 -- the plan of these
-abbrev pub plan_of : Cut → ℕ → PlanValue
-plan_of cut workers = record { cut = cut; workers = workers }
+abbrev pub plan_of : Cut → ℕ → Option (List ℕ) → PlanValue
+plan_of cut workers folder = record { cut = cut; workers = workers; folder = folder }
+
+-- the path of the folder in which runs are kept, or none where they are kept in memory
+abbrev pub folder_of : Runs → Option (List ℕ)
+folder_of Memory = None
+folder_of (Folder path) = Some (string_bytes path)
 
 -- The cut's number is at least 1, and the workers are 1 to 64.
 pub record IsPlan (plan : PlanValue) : Type 0 where

@@ -3,7 +3,7 @@ use Rattle.std.specs.Prelude.{◌≡◌, ℕ, ◌+◌, ◌<◌, List, length, So
 use Rattle.ix_text.specs.Collections.{NamedText}
 use Rattle.ix_run.specs.declared.head.RunHead.{RunHead}
 use Rattle.ix_build.specs.SavingMakers.{IsHeadOfBlock}
-use Rattle.ix_build.specs.Stores.{AreSavedInPart}
+use Rattle.ix_build.specs.Stores.{AreSavedInPart, IsLowestUnsaved, new_places}
 use Rattle.ix_build.specs.declared.build_error.BuildError.{BuildError}
 use Rattle.ix_build.specs.declared.build_error.BuildError.TheVariants.{Thread, Spill, Write, Memory}
 use Rattle.ix_build.specs.declared.errors.MakeError.{MakeError}
@@ -20,9 +20,10 @@ pub record AreHeadsOf (texts : List NamedText) (stop : List (List ℕ)) (bounds 
   pub each : (place : ℕ) (head : RunHead) → slice_get heads place ≡ Some head → IsHeadOfBlock texts stop bounds place head
 
 module _ {T : Type 0} (places : T → List ℕ) (refusals : T → ℕ) (back : T → ℕ → List ℕ → Type 0) where
-  -- What an error tells. After `Thread` nothing is said of the stores, and else none saved a place that another did.
+  -- What an error tells. After `Thread` nothing is said of the stores, and else none saved a place that another did; the
+  -- place of `Spill` is the lowest that was not saved.
   abbrev pub FailsToSave : List T → ℕ → List T → BuildError → Type 0
   FailsToSave before count after (Thread worker) = worker < length before
-  FailsToSave before count after (Spill place) = (place < count) × AreSavedInPart places refusals back before after
+  FailsToSave before count after (Spill place) = (place < count) × AreSavedInPart places refusals back before after × IsLowestUnsaved (new_places places before after) place
   FailsToSave before count after Write = ⊥
   FailsToSave before count after Memory = AreSavedInPart places refusals back before after

@@ -36,6 +36,11 @@ SavedOnce count shares = (place : ℕ) → times_saved place shares ≡ (if nat_
 abbrev pub NoneSavedTwice : List (List ℕ) → Type 0
 NoneSavedTwice shares = (place : ℕ) → times_saved place shares ≤ 1
 
+-- No store saved the place, and each lower one was saved once.
+pub record IsLowestUnsaved (shares : List (List ℕ)) (place : ℕ) : Type 0 where
+  pub unsaved : times_saved place shares ≡ 0
+  pub lower : (other : ℕ) → other < place → times_saved other shares ≡ 1
+
 -- Store w saved place w first, where there is such a place.
 abbrev pub SaveOwnFirst : ℕ → List (List ℕ) → Type 0
 SaveOwnFirst count shares = (w : ℕ) (share : List ℕ) → w < count → slice_get shares w ≡ Some share → slice_get share 0 ≡ Some w

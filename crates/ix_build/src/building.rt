@@ -23,7 +23,8 @@ use std::sync::Wait;
 use std::thread::Threads;
 
 /// Writes the index text, version 2, of a collection under a stop list, whatever the plan: its blocks are inverted by
-/// the plan's workers, each in a thread of its own, and their runs are merged (IIR 4.3).
+/// the plan's workers, each in a thread of its own, and their runs are merged (IIR 4.3). Runs are kept in memory, also
+/// where the plan has a folder for them, which `build_with_files` looks at.
 ///
 /// Fails with `Thread` where a thread cannot be started, before anything is written; with `Write` where a write or the
 /// flush is refused; with `Memory` where memory is. After these a front of an index text is written, perhaps nothing of

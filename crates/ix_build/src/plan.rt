@@ -32,6 +32,8 @@ impl Cut {
 pub enum Runs {
     /// In memory.
     Memory,
+    /// In files of the folder of this path, so that memory holds no more of a run than its head.
+    Folder(String),
 }
 
 /// How a collection is built: its cut into blocks, the number of workers, and where the runs are kept.
@@ -43,24 +45,25 @@ pub struct Plan {
 }
 
 impl Model for Plan {
-    ghost use Rattle.ix_build.specs.Plans.{PlanValue, IsPlan, plan_of};
+    ghost use Rattle.ix_build.specs.Plans.{PlanValue, IsPlan, folder_of, plan_of};
 
     ghost Value = { PlanValue };
 
-    ghost view = { λ plan. plan_of plan.cut plan.workers };
+    ghost view = { λ plan. plan_of plan.cut plan.workers (folder_of plan.runs) };
 
-    ghost invariant = { λ plan. IsPlan (plan_of plan.cut plan.workers) };
+    ghost invariant = { λ plan. IsPlan (plan_of plan.cut plan.workers (folder_of plan.runs)) };
 }
 
 impl Plan {
     ghost use Rattle.std.specs.Prelude.{◌≡◌, ◌<◌, ◌≤◌};
-    ghost use Rattle.std.specs.Option.{SomeIff};
+    ghost use Rattle.std.specs.Option.{SomeIff, option_map};
     ghost use Rattle.ix_build.specs.Blocks.{cut_number};
-    ghost use Rattle.ix_build.specs.Plans.{IsPlan, plan_of};
+    ghost use Rattle.ix_build.specs.Plans.{IsPlan, folder_of, plan_of};
 
     /// The plan of these, or none where the cut's number is 0 or the workers are not 1 to 64.
     pub fn new(cut: Cut, workers: usize, runs: Runs) -> Option<Plan>
-        ensures { SomeIff result (IsPlan (plan_of cut workers)) (plan_of cut workers) }
+        ensures { SomeIff result (IsPlan (plan_of cut workers (folder_of runs)))
+            (plan_of cut workers (folder_of runs)) }
     {
         if cut.number() == 0 || workers == 0 || workers > 64 {
             return None;
@@ -82,6 +85,16 @@ impl Plan {
         ensures few { (0 < result) × (result ≤ 64) }
     {
         self.workers
+    }
+
+    /// The path of the folder in which runs are kept, or none where they are kept in memory.
+    pub fn folder(&self) -> Option<&str>
+        ensures { option_map (λ path. path.now) result ≡ self.now.folder }
+    {
+        match &self.runs {
+            Runs::Memory => None,
+            Runs::Folder(path) => Some(path.as_str()),
+        }
     }
 }
 
@@ -107,6 +120,10 @@ mod tests {
         let plan = Plan::new(Cut::Bytes(7), 3, Runs::Memory).ok_or("none")?;
         assert_eq!(rt; plan.cut(), Cut::Bytes(7));
         assert_eq!(rt; plan.workers(), 3);
+        assert_eq!(rt; plan.folder(), None);
+        let folder = Runs::Folder(String::from_str(rt.alloc(), "runs")?);
+        let plan = Plan::new(Cut::Docs(1), 64, folder).ok_or("none")?;
+        assert_eq!(rt; plan.folder(), Some("runs"));
         Ok(())
     }
 }

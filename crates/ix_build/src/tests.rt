@@ -12,6 +12,7 @@ use std::test::Fail;
 mod building;
 mod building_over;
 mod by_makers;
+mod folders;
 
 const FIVE_DOCUMENTS: &[u8] = b"a\tx y\nb\ty\nc\t\nd\ty x y\ne\tx\n";
 

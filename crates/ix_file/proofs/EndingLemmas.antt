@@ -10,7 +10,7 @@ use Rattle.ix_text.proofs.SinkLemmas.{appends_then, appends_keeps}
 use Rattle.ix_file.proofs.SpellLemmas.{all_spelled}
 use Rattle.ix_file.specs.Endings.{IsEnding, IsFinished, WritesIndexText, trailer_bytes, trailer_of}
 use Rattle.ix_file.specs.Grams.{AreGramsOfTerms, AppendsGrams}
-use Rattle.ix_file.specs.HeldGrams.{HoldsGrams}
+use Rattle.ix_file.specs.GramTables.{HoldsGrams}
 use Rattle.ix_file.specs.IndexText.{IsIndexText, end_mark, layout, tail}
 use Rattle.ix_file.specs.SectionSteps.{Closes, KeepsTold}
 use Rattle.ix_file.specs.Sections.{FrontCoded, postings_section, stop_section, documents_section, dictionary_section, grams_section}

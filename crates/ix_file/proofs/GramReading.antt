@@ -13,15 +13,15 @@ use Rattle.ix_vbyte.proofs.Gaps.{Ascends-wider, length-Ascends, length-gaps_from
 use Rattle.ix_vbyte.proofs.Texts.{counted-apart}
 use Rattle.ix_vbyte.proofs.Values.{some_code_byte, code_of-apart}
 use Rattle.ix_vbyte.proofs.Walks.{positions_from, Told}
-use Rattle.ix_file.specs.declared.grams.GramPair.{GramPair}
+use Rattle.ix_file.specs.declared.open.pairs.GramPair.{GramPair}
 use Rattle.ix_file.specs.declared.open.dictionary.TermRow.{TermRow}
 use Rattle.ix_file.specs.declared.open.grams.GramRow.{GramRow}
 use Rattle.ix_file.specs.Grams.{IsGramOfTerm}
-use Rattle.ix_file.specs.HeldGrams.{gram_of}
+use Rattle.ix_file.specs.WindowPairs.{gram_of}
 use Rattle.ix_file.specs.OpenedGrams.{AreNumbersOf, IsGramRow, IsRightEntry, gap_codes, gram_bytes, gram_in, terms_in}
 use Rattle.ix_file.proofs.GramTexts.{HasCharacters, gram_characters, gram_is_text}
 use Rattle.ix_file.proofs.PairCounts.{text_of}
-use Rattle.ix_file.specs.GramEntries.{entry}
+use Rattle.ix_file.specs.GramTables.{entry}
 use Rattle.ix_file.proofs.RowReading.{named, part_at}
 
 -- ---- what stands at the front is one thing

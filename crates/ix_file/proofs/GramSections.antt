@@ -12,7 +12,7 @@ use Rattle.ix_vbyte.specs.Texts.{counted}
 use Rattle.ix_vbyte.proofs.Texts.{counted-apart}
 use Rattle.ix_vbyte.proofs.Values.{some_code_byte, code_of-apart}
 use Rattle.ix_file.specs.declared.open.grams.GramRow.{GramRow}
-use Rattle.ix_file.specs.GramEntries.{entry}
+use Rattle.ix_file.specs.GramTables.{entry}
 use Rattle.ix_file.specs.Grams.{AreGramsOfTerms}
 use Rattle.ix_file.specs.OpenedGrams.{IsGramRow, IsRightEntry, gap_codes, gram_bytes, gram_in, grams_in}
 use Rattle.ix_file.specs.Sections.{grams_section}

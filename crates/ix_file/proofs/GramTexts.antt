@@ -8,8 +8,8 @@ use Rattle.std.specs.Str.{chars}
 use Rattle.ix_text.proofs.AscendingLists.{contains_cases, contains_none}
 use Rattle.ix_text.specs.Terms.{IsTerm}
 use Rattle.ix_text.specs.Windows.{grams_of}
-use Rattle.ix_file.specs.declared.grams.GramPair.{GramPair}
-use Rattle.ix_file.specs.HeldGrams.{gram_of, pairs_of}
+use Rattle.ix_file.specs.declared.open.pairs.GramPair.{GramPair}
+use Rattle.ix_file.specs.WindowPairs.{gram_of, pairs_of}
 use Rattle.ix_file.proofs.HeldLemmas.{chars-marked, term_has}
 use Rattle.ix_file.proofs.TermPairs.{pair}
 

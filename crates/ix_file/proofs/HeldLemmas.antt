@@ -1,13 +1,12 @@
 -- The pairs that are held are the trigram relation of the terms, from one term to the next.
 use Rattle.std.proofs.Common.{◌≡◌, ℕ, zero, suc, ◌↔◌, ◌⊎◌, inl, inr, List, [], ◌∷◌, ◌++◌, map, length, Contains, slice_get, Some, IsUtf8, refl, sym, ap, subst, ◌∙◌, arith}
-use Rattle.std.proofs.lemmas.List.Elements.{Contains-append_left, Contains-append_right, Contains-append_cases}
 use Rattle.std.proofs.lemmas.Str.{chars-append, chars-nil}
 use Rattle.std.specs.Str.{chars, encode_utf8_all}
 use Rattle.ix_text.proofs.AscendingLists.{contains_cases, contains_none, contains_map, contained_from_map}
 use Rattle.ix_text.specs.Windows.{windows_of_three, trigram_list, grams_of}
-use Rattle.ix_file.specs.declared.grams.GramPair.{GramPair}
+use Rattle.ix_file.specs.declared.open.pairs.GramPair.{GramPair}
 use Rattle.ix_file.specs.Grams.{IsGramOfTerm}
-use Rattle.ix_file.specs.HeldGrams.{HasPair, gram_of, pairs_of, pairs_of_term}
+use Rattle.ix_file.specs.WindowPairs.{HasPair, gram_of, pairs_of, pairs_of_term}
 
 -- ---- a list with one element more
 
@@ -79,29 +78,26 @@ term_has number term g n text =
 
 -- ---- one term more
 
-pub none_held : (g : List ℕ) (n : ℕ) → HasPair [] g n ↔ IsGramOfTerm [] g n
-none_held g n = (λ has. absurd (contains_none has.pair has.among), λ is. absurd (let none = is.numbered in cc))
+-- the relation of some terms, and the windows of the next one so far
+abbrev pub SeenToo : List (List ℕ) → List GramPair → List ℕ → ℕ → Type 0
+SeenToo terms seen gram number = IsGramOfTerm terms gram number ⊎ HasPair seen gram number
 
-pub more_held : (pairs : List GramPair) (terms : List (List ℕ)) (number : ℕ) (term : List ℕ) → number ≡ length terms → IsUtf8 term
-    → ((g : List ℕ) (n : ℕ) → HasPair pairs g n ↔ IsGramOfTerm terms g n)
-    → (g : List ℕ) (n : ℕ) → HasPair (pairs ++ pairs_of_term number term) g n ↔ IsGramOfTerm (terms ++ term ∷ []) g n
-more_held pairs terms number term counted text held g n = (
+pub none_related : (g : List ℕ) (n : ℕ) → ¬ (IsGramOfTerm [] g n)
+none_related g n is = let none = is.numbered in cc
+
+pub more_related : (terms : List (List ℕ)) (number : ℕ) (term : List ℕ) → number ≡ length terms → IsUtf8 term
+    → (g : List ℕ) (n : ℕ) → SeenToo terms (pairs_of_term number term) g n ↔ IsGramOfTerm (terms ++ term ∷ []) g n
+more_related terms number term counted text g n = (
   λ has.
-      elim (Contains-append_cases pairs (pairs_of_term number term) has.pair has.among) [
-        | inl before ↦
-            let is = (held g n).0 (record { pair = has.pair; among = before; spelled = has.spelled; numbered = has.numbered }) in
-            record { term = is.term; numbered = get-push_before terms term is.term n is.numbered; windowed = is.windowed }
+      elim has [
+        | inl is ↦ record { term = is.term; numbered = get-push_before terms term is.term n is.numbered; windowed = is.windowed }
         | inr new ↦
-            let (last, windowed) = (term_has number term g n text).0 (record { pair = has.pair; among = new; spelled = has.spelled; numbered = has.numbered }) in
+            let (last, windowed) = (term_has number term g n text).0 new in
             record { term = term; numbered = get-push_last terms term n (last ∙ counted); windowed = windowed }
       ],
   λ is.
       elim (get-push_cases terms term is.term n is.numbered) [
-        | inl before ↦
-            let has = (held g n).1 (record { term = is.term; numbered = before; windowed = is.windowed }) in
-            record { pair = has.pair; among = Contains-append_left pairs (pairs_of_term number term) has.pair has.among; spelled = has.spelled; numbered = has.numbered }
-        | inr (last, same) ↦
-            let has = (term_has number term g n text).1 (last ∙ sym counted, subst (λ (t : List ℕ). Contains (grams_of t) g) (sym same) is.windowed) in
-            record { pair = has.pair; among = Contains-append_right pairs (pairs_of_term number term) has.pair has.among; spelled = has.spelled; numbered = has.numbered }
+        | inl before ↦ inl (record { term = is.term; numbered = before; windowed = is.windowed })
+        | inr (last, same) ↦ inr ((term_has number term g n text).1 (last ∙ sym counted, subst (λ (t : List ℕ). Contains (grams_of t) g) (sym same) is.windowed))
       ],
 )

@@ -8,7 +8,6 @@ pub mod DictionaryTold
 pub mod DistinctClaims
 pub mod EndingLemmas
 pub mod EntryBytes
-pub mod EntryLemmas
 pub mod FrameReading
 pub mod Framing
 pub mod FrontCodedReading
@@ -19,6 +18,7 @@ pub mod GramLists
 pub mod GramLookUp
 pub mod GramNumbers
 pub mod GramOrder
+pub mod GramNotes
 pub mod GramReading
 pub mod GramSections
 pub mod GramTexts

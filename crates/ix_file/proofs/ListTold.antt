@@ -13,7 +13,7 @@ use Rattle.ix_text.specs.Sinks.{AppendsFront}
 use Rattle.ix_file.specs.IndexText.{magic}
 use Rattle.ix_file.specs.Sections.{FrontCoded, postings_section}
 use Rattle.ix_file.specs.Told.{Told, entries_of, settled_front, listed, with_postings, position_total}
-use Rattle.ix_file.specs.HeldGrams.{HoldsGrams}
+use Rattle.ix_file.specs.GramTables.{HoldsGrams}
 use Rattle.ix_file.specs.SectionSteps.{Counts, KeepsTold}
 use Rattle.ix_file.specs.Telling.{IsDictionaryOf, IsListOfEntry, SectionsTold, Spells, MayPost, MayList, CanList}
 use Rattle.ix_file.specs.declared.put_error.PutError.{PutError}

@@ -1,6 +1,6 @@
 -- How what a writer keeps follows what it is told.
 use Rattle.std.proofs.Common.{◌≡◌, ℕ, ◌+◌, ◌-◌, ◌*◌, ◌^◌, ◌<◌, ◌≤◌, List, [], ◌∷◌, ◌++◌, Option, length, sum_by, sym, ap, ◌∙◌, subst, arith, MatchOption}
-use Rattle.std.proofs.lemmas.List.{append-nil, map-append}
+use Rattle.std.proofs.lemmas.List.{append-nil, length-map, map-append}
 use Rattle.std.proofs.lemmas.List.Sums.{sum_by-append}
 use Rattle.std.proofs.lemmas.List.Concat.{flat_map-append}
 use Rattle.ix_vbyte.specs.Gaps.{Ascends}
@@ -11,7 +11,7 @@ use Rattle.ix_text.specs.Parts.{DictionaryEntry, terms_of}
 use Rattle.ix_file.specs.IndexText.{magic}
 use Rattle.ix_file.specs.Sections.{FrontCoded, postings_section}
 use Rattle.ix_file.specs.Told.{Told, entries_of, settled_front, with_term, position_total}
-use Rattle.ix_file.specs.HeldGrams.{HoldsGrams}
+use Rattle.ix_file.specs.GramTables.{HoldsGrams}
 use Rattle.ix_file.specs.SectionSteps.{Closes, Opens, KeepsTold}
 use Rattle.ix_file.specs.Telling.{IsDictionaryOf, IsListOfEntry, SectionsTold, Spells, IsClosable, CanClose}
 use Rattle.ix_file.specs.declared.put_error.PutError.{PutError}
@@ -136,3 +136,17 @@ short_at_hand old taken refusal can e =
     let short : length old.list.term.items ≤ 255 = can.kept.short in
     let same : length taken.list.term.items ≡ length old.list.term.items = ap (λ s. length s.list.term.items) e in
     omega arith
+
+-- the grams of the terms so far, which are few
+pub grams_told : (old taken closed : Sections) (refusal : Option PutError) → CanClose old → taken ≡ record old { refusal = refusal } → Closes taken closed → (terms : List (List ℕ)) × HoldsGrams closed.grams terms × (length terms < 2 ^ 32 - 1)
+grams_told old taken closed refusal can e closes =
+    let told = can.told in
+    let kept = can.kept in
+    let entries = entries_of told in
+    let few : length entries ≤ old.dictionary.count + old.list.documents = entries_closed old.dictionary.count old.list told.done told.at_hand kept.dictionary.count kept.list can.may in
+    let few_documents : old.dictionary.count + old.list.documents ≤ position_total entries = kept.few_documents in
+    let few_positions : position_total entries ≤ 2 ^ 28 = kept.few_positions in (
+      terms_of entries,
+      subst (λ grams. HoldsGrams grams (terms_of entries)) (sym (closes.grams ∙ ap (λ s. s.grams) e)) kept.grams,
+      omega (arith, few, few_documents, few_positions, length-map entries (λ (entry : DictionaryEntry). entry.term)),
+    )

@@ -4,8 +4,8 @@ use Rattle.std.specs.Char.{encode_utf8}
 use Rattle.std.specs.Str.{chars}
 use Rattle.std.proofs.lemmas.List.{take_at}
 use Rattle.std.proofs.lemmas.Str.{chars-nil, chars_past_char, IsUtf8-past_char}
-use Rattle.ix_file.specs.declared.grams.GramPair.{GramPair}
-use Rattle.ix_file.specs.HeldGrams.{pairs_of, pairs_of_term}
+use Rattle.ix_file.specs.declared.open.pairs.GramPair.{GramPair}
+use Rattle.ix_file.specs.WindowPairs.{pairs_of, pairs_of_term}
 
 abbrev pub pair : ℕ → ℕ → ℕ → ℕ → GramPair
 pair number first second third = record { first = first; second = second; third = third; number = number }

@@ -2,11 +2,10 @@ pub mod Claimed
 pub mod Dictionaries
 pub mod Endings
 pub mod Frames
-pub mod GramEntries
 pub mod GramLaws
 pub mod GramPairs
+pub mod GramTables
 pub mod Grams
-pub mod HeldGrams
 pub mod IndexText
 pub mod Laws
 pub mod Listings
@@ -32,4 +31,5 @@ pub mod TellingLaws
 pub mod TermReading
 pub mod TermTexts
 pub mod Told
+pub mod WindowPairs
 pub mod Writers

@@ -5,7 +5,7 @@ use Rattle.ix_file.specs.IndexText.{magic}
 use Rattle.ix_file.specs.Sections.{FrontCoded, stop_section, documents_section}
 use Rattle.ix_file.specs.declared.sections.Sections.{Sections}
 use Rattle.ix_file.specs.Dictionaries.{GainsEntry}
-use Rattle.ix_file.specs.HeldGrams.{HoldsGrams}
+use Rattle.ix_file.specs.GramTables.{HoldsGrams}
 
 -- nothing was told
 pub record IsEmpty (sections : Sections) : Type 0 where

@@ -7,7 +7,7 @@ use Rattle.ix_text.specs.Parts.{DictionaryEntry, terms_of}
 use Rattle.ix_text.specs.PartsLaws.{position_count}
 use Rattle.ix_file.specs.Sections.{FrontCoded, postings_section, stop_section, documents_section, dictionary_section}
 use Rattle.ix_file.specs.Told.{Told, entries_of, settled_front, position_total}
-use Rattle.ix_file.specs.HeldGrams.{HoldsGrams}
+use Rattle.ix_file.specs.GramTables.{HoldsGrams}
 use Rattle.ix_file.specs.declared.dictionary.Dictionary.{Dictionary}
 use Rattle.ix_file.specs.declared.list.ListAtHand.{ListAtHand}
 use Rattle.ix_file.specs.declared.sections.Sections.{Sections}

@@ -49,7 +49,7 @@ impl Sections {
     ghost use Rattle.ix_file.specs.declared.put_error.PutError.TheVariants.{Failed};
     ghost use Rattle.ix_file.specs.declared.put_error.PutError.{PutError};
     ghost use Rattle.ix_file.specs.Endings.{IsEnding};
-    ghost use Rattle.ix_file.specs.HeldGrams.{HoldsGrams};
+    ghost use Rattle.ix_file.specs.GramTables.{HoldsGrams};
     ghost use Rattle.ix_file.specs.SectionSteps.{IsEmpty, Begins, Closes, Opens, Counts};
 
     /// What is kept before anything is told. Takes no memory.
@@ -116,11 +116,12 @@ impl Sections {
 
     /// Has a term without postings at hand.
     pub(crate) fn open(&mut self, term: &str) -> Result<(), AllocError>
-        requires { self.old.grams.terms < 2 ^ 32 - 1 }
+        requires { (terms : List (List ℕ)) × HoldsGrams self.old.grams terms
+            × (length terms < 2 ^ 32 - 1) }
         ensures opened { OnOk result (Opens self.old self.new term.now) }
         ensures refusal { self.new.refusal ≡ self.old.refusal }
     {
-        self.grams.push_term(term)?;
+        self.grams.push_term(*self.stop.allocator(), term)?;
         self.list.term.clear();
         self.list.term.extend_from_slice(term.as_bytes())
     }

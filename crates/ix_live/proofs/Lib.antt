@@ -1,3 +1,4 @@
+pub mod Agreeing
 pub mod Appending
 pub mod Beginnings
 pub mod Falling

@@ -144,12 +144,12 @@ module _ (stop : List (List ℕ)) (segments : List (Option Segment)) (entries : 
   pub count_stored : count ≡ length (documents_added operations)
   count_stored = stored.counted ∙ ap length rows_stored ∙ length-map (documents_added operations) row_of
 
-  pub refused_addition : (documents : List Document) (error : LiveError) → RefusesDocuments (length (rows_in segments)) tokens documents error → RefusesAddition operations documents error
-  refused_addition documents error h =
+  pub refused_addition : (workers : ℕ) (documents : List Document) (error : LiveError) → RefusesDocuments workers (length (rows_in segments)) tokens documents error → RefusesAddition workers operations documents error
+  refused_addition workers documents error h =
       let size : length (rows_in segments) ≡ length (documents_added operations) = ap length rows_stored ∙ length-map (documents_added operations) row_of in
       let all : tokens ≡ tokens_of (documents_added operations) = stored.tokens_counted ∙ ap tokens_in rows_stored in
-      subst (λ (n : ℕ). RefusesDocuments n (tokens_of (documents_added operations)) documents error) size
-      (subst (λ (n : ℕ). RefusesDocuments (length (rows_in segments)) n documents error) all h)
+      subst (λ (n : ℕ). RefusesDocuments workers n (tokens_of (documents_added operations)) documents error) size
+      (subst (λ (n : ℕ). RefusesDocuments workers (length (rows_in segments)) n documents error) all h)
 
   pub too_many : (documents : List Document) (size : ℕ) → size ≡ length documents → 2 ^ 28 < count + size → 2 ^ 28 < length (documents_added operations) + length documents
   too_many documents size is h = omega (arith, is, h, count_stored)
@@ -158,11 +158,11 @@ module _ (stop : List (List ℕ)) (segments : List (Option Segment)) (entries : 
   entries_counted = sym (length-map operations entry_of) ∙ ap length stored.cut
 
 -- the first errors are those of each addition
-pub refused_by_building : (count tokens : ℕ) (documents : List Document) (error : LiveError) → IsOfBuilding error → RefusesDocuments count tokens documents error
-refused_by_building count tokens documents (Build error) h = tt
-refused_by_building count tokens documents TooLarge h = absurd h
-refused_by_building count tokens documents Memory h = tt
-refused_by_building count tokens documents (Number number) h = absurd h
+pub refused_by_building : (workers count tokens : ℕ) (documents : List Document) (error : LiveError) → IsOfBuilding workers error → RefusesDocuments workers count tokens documents error
+refused_by_building workers count tokens documents (Build error) h = h
+refused_by_building workers count tokens documents TooLarge h = absurd h
+refused_by_building workers count tokens documents Memory h = tt
+refused_by_building workers count tokens documents (Number number) h = absurd h
 
 pub addition_none : (operations : List Operation) (documents : List Document) → length documents ≡ 0 → operations ≡ operations ++ addition_of documents
 addition_none operations [] none = sym (append-nil operations)

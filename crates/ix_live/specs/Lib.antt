@@ -1,12 +1,15 @@
 pub mod Findings
 pub mod Growing
 pub mod Histories
+pub mod Identities
+pub mod Indexers
 pub mod LiveErrors
 pub mod Logs
 pub mod NameErrors
 pub mod Names
 pub mod Operations
 pub mod Pieces
+pub mod Searchers
 pub mod Segments
 pub mod StateScans
 pub mod Tables

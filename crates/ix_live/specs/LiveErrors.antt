@@ -1,7 +1,9 @@
 -- The errors of operations on a live index: their numbers, their names, as they are printed, and for what each one stands.
-use Rattle.std.specs.Prelude.{◌≡◌, ℕ, ◌+◌, ◌^◌, ◌<◌, ◌≤◌, ◌⊎◌, List, ◌++◌, length, codes, decimal}
+use Rattle.std.specs.Prelude.{◌≡◌, ◌≢◌, ℕ, ◌+◌, ◌^◌, ◌<◌, ◌≤◌, ◌⊎◌, List, ◌++◌, length, codes, decimal}
 use Rattle.ix_text.specs.Collections.{Document}
-use Rattle.ix_build.specs.BuildErrors.{build_error_name}
+use Rattle.ix_build.specs.BuildErrors.{IsBuildRefusal, build_error_name}
+use Rattle.ix_build.specs.declared.build_error.BuildError.{BuildError}
+use Rattle.ix_build.specs.declared.build_error.BuildError.TheVariants.{Write}
 use Rattle.ix_live.specs.Growing.{tokens_of}
 use Rattle.ix_live.specs.Operations.{Operation, documents_added}
 use Rattle.ix_live.specs.declared.live_error.LiveError.{LiveError}
@@ -21,24 +23,28 @@ live_error_name TooLarge = codes "TooLarge"
 live_error_name Memory = codes "Memory"
 live_error_name (Number document) = codes "Number(" ++ (decimal document ++ codes ")")
 
--- documents are not built
-abbrev pub IsOfBuilding : LiveError → Type 0
-IsOfBuilding (Build error) = Unit {0}
-IsOfBuilding TooLarge = ⊥
-IsOfBuilding Memory = Unit {0}
-IsOfBuilding (Number document) = ⊥
+-- so many workers did not build documents into memory for this reason, which is no refused write
+abbrev pub RefusesBuilding : ℕ → BuildError → Type 0
+RefusesBuilding workers error = IsBuildRefusal workers error × (error ≢ Write)
 
--- documents are not added to so many documents of so many tokens for this reason: they are not built, or would be too
--- many, or have too many tokens, or memory was refused
-abbrev pub RefusesDocuments : ℕ → ℕ → List Document → LiveError → Type 0
-RefusesDocuments count tokens documents (Build error) = Unit {0}
-RefusesDocuments count tokens documents TooLarge = (2 ^ 28 < count + length documents) ⊎ (2 ^ 28 < tokens + tokens_of documents)
-RefusesDocuments count tokens documents Memory = Unit {0}
-RefusesDocuments count tokens documents (Number document) = ⊥
+-- documents are not built by so many workers
+abbrev pub IsOfBuilding : ℕ → LiveError → Type 0
+IsOfBuilding workers (Build error) = RefusesBuilding workers error
+IsOfBuilding workers TooLarge = ⊥
+IsOfBuilding workers Memory = Unit {0}
+IsOfBuilding workers (Number document) = ⊥
 
--- documents are not added behind those of operations for this reason
-abbrev pub RefusesAddition : List Operation → List Document → LiveError → Type 0
-RefusesAddition operations documents = RefusesDocuments (length (documents_added operations)) (tokens_of (documents_added operations)) documents
+-- documents are not added by so many workers to so many documents of so many tokens for this reason: they are not built,
+-- or would be too many, or have too many tokens, or memory was refused
+abbrev pub RefusesDocuments : ℕ → ℕ → ℕ → List Document → LiveError → Type 0
+RefusesDocuments workers count tokens documents (Build error) = RefusesBuilding workers error
+RefusesDocuments workers count tokens documents TooLarge = (2 ^ 28 < count + length documents) ⊎ (2 ^ 28 < tokens + tokens_of documents)
+RefusesDocuments workers count tokens documents Memory = Unit {0}
+RefusesDocuments workers count tokens documents (Number document) = ⊥
+
+-- documents are not added by so many workers behind those of operations for this reason
+abbrev pub RefusesAddition : ℕ → List Operation → List Document → LiveError → Type 0
+RefusesAddition workers operations documents = RefusesDocuments workers (length (documents_added operations)) (tokens_of (documents_added operations)) documents
 
 -- a number is not removed from so many documents for this reason: there is none of that number, or memory was refused
 abbrev pub RefusesRemoval : ℕ → ℕ → LiveError → Type 0

@@ -52,8 +52,8 @@ pub fn grow<R: Threads + Wait + Sync>(
     ensures tokens { IfOk result (λ grown.
         grown.tokens ≡ tokens_of (documents_under stop.now documents.now)) }
     ensures few { IfOk result (λ grown. tokens + grown.tokens ≤ 2 ^ 28) }
-    ensures refused { IfErr result (RefusesDocuments (length (rows_in table.now)) tokens
-        (documents_under stop.now documents.now)) }
+    ensures refused { IfErr result (RefusesDocuments plan.now.workers
+        (length (rows_in table.now)) tokens (documents_under stop.now documents.now)) }
 {
     let volume = match build_volume(rt, alloc, documents, stop, plan) {
         Ok(volume) => volume,

@@ -1,29 +1,41 @@
-//! The live index: documents are added and removed while it is searched. A `Version` is a live index at one point of
-//! its history, the list of the operations so far: it answers queries from segments, which are merged by generations,
-//! and a copy of it shares them. Histories of one log are beginnings of one another. The threads above it, one that
-//! grows a version and others that answer from copies, are not written yet.
+//! The live index: it is searched while it grows. `live` makes an indexer and searchers. The indexer adds documents,
+//! removes documents and publishes; searchers answer, each in a thread of its own if it likes, from histories that never
+//! go back and that begin with all of which they were told. A `Version` is a live index at one point of its history, the
+//! list of the operations so far: it answers queries from segments, which are merged by generations, and a copy of it
+//! shares them. Two copies between the threads each show a version.
 #![tactic(auto)]
 
 mod entry;
 mod finding;
 mod front;
 mod growing;
+mod indexer;
 mod laws;
 mod live_error;
 mod log;
 mod merging;
 mod name_error;
 mod naming;
+mod news;
+mod opening;
 mod removing;
+mod rule;
+mod searcher;
 mod segment;
+mod showing;
+mod shown;
 mod table;
 mod version;
 
 pub use front::Front;
+pub use indexer::Indexer;
 pub use laws::a_state_has_one_scan;
 pub use live_error::LiveError;
 pub use log::Head;
 pub use name_error::NameError;
+pub use news::News;
+pub use opening::live;
+pub use searcher::Searcher;
 pub use version::Version;
 
 #[cfg(test)]

@@ -27,7 +27,7 @@ pub fn build_volume<R: Threads + Wait + Sync>(
 ) -> Result<Volume, LiveError>
     ensures built { IfOk result (λ volume.
         IsIndexOf volume FrontCoded (collection_of stop.now documents.now)) }
-    ensures refused { IfErr result IsOfBuilding }
+    ensures refused { IfErr result (IsOfBuilding plan.now.workers) }
 {
     let mut bytes = Vec::new(alloc);
     match build(rt, alloc, documents, stop, plan, &mut bytes) {

@@ -95,6 +95,14 @@ impl Version {
         })
     }
 
+    /// A copy that is shared from the start.
+    pub fn share(&self, alloc: Global) -> Result<Arc<Version, Global>, Memory>
+        ensures { IfOk result (λ shared. arc_value shared ≡ self.now) }
+    {
+        let copy = self.copy(alloc)?;
+        Ok(Arc::new(alloc, copy)?)
+    }
+
     /// Adds documents behind all others. A collection without documents changes nothing.
     ///
     /// `Build` where the documents are not built, `TooLarge` where there would be more than 2^28 documents or tokens,
@@ -114,8 +122,8 @@ impl Version {
         ensures added { OnOk result (self.new.history.operations ≡ self.old.history.operations
             ++ addition_of (documents_under self.old.stop documents.now)) }
         ensures kept { OnErr result (self.new ≡ self.old) }
-        ensures error { IfErr result (RefusesAddition self.old.history.operations
-            (documents_under self.old.stop documents.now)) }
+        ensures error { IfErr result (RefusesAddition plan.now.workers
+            self.old.history.operations (documents_under self.old.stop documents.now)) }
     {
         let count = documents.docs().len();
         if count == 0 {

@@ -2,6 +2,7 @@ pub mod Behind
 pub mod Closing
 pub mod Covering
 pub mod Enclosed
+pub mod Faulting
 pub mod GramsExist
 pub mod IndexSources
 pub mod KeyOrder

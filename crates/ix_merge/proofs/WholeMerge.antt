@@ -2,6 +2,7 @@
 use Rattle.std.proofs.Common.{◌≡◌, ℕ, ◌<◌, ◌≤◌, ◌^◌, List, [], length, map, Option, None, Result, Ok, Err, OnErr, All, inl, inr, sym, subst, arith}
 use Rattle.std.proofs.lemmas.Bool.{cases_lt}
 use Rattle.std.proofs.lemmas.List.Elements.{All-map, All-weaker}
+use Rattle.std.proofs.lemmas.Option.{slice_get_within}
 use Rattle.ix_text.specs.Collections.{Collection, IsLawful, IsName}
 use Rattle.ix_text.specs.Parts.{ArePartsOf, DictionaryEntry, DocumentRow, GramEntry, terms_of}
 use Rattle.ix_text.specs.Sinks.{AppendsFront}
@@ -15,10 +16,10 @@ use Rattle.ix_file.specs.declared.row.DocRow.{DocRow}
 use Rattle.ix_file.specs.declared.sections.Sections.{Sections}
 use Rattle.ix_file.specs.declared.writer.IndexWriter.{IndexWriter}
 use Rattle.ix_run.specs.Heads.{Heading, IsLawfulHeading}
-use Rattle.ix_run.specs.Sources.{Giving, IsLawfulFront, IsUnread, Yielding}
+use Rattle.ix_run.specs.Sources.{Faulting, Giving, IsLawfulFront, IsUnread, Yielding}
 use Rattle.ix_merge.specs.Beginnings.{BeginsWith}
 use Rattle.ix_merge.specs.Covers.{Cover}
-use Rattle.ix_merge.specs.Merging.{AreApart, IsRefusalOf, TellsAll}
+use Rattle.ix_merge.specs.Merging.{AreApart, IsOfWriter, IsRefusalOf, TellsAll}
 use Rattle.ix_merge.specs.Pieces.{WritesConcatenation, WritesFront}
 use Rattle.ix_merge.specs.Refusals.{AreMergeable, IsRefusal}
 use Rattle.ix_merge.specs.Rows.{AreRowsOf}
@@ -59,14 +60,24 @@ covered_apart hs count cover n =
     ]
 
 -- a refusal of a source, of a write or of memory
-pub late_refusal : {E : Type 0} (hs : List Heading) (count : ℕ) (error : MergeError E) → AreMergeable hs → count ≤ length hs → IsRefusalOf count error → IsRefusal hs error
-late_refusal hs count (Gap n) mergeable few late = absurd late
-late_refusal hs count (Overlap n) mergeable few late = absurd late
-late_refusal hs count StopDiffers mergeable few late = absurd late
-late_refusal hs count (Source place error) mergeable few late = (mergeable, omega (arith, few, late))
-late_refusal hs count TooLarge mergeable few late = absurd late
-late_refusal hs count Write mergeable few late = mergeable
-late_refusal hs count Memory mergeable few late = tt
+pub late_refusal : {S E : Type 0} (hs : List Heading) (faults : Faulting S E) (sources : List S) (error : MergeError E) → AreMergeable hs → length sources ≤ length hs → IsRefusalOf faults sources error → IsRefusal hs error
+late_refusal hs faults sources (Gap n) mergeable few late = absurd late
+late_refusal hs faults sources (Overlap n) mergeable few late = absurd late
+late_refusal hs faults sources StopDiffers mergeable few late = absurd late
+late_refusal hs faults sources (Source place error) mergeable few late = (mergeable, omega (arith, few, slice_get_within sources place late.source late.is))
+late_refusal hs faults sources TooLarge mergeable few late = absurd late
+late_refusal hs faults sources Write mergeable few late = mergeable
+late_refusal hs faults sources Memory mergeable few late = tt
+
+-- a refusal of a write or of memory, at the end
+pub writer_refusal : {E : Type 0} (hs : List Heading) (error : MergeError E) → AreMergeable hs → IsOfWriter error → IsRefusal hs error
+writer_refusal hs (Gap n) mergeable late = absurd late
+writer_refusal hs (Overlap n) mergeable late = absurd late
+writer_refusal hs StopDiffers mergeable late = absurd late
+writer_refusal hs (Source place error) mergeable late = absurd late
+writer_refusal hs TooLarge mergeable late = absurd late
+writer_refusal hs Write mergeable late = mergeable
+writer_refusal hs Memory mergeable late = tt
 
 pub on_err : {T E P : Type 0} (result : Result T E) → P → OnErr result P
 on_err (Ok value) p = tt

@@ -1,14 +1,17 @@
 -- The merging of sources' terms: what it needs of the sources and of the writer, and what it tells.
-use Rattle.std.specs.Prelude.{◌≡◌, ℕ, ◌<◌, ◌≤◌, List, [], Option, ⊤}
+use Rattle.std.specs.Prelude.{◌≡◌, ℕ, ◌<◌, ◌≤◌, List, [], length, slice_index_or, Option, ⊤}
 use Rattle.ix_file.specs.Telling.{IsClosable}
 use Rattle.ix_file.specs.Told.{Told, entries_of}
 use Rattle.ix_file.specs.Writers.{WasTold}
 use Rattle.ix_file.specs.declared.sections.Sections.{Sections}
 use Rattle.ix_file.specs.declared.writer.IndexWriter.{IndexWriter}
 use Rattle.ix_run.specs.Heads.{Heading}
-use Rattle.ix_run.specs.Sources.{Yielding}
+use Rattle.ix_run.specs.declared.listed.ListError.{ListError}
+use Rattle.ix_run.specs.declared.listed.ListError.TheVariants as list
+use Rattle.ix_run.specs.Sources.{Faulting, Yielding}
 use Rattle.ix_merge.specs.Covers.{times_covered}
 use Rattle.ix_merge.specs.Merged.{HasMergedAll}
+use Rattle.ix_merge.specs.Refusals.{MayFaultAt}
 use Rattle.ix_merge.specs.declared.merge_error.MergeError.{MergeError}
 use Rattle.ix_merge.specs.declared.merge_error.MergeError.TheVariants.{Source, Write, Memory}
 
@@ -33,9 +36,32 @@ pub record TellsAll {S W : Type 0} (yields : Yielding S) (heading : S → Headin
   pub closable : IsClosable now
   pub all : HasMergedAll yields heading sources (entries_of now)
 
--- a refusal of one of so many sources, of a write or of memory
-abbrev pub IsRefusalOf : {E : Type 0} → ℕ → MergeError E → Type 0
-IsRefusalOf count (Source place error) = place < count
-IsRefusalOf count Write = ⊤
-IsRefusalOf count Memory = ⊤
-IsRefusalOf count _ = ⊥
+-- The source at this place, if one is told, and an error of these; or a refusal of a write or of memory.
+abbrev pub IsRefusalAt : {E : Type 0} → ℕ → (E → Type 0) → MergeError E → Type 0
+IsRefusalAt place may (Source told error) = (told ≡ place) × may error
+IsRefusalAt place may Write = ⊤
+IsRefusalAt place may Memory = ⊤
+IsRefusalAt place may _ = ⊥
+
+-- The place of a source, if one is told, and an error with which it may answer; or a refusal of a write or of memory.
+abbrev pub IsRefusalOf : {S E : Type 0} → Faulting S E → List S → MergeError E → Type 0
+IsRefusalOf faults sources (Source place error) = MayFaultAt faults sources place error
+IsRefusalOf faults sources Write = ⊤
+IsRefusalOf faults sources Memory = ⊤
+IsRefusalOf faults sources _ = ⊥
+
+-- a refusal of a write or of memory
+abbrev pub IsOfWriter : {E : Type 0} → MergeError E → Type 0
+IsOfWriter Write = ⊤
+IsOfWriter Memory = ⊤
+IsOfWriter _ = ⊥
+
+-- what the refusal of a list is told as, by the source at this place
+abbrev pub told_of_list : {E : Type 0} → ℕ → ListError E → MergeError E
+told_of_list place list.Memory = Memory
+told_of_list place (list.Source error) = Source place error
+
+-- No source may answer with an error with which it might not have before.
+abbrev pub KeepFaults : {S E : Type 0} → Faulting S E → List S → List S → Type 0
+KeepFaults {S} {E} faults old now = (place : ℕ) (source : S) (error : E) → place < length now
+    → faults (slice_index_or now place source) error → faults (slice_index_or old place source) error

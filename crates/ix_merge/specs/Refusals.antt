@@ -1,6 +1,7 @@
 -- When sources are not merged, by their headings alone.
-use Rattle.std.specs.Prelude.{◌≡◌, ◌≢◌, ℕ, ◌^◌, ◌<◌, ◌≤◌, ◌⊎◌, List, length, Contains, Result, Err}
+use Rattle.std.specs.Prelude.{◌≡◌, ◌≢◌, ℕ, ◌^◌, ◌<◌, ◌≤◌, ◌⊎◌, List, length, slice_get, Some, Contains, Result, Err}
 use Rattle.ix_run.specs.Heads.{Heading}
+use Rattle.ix_run.specs.Sources.{Faulting}
 use Rattle.ix_merge.specs.Covers.{Cover, IsGap, IsOverlap}
 use Rattle.ix_merge.specs.Rows.{tokens_under}
 use Rattle.ix_merge.specs.declared.merge_error.MergeError.{MergeError}
@@ -51,6 +52,17 @@ IsRefusal headings (Source place error) = AreMergeable headings × (place < leng
 IsRefusal headings TooLarge = AreTooLarge headings
 IsRefusal headings Write = AreMergeable headings
 IsRefusal headings Memory = Unit {0}
+
+-- The source at this place may answer with this error.
+pub record MayFaultAt {S E : Type 0} (faults : Faulting S E) (sources : List S) (place : ℕ) (error : E) : Type 0 where
+  pub source : S
+  pub is : slice_get sources place ≡ Some source
+  pub may : faults source error
+
+-- If a source is told by its place, then with an error with which that one may answer.
+abbrev pub TellsFault : {S E : Type 0} → Faulting S E → List S → MergeError E → Type 0
+TellsFault faults sources (Source place error) = MayFaultAt faults sources place error
+TellsFault faults sources _ = Unit {0}
 
 -- the refusals that come before a byte is written
 abbrev pub IsEarly : {E : Type 0} → MergeError E → Type 0

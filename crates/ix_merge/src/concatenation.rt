@@ -8,7 +8,7 @@ ghost use Rattle.ix_file.specs.Writers.{Answers, IsReady, WasTold, sink, sink_na
 ghost use Rattle.ix_merge.specs.Covers.{IsGap, IsOverlap};
 ghost use Rattle.ix_merge.specs.Beginnings.{BeginsWith};
 ghost use Rattle.ix_merge.specs.Pieces.{LeavesFront, WritesConcatenation};
-ghost use Rattle.ix_merge.specs.Refusals.{AreMergeable, AreTooLarge, DifferInStop, HaveOneStop, IsEarly, IsOrMemory, IsRefusal};
+ghost use Rattle.ix_merge.specs.Refusals.{AreMergeable, AreTooLarge, DifferInStop, HaveOneStop, IsEarly, IsOrMemory, IsRefusal, TellsFault};
 ghost use Rattle.ix_merge.specs.Rows.{AreRowsOf};
 
 use crate::MergeError;
@@ -52,6 +52,7 @@ pub fn merge<S: Source + Drop, W: Write>(
     ensures too_large { AreTooLarge (map S.heading sources.items)
         → IsOrMemory result MergeError.TooLarge }
     ensures refused { IfErr result (IsRefusal (map S.heading sources.items)) }
+    ensures fault { IfErr result (TellsFault S.faults sources.items) }
 
     // What a refusal leaves.
     ensures early { IfErr result (λ error. IsEarly error

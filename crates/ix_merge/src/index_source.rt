@@ -78,7 +78,8 @@ impl<'a> IndexSource<'a> {
 impl<'a> Source for IndexSource<'a> {
     ghost use Rattle.std.specs.Prelude.{◌≡◌, ◌≤◌, ℕ, List, Some, None, Ok, false, IsOk, IsSome, IfOk, IfErr, OnErr, OnOk, MatchBool, MatchOption};
     ghost use Rattle.ix_run.specs.RunSources.{HasGiven, HasLeft, IsAtEnd, IsAtEndOfTerm};
-    ghost use Rattle.ix_run.specs.Sources.{BeginsTerm, EndsPostings, EndsTerms, GivesList, GivesPosting};
+    ghost use Rattle.ix_run.specs.Sources.{BeginsTerm, EndsPostings, EndsTerms, GivesList, GivesPosting, KeepsFaults};
+    ghost use Rattle.ix_run.specs.Faults.{IsListFault, MayLackMemory};
 
     type Error = Memory;
 
@@ -94,6 +95,8 @@ impl<'a> Source for IndexSource<'a> {
 
     ghost is_ended = { IsAtEnd };
 
+    ghost faults = { MayLackMemory };
+
     fn head(&self) -> &RunHead {
         &self.head
     }
@@ -105,6 +108,8 @@ impl<'a> Source for IndexSource<'a> {
             ((term : List ℕ) × (self.new.term ≡ Some term) × BeginsTerm HasLeft HasGiven IsAtEndOfTerm self.old self.new term)
             ((self.new.term ≡ None) × IsAtEnd self.new × EndsTerms HasLeft HasGiven IsAtEndOfTerm self.old self.new)) }
         ensures ended { IsAtEnd self.old → (result ≡ Ok false) × IsAtEnd self.new }
+        ensures fault { IfErr result (MayLackMemory self.old) }
+        ensures no_more_faults { OnOk result (KeepsFaults MayLackMemory self.old self.new) }
 
         // It is never refused.
         ensures granted { IsOk result }
@@ -135,6 +140,8 @@ impl<'a> Source for IndexSource<'a> {
             (IsAtEndOfTerm self.new × EndsPostings HasLeft HasGiven self.old self.new)
             (λ document. GivesPosting HasLeft HasGiven self.old self.new (document, positions.new.items))) }
         ensures drained { IsAtEndOfTerm self.old → result ≡ Ok None }
+        ensures fault { IfErr result (MayLackMemory self.old) }
+        ensures no_more_faults { OnOk result (KeepsFaults MayLackMemory self.old self.new) }
 
         // What a refusal leaves.
         ensures kept { OnErr result (self.new ≡ self.old) }
@@ -162,6 +169,8 @@ impl<'a> Source for IndexSource<'a> {
             self.old.heading.first next listed.documents listed.next
             out.old.items out.new.items) }
         ensures refused { OnErr result (out.new.items ≡ out.old.items) }
+        ensures fault { IfErr result (IsListFault (MayLackMemory self.old)) }
+        ensures no_more_faults { OnOk result (KeepsFaults MayLackMemory self.old self.new) }
 
         // What a refusal leaves, and which it is.
         ensures kept { OnErr result (self.new ≡ self.old) }

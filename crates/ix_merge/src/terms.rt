@@ -2,10 +2,10 @@
 ghost use Rattle.std.specs.Prelude.{◌≡◌, ◌≤◌, ◌*◌, ◌^◌, ℕ, List, Option, [], All, IfErr, IfOk, OnErr, OnOk, is_some, length, map, string_bytes, ◌+◌};
 ghost use Rattle.ix_file.specs.Told.{Told, entries_of};
 ghost use Rattle.ix_file.specs.Writers.{WasTold, sink, sink_name};
-ghost use Rattle.ix_run.specs.Sources.{IsUnread};
+ghost use Rattle.ix_run.specs.Sources.{IsUnread, KeepsFaults};
 ghost use Rattle.ix_merge.specs.Keys.{key_of};
 ghost use Rattle.ix_merge.specs.Merged.{HasMergedSome};
-ghost use Rattle.ix_merge.specs.Merging.{AreApart, IsRefusalOf, TellsAll, WasToldNoTerm};
+ghost use Rattle.ix_merge.specs.Merging.{AreApart, IsRefusalAt, IsRefusalOf, KeepFaults, TellsAll, WasToldNoTerm};
 ghost use Rattle.ix_merge.specs.Rows.{tokens_under};
 ghost use Rattle.ix_merge.specs.Starting.{HasStarted, HaveStarted};
 ghost use Rattle.ix_merge.specs.Tournaments.{AreLeaves};
@@ -42,7 +42,7 @@ pub(crate) fn merge_terms<S: Source, W: Write>(
         → WasTold W.contents before writer.old told → entries_of told ≡ []
         → OnErr result (HasMergedSome (map S.heading sources.old) before
         (W.contents (sink writer.new))) }
-    ensures refused { IfErr result (IsRefusalOf (length sources.old)) }
+    ensures refused { IfErr result (IsRefusalOf S.faults sources.old) }
 {
     let Some(nodes) = sources.len().checked_mul(2) else {
         return Err(MergeError::Memory);
@@ -74,7 +74,7 @@ fn merge_by<S: Source, W: Write>(
         → WasTold W.contents before writer.old told → entries_of told ≡ []
         → OnErr result (HasMergedSome (map S.heading sources.old) before
         (W.contents (sink writer.new))) }
-    ensures refused { IfErr result (IsRefusalOf (length sources.old)) }
+    ensures refused { IfErr result (IsRefusalOf S.faults sources.old) }
 {
     begin_all(sources, tree)?;
     play_all(sources, tree);
@@ -98,7 +98,8 @@ fn begin_all<S: Source>(
         (HaveStarted S.heading S.current S.yields S.gives sources.old sources.new) }
     ensures leaves { OnOk result (AreLeaves (map (key_of S.heading S.current) sources.new)
         tree.new) }
-    ensures refused { IfErr result (IsRefusalOf (length sources.old)) }
+    ensures no_more_faults { OnOk result (KeepFaults S.faults sources.old sources.new) }
+    ensures refused { IfErr result (IsRefusalOf S.faults sources.old) }
 {
     for place in 0..sources.len() {
         let more = begin_source(place, &mut sources[place])?;
@@ -114,7 +115,8 @@ fn begin_source<S: Source>(place: usize, source: &mut S) -> Result<bool, MergeEr
     ensures started { OnOk result
         (HasStarted S.heading S.current S.yields S.gives source.old source.new) }
     ensures more { IfOk result (λ more. more ≡ is_some (S.current source.new)) }
-    ensures refused { IfErr result (IsRefusalOf (place + 1)) }
+    ensures no_more_faults { OnOk result (KeepsFaults S.faults source.old source.new) }
+    ensures refused { IfErr result (IsRefusalAt place (S.faults source.old)) }
 {
     source
         .next_term()

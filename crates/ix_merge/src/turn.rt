@@ -3,7 +3,8 @@ ghost use Rattle.std.specs.Prelude.{◌≡◌, ◌≢◌, ◌+◌, ℕ, List, Op
 ghost use Rattle.ix_text.specs.Parts.{DictionaryEntry};
 ghost use Rattle.ix_file.specs.Told.{Told};
 ghost use Rattle.ix_file.specs.Writers.{WasTold, sink_name};
-ghost use Rattle.ix_merge.specs.Merging.{IsRefusalOf};
+ghost use Rattle.ix_run.specs.Sources.{KeepsFaults};
+ghost use Rattle.ix_merge.specs.Merging.{IsOfWriter, IsRefusalAt, told_of_list};
 ghost use Rattle.ix_merge.specs.Turns.{HasToldSome, HasTurned, MayTurn, MayTurnSomehow};
 
 use crate::MergeError;
@@ -39,7 +40,8 @@ pub(crate) fn take_turn<S: Source, W: Write>(
         (string_bytes entry.old.term) entry.old.next
         → OnErr result (HasToldSome S.heading S.current W.contents before source.old given told
         (string_bytes entry.old.term) entry.old.next writer.new) }
-    ensures refused { IfErr result (λ error. IsRefusalOf (place + 1) error) }
+    ensures no_more_faults { OnOk result (KeepsFaults S.faults source.old source.new) }
+    ensures refused { IfErr result (IsRefusalAt place (S.faults source.old)) }
 {
     if let Err(error) = entry.begin(source.term(), writer) {
         return Err(put_error(error));
@@ -61,7 +63,7 @@ pub(crate) fn take_turn<S: Source, W: Write>(
 /// The refusal of a writer that had refused nothing.
 pub(crate) fn put_error<E>(error: PutError) -> MergeError<E>
     requires { error ≢ PutError.Failed }
-    ensures { IsRefusalOf 0 result }
+    ensures { IsOfWriter result }
 {
     match error {
         PutError::Write => MergeError::Write,
@@ -72,7 +74,7 @@ pub(crate) fn put_error<E>(error: PutError) -> MergeError<E>
 
 /// The refusal of the source at a place.
 fn list_error<E>(place: usize, error: ListError<E>) -> MergeError<E>
-    ensures { IsRefusalOf (place + 1) result }
+    ensures { result ≡ told_of_list place error }
 {
     match error {
         ListError::Memory => MergeError::Memory,

@@ -13,9 +13,8 @@ use Rattle.ix_run.specs.CodedTerms.{AreTermsOf}
 use Rattle.ix_run.specs.Dictionaries.{AreBefore, HoldsOccurrences}
 use Rattle.ix_run.specs.Inverted.{IsLawfulDocument, Occurrence, document_of, documents_of, occurrences_in, occurrences_of, postings_of, tokens_of}
 use Rattle.ix_run.specs.Heads.{row_of_doc}
-use Rattle.ix_run.specs.Runs.{IsRunOf, IsTooLarge, RunValue, term_shown}
+use Rattle.ix_run.specs.Runs.{IsRunOf, IsTooLarge, RunValue, TermValue}
 use Rattle.ix_run.specs.TermLists.{HoldsPostings, IsBefore}
-use Rattle.ix_run.specs.declared.coded_term.CodedTerm.{CodedTerm}
 use Rattle.ix_run.specs.declared.head.RunDoc.{RunDoc}
 use Rattle.ix_run.specs.declared.term_list.TermList.{TermList}
 use Rattle.ix_run.proofs.Inverting.{are_parts, parts_of, terms_shown}
@@ -105,9 +104,9 @@ block_lawful stop texts set lawful few tokens = record {
   few_tokens = tokens;
 }
 
-pub block_run : (stop : List (List ℕ)) (texts : List NamedText) (first : ℕ) (run : RunValue) (rows : List DocumentRow) (terms : List CodedTerm) → IsStopSet stop → All (IsLawfulDocument stop) (documents_of stop texts)
+pub block_run : (stop : List (List ℕ)) (texts : List NamedText) (first : ℕ) (run : RunValue) (rows : List DocumentRow) (terms : List TermValue) → IsStopSet stop → All (IsLawfulDocument stop) (documents_of stop texts)
     → first + length texts ≤ 2 ^ 28 → tokens_of (documents_of stop texts) ≤ 2 ^ 28 → rows ≡ map row_of (documents_of stop texts) → AreTermsOf terms (occurrences_of 0 (documents_of stop texts))
-    → run ≡ record { first = first; stop = stop; rows = rows; terms = map term_shown terms } → IsRunOf run first (collection_of stop texts)
+    → run ≡ record { first = first; stop = stop; rows = rows; terms = terms } → IsRunOf run first (collection_of stop texts)
 unfolding collection_of
 block_run stop texts first run rows terms set lawful within tokens rows_are are is = record {
   lawful = block_lawful stop texts set lawful (omega arith) tokens;

@@ -1,21 +1,20 @@
 -- The terms of inverted documents are the dictionary of their collection.
-use Rattle.std.proofs.Common.{◌≡◌, ◌≢◌, ℕ, ◌+◌, ◌<◌, ◌↔◌, List, [], ◌∷◌, length, map, All, Contains, slice_get, string_bytes, refl, sym, ap, ap₂, subst, ◌∙◌, arith}
+use Rattle.std.proofs.Common.{◌≡◌, ◌≢◌, ℕ, ◌+◌, ◌<◌, ◌↔◌, List, [], ◌∷◌, length, map, All, Contains, slice_get, refl, sym, ap, ap₂, subst, ◌∙◌, arith}
 use Rattle.std.proofs.lemmas.List.Elements.{All-head, All-tail, All-map, All-weaker, All-contains}
 use Rattle.ix_text.specs.Collections.{Collection, HasPosting, IsVocabulary}
 use Rattle.ix_text.specs.Parts.{Parts, Posting, DictionaryEntry, ArePartsOf, ArePostings, HasPosition, IsEntryOf, row_of, terms_of}
 use Rattle.ix_text.proofs.CollectionTold.{some_position}
 use Rattle.ix_run.specs.CodedTerms.{AreTermsOf, IsCoded, texts_of}
 use Rattle.ix_run.specs.Inverted.{Occurrence, occurrences_of, postings_of}
-use Rattle.ix_run.specs.Runs.{TermValue, coded, term_shown}
-use Rattle.ix_run.specs.declared.coded_term.CodedTerm.{CodedTerm}
+use Rattle.ix_run.specs.Runs.{TermValue, coded}
 use Rattle.ix_run.proofs.Postings.{are_postings, postings_counted, postings_in, stands_from, stands_of}
 
 -- the dictionary entry of a term
-abbrev pub entry_of : List Occurrence → CodedTerm → DictionaryEntry
-entry_of occurrences term = record { term = string_bytes term.term; postings = postings_of (string_bytes term.term) occurrences }
+abbrev pub entry_of : List Occurrence → TermValue → DictionaryEntry
+entry_of occurrences term = record { term = term.term; postings = postings_of (term.term) occurrences }
 
 -- the parts that the terms make of a collection
-abbrev pub parts_of : Collection → List CodedTerm → Parts
+abbrev pub parts_of : Collection → List TermValue → Parts
 parts_of collection terms = record {
   stop = collection.stop;
   rows = map row_of collection.documents;
@@ -49,19 +48,19 @@ ordered collection term some =
     subst ArePostings (sym counted) (are_postings term collection.documents (some_from_length (postings_in term 0 collection.documents) (λ none. some (counted ∙ none))))
 
 -- the terms of the entries
-texts_are : (occurrences : List Occurrence) (terms : List CodedTerm) → terms_of (map (entry_of occurrences) terms) ≡ texts_of terms
+texts_are : (occurrences : List Occurrence) (terms : List TermValue) → terms_of (map (entry_of occurrences) terms) ≡ texts_of terms
 texts_are occurrences [] = refl
-texts_are occurrences (term ∷ terms) = ap (λ texts. string_bytes term.term ∷ texts) (texts_are occurrences terms)
+texts_are occurrences (term ∷ terms) = ap (λ texts. term.term ∷ texts) (texts_are occurrences terms)
 
 -- a text of the terms is that of a term
-text_of_term : (occurrences : List Occurrence) (terms : List CodedTerm) (text : List ℕ) → All (λ c. IsCoded c (postings_of (string_bytes c.term) occurrences)) terms → Contains (texts_of terms) text
+text_of_term : (occurrences : List Occurrence) (terms : List TermValue) (text : List ℕ) → All (λ c. IsCoded c (postings_of (c.term) occurrences)) terms → Contains (texts_of terms) text
     → postings_of text occurrences ≢ []
 text_of_term occurrences terms text each has =
     let P : List ℕ → Type 0 = λ t. postings_of t occurrences ≢ [] in
     All-contains P (texts_of terms) text
-    (All-map P (λ c. string_bytes c.term) terms (All-weaker (λ c. IsCoded c (postings_of (string_bytes c.term) occurrences)) (λ c. P (string_bytes c.term)) (λ c is. is.some) terms each)) has
+    (All-map P (λ c. c.term) terms (All-weaker (λ c. IsCoded c (postings_of (c.term) occurrences)) (λ c. P (c.term)) (λ c is. is.some) terms each)) has
 
-pub are_parts : (collection : Collection) (terms : List CodedTerm) → AreTermsOf terms (occurrences_of 0 collection.documents) → ArePartsOf collection (parts_of collection terms)
+pub are_parts : (collection : Collection) (terms : List TermValue) → AreTermsOf terms (occurrences_of 0 collection.documents) → ArePartsOf collection (parts_of collection terms)
 are_parts collection terms are =
     let occurrences = occurrences_of 0 collection.documents in
     let texts = texts_are occurrences terms in
@@ -77,8 +76,8 @@ are_parts collection terms are =
       });
       entries =
           All-map (IsEntryOf collection) (entry_of occurrences) terms
-          (All-weaker (λ c. IsCoded c (postings_of (string_bytes c.term) occurrences)) (λ c. IsEntryOf collection (entry_of occurrences c))
-          (λ c is. record { ordered = ordered collection (string_bytes c.term) is.some; posted = positions_are collection (string_bytes c.term) }) terms are.each);
+          (All-weaker (λ c. IsCoded c (postings_of (c.term) occurrences)) (λ c. IsEntryOf collection (entry_of occurrences c))
+          (λ c is. record { ordered = ordered collection (c.term) is.some; posted = positions_are collection (c.term) }) terms are.each);
     }
   where
     nowhere : (term : List ℕ) (number position : ℕ) → HasPosition (postings_of term (occurrences_of 0 collection.documents)) number position → postings_of term (occurrences_of 0 collection.documents) ≡ [] → ⊥
@@ -87,13 +86,13 @@ are_parts collection terms are =
         let (k, within, is) = subst P none at.among in absurd (omega arith)
 
 -- the terms as a run shows them
-pub terms_shown : (occurrences : List Occurrence) (terms : List CodedTerm) → All (λ c. IsCoded c (postings_of (string_bytes c.term) occurrences)) terms
-    → map term_shown terms ≡ map coded (map (entry_of occurrences) terms)
+pub terms_shown : (occurrences : List Occurrence) (terms : List TermValue) → All (λ c. IsCoded c (postings_of (c.term) occurrences)) terms
+    → terms ≡ map coded (map (entry_of occurrences) terms)
 terms_shown occurrences [] each = refl
 terms_shown occurrences (term ∷ terms) each =
-    let here = All-head (λ c. IsCoded c (postings_of (string_bytes c.term) occurrences)) term terms each in
+    let here = All-head (λ c. IsCoded c (postings_of (c.term) occurrences)) term terms each in
     ap₂ (λ (t : TermValue) (ts : List TermValue). t ∷ ts) (same here)
-    (terms_shown occurrences terms (All-tail (λ c. IsCoded c (postings_of (string_bytes c.term) occurrences)) term terms each))
+    (terms_shown occurrences terms (All-tail (λ c. IsCoded c (postings_of (c.term) occurrences)) term terms each))
   where
-    same : IsCoded term (postings_of (string_bytes term.term) occurrences) → term_shown term ≡ coded (entry_of occurrences term)
-    same is = λ i. record { term = string_bytes term.term; documents = is.documents i; last = is.last i; list = is.list i }
+    same : IsCoded term (postings_of (term.term) occurrences) → term ≡ coded (entry_of occurrences term)
+    same is = λ i. record { term = term.term; documents = is.documents i; last = is.last i; list = is.list i }

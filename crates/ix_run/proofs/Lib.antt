@@ -2,8 +2,10 @@ pub mod Blocks
 pub mod CodeLemmas
 pub mod CodedLists
 pub mod Dictionaries
+pub mod Faulting
 pub mod Fronts
 pub mod HeadLemmas
+pub mod HeldTermLemmas
 pub mod InputLemmas
 pub mod Inverting
 pub mod ListSteps

@@ -2,7 +2,9 @@ pub mod CodeFaults
 pub mod CodedTerms
 pub mod Dictionaries
 pub mod Errors
+pub mod Faults
 pub mod Heads
+pub mod HeldTerms
 pub mod Inputs
 pub mod Inverted
 pub mod Laws

@@ -1,10 +1,15 @@
 -- A run text that is read to its end, and kept coded.
-use Rattle.std.specs.Prelude.{◌≡◌, ℕ, ◌<◌, ◌++◌, List, [], length, map, Option, Some}
+use Rattle.std.specs.Prelude.{◌≡◌, ℕ, ◌<◌, ◌++◌, List, [], length, map, string_bytes, Option, Some}
 use Rattle.ix_text.specs.Parts.{DictionaryEntry, Posting}
 use Rattle.ix_run.specs.Reading.{Faces, HasRead, IsDrained, MayYield, term_of}
 use Rattle.ix_run.specs.Runs.{TermValue, coded}
 use Rattle.ix_run.specs.Sources.{entry_with, extended}
+use Rattle.ix_run.specs.declared.run_file.ReadTerm.{ReadTerm}
 use Rattle.ix_run.specs.declared.run_reader.RunReader.{RunReader}
+
+-- a term that was read, as its value
+abbrev pub read_shown : ReadTerm → TermValue
+read_shown read = record { term = string_bytes read.term; documents = read.documents; last = read.last; list = read.list.items }
 
 -- A reader of which a term was begun, and no posting given yet.
 pub record HasBegun {R : Type 0} (reader : RunReader R) : Type 0 where

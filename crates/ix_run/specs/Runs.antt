@@ -1,5 +1,5 @@
 -- What a run is of a collection: its head, and each term's list coded as the run text has it.
-use Rattle.std.specs.Prelude.{◌≡◌, ℕ, ◌+◌, ◌-◌, ◌^◌, ◌≤◌, ◌<◌, ◌⊎◌, List, [], ◌∷◌, ◌++◌, map, length, flat_map, codes, string_bytes}
+use Rattle.std.specs.Prelude.{◌≡◌, ℕ, ◌+◌, ◌-◌, ◌^◌, ◌≤◌, ◌<◌, ◌⊎◌, List, [], ◌∷◌, ◌++◌, map, length, flat_map, codes}
 use Rattle.std.specs.Int.{to_le_bytes, w32}
 use Rattle.ix_text.specs.Collections.{Collection, IsLawful, token_count}
 use Rattle.ix_text.specs.Parts.{Parts, DictionaryEntry, DocumentRow, Posting, ArePartsOf}
@@ -10,7 +10,7 @@ use Rattle.ix_vbyte.specs.Texts.{counted}
 use Rattle.ix_run.specs.Heads.{row_of_doc}
 use Rattle.ix_run.specs.RunText.{row_bytes}
 use Rattle.ix_run.specs.declared.head.RunHead.{RunHead}
-use Rattle.ix_run.specs.declared.coded_term.CodedTerm.{CodedTerm}
+use Rattle.ix_run.specs.declared.coded_terms.CodedTerm.{CodedTerm}
 
 -- a term, the number of its documents, the last of them, and the bytes of its list
 pub record TermValue : Type 0 where
@@ -28,11 +28,11 @@ pub record RunValue : Type 0 where
 
 -- a term of a run as its value
 abbrev pub term_shown : CodedTerm → TermValue
-term_shown coded = record { term = string_bytes coded.term; documents = coded.documents; last = coded.last; list = coded.list.items }
+term_shown coded = record { term = coded.term.now; documents = coded.documents; last = coded.last; list = coded.list.now }
 
 -- a run of this head and these terms
-abbrev pub head_value : RunHead → List CodedTerm → RunValue
-head_value head terms = record { first = head.first; stop = head.stop; rows = map row_of_doc head.docs.items; terms = map term_shown terms }
+abbrev pub head_value : RunHead → List TermValue → RunValue
+head_value head terms = record { first = head.first; stop = head.stop; rows = map row_of_doc head.docs.items; terms = terms }
 
 -- the last document of some postings, and 0 where there is none
 abbrev pub last_document : List Posting → ℕ

@@ -46,6 +46,14 @@ Yielding Source = Source → List Posting → List DictionaryEntry → Type 0
 abbrev pub Giving : Type 0 → Type 1
 Giving Source = Source → List DictionaryEntry → Option DictionaryEntry → Type 0
 
+-- the errors with which a source may answer yet
+abbrev pub Faulting : Type 0 → Type 0 → Type 1
+Faulting Source Error = Source → Error → Type 0
+
+-- The new source may answer with no error with which the old one might not.
+abbrev pub KeepsFaults : {Source Error : Type 0} → Faulting Source Error → Source → Source → Type 0
+KeepsFaults {Error = Error} faults old new = (error : Error) → faults new error → faults old error
+
 -- A source of which nothing was asked yet: it may have given nothing.
 abbrev pub IsUnread : {Source : Type 0} → Giving Source → Source → Type 0
 IsUnread gives source = gives source [] None

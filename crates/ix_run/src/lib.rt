@@ -3,7 +3,7 @@
 //! definitions.
 #![tactic(auto)]
 
-mod coded_term;
+mod coded_terms;
 mod dictionary;
 mod errors;
 mod head;

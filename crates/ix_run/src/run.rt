@@ -1,6 +1,6 @@
 //! Runs: a block of documents inverted and sorted (IIR 4.3).
 
-use crate::coded_term::CodedTerm;
+use crate::coded_terms::CodedTerms;
 use crate::errors::WriteError;
 use crate::head::RunHead;
 use crate::run_source::RunSource;
@@ -12,7 +12,7 @@ use std::marker::Model;
 #[derive(Drop)]
 pub struct Run {
     head: RunHead,
-    terms: Vec<CodedTerm>,
+    terms: CodedTerms,
 }
 
 impl Model for Run {
@@ -20,9 +20,9 @@ impl Model for Run {
 
     ghost Value = { RunValue };
 
-    ghost view = { λ run. head_value run.head run.terms.items };
+    ghost view = { λ run. head_value run.head run.terms };
 
-    ghost invariant = { λ run. IsRun (head_value run.head run.terms.items) };
+    ghost invariant = { λ run. IsRun (head_value run.head run.terms) };
 }
 
 impl Run {
@@ -38,9 +38,9 @@ impl Run {
     ghost use Rattle.ix_run.specs.Runs.{IsRun, IsRunOf, head_value, run_bytes};
 
     /// The run of these parts.
-    pub(crate) fn new(head: RunHead, terms: Vec<CodedTerm>) -> Run
-        requires { IsRun (head_value head terms.items) }
-        ensures { result ≡ head_value head terms.items }
+    pub(crate) fn new(head: RunHead, terms: CodedTerms) -> Run
+        requires { IsRun (head_value head terms) }
+        ensures { result ≡ head_value head terms }
     {
         Run { head, terms }
     }
@@ -56,7 +56,7 @@ impl Run {
         ensures text { (first : ℕ) (collection : Collection) → IsRunOf self.now first collection
             → IsRunText first collection (run_bytes self.now) }
     {
-        match put_run(out, &self.head, self.terms.as_slice()) {
+        match put_run(out, &self.head, &self.terms) {
             Ok(()) => Ok(()),
             Err(_) => Err(WriteError::Write),
         }
@@ -70,7 +70,7 @@ impl Run {
             → (entries : List DictionaryEntry) → HasLeft result [] entries
             → ArePartsOf collection (parts_with result.heading entries) }
     {
-        RunSource::new(&self.head, self.terms.as_slice())
+        RunSource::new(&self.head, self.terms.walk())
     }
 
     /// The head that the run's source has. Takes no memory.

@@ -5,10 +5,10 @@ ghost use Rattle.ix_run.specs.Heads.{heading_of};
 ghost use Rattle.ix_run.specs.Reading.{Faces, HasRead, IsDrained, term_of};
 ghost use Rattle.ix_run.specs.RunFiles.{GivesTerm, HasBegun, ReadsAll};
 ghost use Rattle.ix_run.specs.RunTextErrors.{IsRefusal};
-ghost use Rattle.ix_run.specs.Runs.{term_shown};
+ghost use Rattle.ix_run.specs.RunFiles.{read_shown};
 ghost use Rattle.ix_run.specs.Sources.{IsUnread};
 
-use crate::coded_term::CodedTerm;
+use crate::coded_terms::{CodedTerm, CodedTerms};
 use crate::run_reader::RunReader;
 use crate::{Run, RunTextError, Source};
 use ix_vbyte::push_posting;
@@ -36,44 +36,58 @@ impl Run {
             → MatchResult result (λ run. IsRunOf run first collection) IsRefusal }
     {
         let mut reader = RunReader::open(alloc, reader)?;
-        let terms = coded_terms(alloc, &mut reader)?;
+        let terms = read_terms(alloc, &mut reader)?;
         Ok(Run::new(reader.into_head(), terms))
     }
 }
 
+/// A term that was read, with its list coded anew.
+#[derive(Drop)]
+struct ReadTerm {
+    term: String,
+    documents: u32,
+    last: u32,
+    list: Vec<u8>,
+}
+
 /// Takes all terms of a reader that has given nothing.
-fn coded_terms<R: Read + Drop>(
+fn read_terms<R: Read + Drop>(
     alloc: Global,
     reader: &mut RunReader<R>,
-) -> Result<Vec<CodedTerm>, RunTextError>
+) -> Result<CodedTerms, RunTextError>
     requires unread { IsUnread HasRead reader.old }
     requires drained { IsDrained reader.old }
     ensures heading { heading_of reader.new.head ≡ heading_of reader.old.head }
     ensures read { IfOk result (λ terms.
-        ReadsAll R.remaining reader.old (map term_shown terms.items)) }
+        ReadsAll R.remaining reader.old terms) }
     ensures refused { (entries : List DictionaryEntry) → Faces R.remaining reader.old [] entries
         → IfErr result IsRefusal }
 {
-    let mut terms = Vec::new(alloc);
+    let mut terms = CodedTerms::with_capacity(alloc, 0)?;
     let mut positions = Vec::new(alloc);
     while reader.next_term()? {
-        let term = coded_term(alloc, reader, &mut positions)?;
-        terms.push(term)?;
+        let read = read_term(alloc, reader, &mut positions)?;
+        terms.push(CodedTerm {
+            term: read.term.as_str(),
+            documents: read.documents,
+            last: read.last,
+            list: read.list.as_slice(),
+        })?;
     }
-    Ok(terms)
+    Ok(terms.fit(alloc)?)
 }
 
 /// Takes the term at hand with all its postings, none of which was given yet. `positions` is where they are read into.
-fn coded_term<R: Read + Drop>(
+fn read_term<R: Read + Drop>(
     alloc: Global,
     reader: &mut RunReader<R>,
     positions: &mut Vec<u32>,
-) -> Result<CodedTerm, RunTextError>
+) -> Result<ReadTerm, RunTextError>
     requires begun { HasBegun reader.old }
     requires at_hand { IsSome (term_of reader.old) }
     ensures heading { heading_of reader.new.head ≡ heading_of reader.old.head }
     ensures given { IfOk result (λ term.
-        GivesTerm R.remaining reader.old reader.new (term_shown term)) }
+        GivesTerm R.remaining reader.old reader.new (read_shown term)) }
     ensures refused { (postings : List Posting) (entries : List DictionaryEntry)
         → Faces R.remaining reader.old postings entries → IfErr result IsRefusal }
 {
@@ -86,7 +100,7 @@ fn coded_term<R: Read + Drop>(
         next = document + 1;
         documents += 1;
     }
-    Ok(CodedTerm {
+    Ok(ReadTerm {
         term,
         documents,
         last: next.saturating_sub(1),

@@ -244,12 +244,13 @@ impl<R: Read + Drop> RunReader<R> {
 }
 
 impl<R: Read + Drop> Source for RunReader<R> {
-    ghost use Rattle.std.specs.Prelude.{◌≡◌, ◌<◌, ◌∷◌, [], List, ℕ, Some, None, Ok, Err, false, IsSome, IfOk, IfSome, OnErr, MatchBool, MatchOption, MatchResult};
+    ghost use Rattle.std.specs.Prelude.{◌≡◌, ◌<◌, ◌∷◌, [], List, ℕ, Some, None, Ok, Err, false, IsSome, IfErr, IfOk, IfSome, OnErr, OnOk, MatchBool, MatchOption, MatchResult};
     ghost use Rattle.ix_text.specs.Parts.{DictionaryEntry, Posting};
     ghost use Rattle.ix_run.specs.Reading.{BeginsFirst, Faces, GivesFirst, HasFailed, HasRead, IsDrained, IsEnded, MayYield, postings_left, term_of};
     ghost use Rattle.ix_run.specs.RunReaders.{heading_read};
     ghost use Rattle.ix_run.specs.RunTextErrors.{IsRefusal};
-    ghost use Rattle.ix_run.specs.Sources.{BeginsTerm, EndsTerms, EndsPostings, GivesPosting};
+    ghost use Rattle.ix_run.specs.Sources.{BeginsTerm, EndsTerms, EndsPostings, GivesPosting, KeepsFaults};
+    ghost use Rattle.ix_run.specs.Faults.{MayFault};
     ghost use Rattle.ix_run.specs.declared.run_text_error.RunTextError.TheVariants.{Failed};
 
     type Error = RunTextError;
@@ -265,6 +266,8 @@ impl<R: Read + Drop> Source for RunReader<R> {
     ghost is_drained = { IsDrained };
 
     ghost is_ended = { IsEnded };
+
+    ghost faults = { MayFault R.remaining };
 
     fn head(&self) -> &RunHead {
         &self.head
@@ -286,6 +289,9 @@ impl<R: Read + Drop> Source for RunReader<R> {
             ((term_of self.new ≡ None) × IsEnded self.new
             × EndsTerms (MayYield R.remaining) HasRead IsDrained self.old self.new)) }
         ensures ended { IsEnded self.old → (result ≡ Ok false) × IsEnded self.new }
+        ensures fault { IfErr result (MayFault R.remaining self.old) }
+        ensures no_more_faults { OnOk result
+            (KeepsFaults (MayFault R.remaining) self.old self.new) }
 
         // Where a lawful dictionary lies ahead, its next entry is begun, unless a read or memory is refused.
         ensures accepted { (postings : List Posting) (entries : List DictionaryEntry)
@@ -332,6 +338,9 @@ impl<R: Read + Drop> Source for RunReader<R> {
             (λ document. GivesPosting (MayYield R.remaining) HasRead self.old self.new
             (document, positions.new.items))) }
         ensures drained { IsDrained self.old → result ≡ Ok None }
+        ensures fault { IfErr result (MayFault R.remaining self.old) }
+        ensures no_more_faults { OnOk result
+            (KeepsFaults (MayFault R.remaining) self.old self.new) }
 
         // Fewer are left.
         ensures counted { IfOk result (λ found.

@@ -1,6 +1,6 @@
 //! A run in memory as a source of its postings.
 
-use crate::coded_term::CodedTerm;
+use crate::coded_terms::TermWalk;
 use crate::{ListError, Listed, RunHead, Source};
 use ix_text::Memory;
 use ix_vbyte::cursor::Postings;
@@ -14,7 +14,7 @@ use std::marker::Model;
 pub struct RunSource<'a> {
     head: &'a RunHead,
     // the terms that are left
-    terms: &'a [CodedTerm],
+    terms: TermWalk<'a>,
     // the term at hand
     term: Option<&'a str>,
     // the postings of the term at hand that are left
@@ -24,17 +24,15 @@ pub struct RunSource<'a> {
 }
 
 impl<'a> Model for RunSource<'a> {
-    ghost use Rattle.std.specs.Prelude.{map};
     ghost use Rattle.std.specs.Option.{option_copied};
     ghost use Rattle.ix_run.specs.Heads.{heading_of};
-    ghost use Rattle.ix_run.specs.Runs.{term_shown};
     ghost use Rattle.ix_run.specs.RunSources.{EndsAt, IsAtPlace, SourceValue};
 
     ghost Value = { SourceValue };
 
     ghost view = { λ source. record {
       heading = heading_of source.head.now;
-      terms = map term_shown source.terms.now;
+      terms = source.terms;
       term = option_copied source.term;
       postings = source.postings;
     } };
@@ -42,7 +40,7 @@ impl<'a> Model for RunSource<'a> {
     ghost invariant = { λ source.
         IsAtPlace (record {
           heading = heading_of source.head.now;
-          terms = map term_shown source.terms.now;
+          terms = source.terms;
           term = option_copied source.term;
           postings = source.postings;
         })
@@ -50,24 +48,23 @@ impl<'a> Model for RunSource<'a> {
 }
 
 impl<'a> RunSource<'a> {
-    ghost use Rattle.std.specs.Prelude.{◌≡◌, [], None, map};
+    ghost use Rattle.std.specs.Prelude.{◌≡◌, [], None};
     ghost use Rattle.ix_run.specs.Heads.{heading_of};
-    ghost use Rattle.ix_run.specs.Runs.{term_shown};
     ghost use Rattle.ix_run.specs.RunSources.{HasGiven};
 
     /// The source of a run of which nothing was asked yet.
-    pub(crate) fn new(head: &'a RunHead, terms: &'a [CodedTerm]) -> RunSource<'a>
+    pub(crate) fn new(head: &'a RunHead, terms: TermWalk<'a>) -> RunSource<'a>
         requires { HasGiven
             (record {
               heading = heading_of head.now;
-              terms = map term_shown terms.now;
+              terms = terms;
               term = None;
               postings = [];
             }) [] None }
         ensures { result
             ≡ record {
               heading = heading_of head.now;
-              terms = map term_shown terms.now;
+              terms = terms.entry;
               term = None;
               postings = [];
             } }
@@ -88,7 +85,8 @@ impl<'a> Source for RunSource<'a> {
     ghost use Rattle.ix_vbyte.specs.Postings.{list_bytes_from, shifted};
     ghost use Rattle.std.specs.Prelude.{◌≡◌, ℕ, List, Some, None, Ok, false, IsOk, IsSome, IfOk, OnErr, MatchBool, MatchOption};
     ghost use Rattle.ix_run.specs.RunSources.{FirstExceeds, HasGiven, HasLeft, IsAtEnd, IsAtEndOfTerm};
-    ghost use Rattle.ix_run.specs.Sources.{BeginsTerm, EndsPostings, EndsTerms, GivesList, GivesPosting};
+    ghost use Rattle.ix_run.specs.Sources.{BeginsTerm, EndsPostings, EndsTerms, GivesList, GivesPosting, KeepsFaults};
+    ghost use Rattle.ix_run.specs.Faults.{IsListFault, MayLackMemory};
 
     type Error = Memory;
 
@@ -104,6 +102,8 @@ impl<'a> Source for RunSource<'a> {
 
     ghost is_ended = { IsAtEnd };
 
+    ghost faults = { MayLackMemory };
+
     fn head(&self) -> &RunHead {
         self.head
     }
@@ -117,18 +117,19 @@ impl<'a> Source for RunSource<'a> {
             ((self.new.term ≡ None) × IsAtEnd self.new
             × EndsTerms HasLeft HasGiven IsAtEndOfTerm self.old self.new)) }
         ensures ended { IsAtEnd self.old → (result ≡ Ok false) × IsAtEnd self.new }
+        ensures fault { IfErr result (MayLackMemory self.old) }
+        ensures no_more_faults { OnOk result (KeepsFaults MayLackMemory self.old self.new) }
 
         // It is never refused.
         ensures granted { IsOk result }
     {
-        let Some((term, terms)) = self.terms.split_first() else {
+        let Some(term) = self.terms.next() else {
             self.term = None;
             self.postings = Postings::new(&[], 0);
             return Ok(false);
         };
-        self.terms = terms;
-        self.term = Some(term.term.as_str());
-        self.postings = Postings::new(&term.list, term.documents);
+        self.term = Some(term.term);
+        self.postings = Postings::new(term.list, term.documents);
         self.last = term.last;
         Ok(true)
     }
@@ -149,6 +150,8 @@ impl<'a> Source for RunSource<'a> {
             (λ document. GivesPosting HasLeft HasGiven self.old self.new
             (document, positions.new.items))) }
         ensures drained { IsAtEndOfTerm self.old → result ≡ Ok None }
+        ensures fault { IfErr result (MayLackMemory self.old) }
+        ensures no_more_faults { OnOk result (KeepsFaults MayLackMemory self.old self.new) }
 
         // It is refused only where the positions find no room, which leaves the source as it was.
         ensures kept { OnErr result (self.new ≡ self.old) }
@@ -178,6 +181,8 @@ impl<'a> Source for RunSource<'a> {
             self.old.heading.first next listed.documents listed.next
             out.old.items out.new.items) }
         ensures refused { OnErr result (out.new.items ≡ out.old.items) }
+        ensures fault { IfErr result (IsListFault (MayLackMemory self.old)) }
+        ensures no_more_faults { OnOk result (KeepsFaults MayLackMemory self.old self.new) }
 
         // It is refused only where the list finds no room, which leaves the source as it was.
         ensures kept { OnErr result (self.new ≡ self.old) }

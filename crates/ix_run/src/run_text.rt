@@ -9,7 +9,7 @@ ghost use Rattle.ix_run.specs.Heads.{row_of_doc};
 ghost use Rattle.ix_run.specs.Runs.{IsShort, front_bytes, head_value, run_bytes, term_shown, value_bytes};
 ghost use Rattle.ix_run.specs.Writing.{Writes};
 
-use crate::coded_term::CodedTerm;
+use crate::coded_terms::{CodedTerm, CodedTerms};
 use crate::head::{RunDoc, RunHead};
 use ix_text::{WriteRefused, put_all};
 use ix_vbyte::encode;
@@ -73,25 +73,26 @@ fn put_texts<W: Write>(out: &mut W, texts: &[String]) -> Result<(), WriteRefused
 }
 
 /// Writes a term with its list.
-fn put_term<W: Write>(out: &mut W, term: &CodedTerm) -> Result<(), WriteRefused>
-    requires term { IsShort (string_bytes term.now.term) }
-    requires list { IsShort term.now.list.items }
+fn put_term<W: Write>(out: &mut W, term: CodedTerm<'_>) -> Result<(), WriteRefused>
+    requires term { IsShort term.term.now }
+    requires list { IsShort term.list.now }
     ensures { Writes result (W.contents out.old) (W.contents out.new)
-        (value_bytes (term_shown term.now)) }
+        (value_bytes (term_shown term.entry)) }
 {
     put_counted(out, term.term.as_bytes())?;
     put_code(out, term.documents)?;
-    put_counted(out, &term.list)
+    put_counted(out, term.list)
 }
 
 /// Writes terms with their lists.
-fn put_terms<W: Write>(out: &mut W, terms: &[CodedTerm]) -> Result<(), WriteRefused>
-    requires terms { All (λ term. IsShort (string_bytes term.term)) terms.now }
-    requires lists { All (λ term. IsShort term.list.items) terms.now }
+fn put_terms<W: Write>(out: &mut W, terms: &CodedTerms) -> Result<(), WriteRefused>
+    requires terms { All (λ term. IsShort term.term) terms.now }
+    requires lists { All (λ term. IsShort term.list) terms.now }
     ensures { Writes result (W.contents out.old) (W.contents out.new)
-        (flat_map value_bytes (map term_shown terms.now)) }
+        (flat_map value_bytes terms.now) }
 {
-    for term in terms {
+    let mut walk = terms.walk();
+    while let Some(term) = walk.next() {
         put_term(out, term)?;
     }
     Ok(())
@@ -126,12 +127,12 @@ fn put_head<W: Write>(out: &mut W, head: &RunHead) -> Result<(), WriteRefused>
 pub(crate) fn put_run<W: Write>(
     out: &mut W,
     head: &RunHead,
-    terms: &[CodedTerm],
+    terms: &CodedTerms,
 ) -> Result<(), WriteRefused>
     requires few { length head.now.docs.items < 2 ^ 32 }
     requires names { All (λ doc. IsShort (string_bytes doc.name)) head.now.docs.items }
-    requires terms { All (λ term. IsShort (string_bytes term.term)) terms.now }
-    requires lists { All (λ term. IsShort term.list.items) terms.now }
+    requires terms { All (λ term. IsShort term.term) terms.now }
+    requires lists { All (λ term. IsShort term.list) terms.now }
     ensures { Writes result (W.contents out.old) (W.contents out.new)
         (run_bytes (head_value head.now terms.now)) }
 {

@@ -1,9 +1,10 @@
 //! A run as its consumer meets it: term by term, posting by posting.
 
-ghost use Rattle.std.specs.Prelude.{◌≡◌, ◌≤◌, OnErr, OnOk, ℕ, List, Option, Some, None, Ok, false, IsSome, IfOk, MatchBool, MatchOption, option_map, ◌++◌};
+ghost use Rattle.std.specs.Prelude.{◌≡◌, ◌≤◌, OnErr, OnOk, ℕ, List, Option, Some, None, Ok, false, IsSome, IfErr, IfOk, MatchBool, MatchOption, option_map, ◌++◌};
 ghost use Rattle.ix_text.specs.Parts.{DictionaryEntry, Posting};
 ghost use Rattle.ix_run.specs.Heads.{Heading, heading_of};
-ghost use Rattle.ix_run.specs.Sources.{AreWhole, IsLawfulFront, BeginsTerm, EndsTerms, GivesList, GivesPosting, EndsPostings, closed};
+ghost use Rattle.ix_run.specs.Sources.{AreWhole, IsLawfulFront, BeginsTerm, EndsTerms, GivesList, GivesPosting, EndsPostings, KeepsFaults, closed};
+ghost use Rattle.ix_run.specs.Faults.{IsListFault};
 
 use crate::{ListError, Listed, RunHead};
 use ix_vbyte::push_posting;
@@ -16,6 +17,9 @@ use ix_vbyte::push_posting;
 /// lawful whole. Each call moves one step from the one to the other, so that a consumer that has read to the end knows
 /// what the source yielded as a whole. A source of which `gives` holds of nothing meets the trait and tells nothing by it:
 /// so whoever consumes a source asks that it is unread, which is that `gives` holds of it, of no entries and none at hand.
+///
+/// A third relation, `faults`, holds the errors with which a call may be refused yet. A call that is not refused adds none:
+/// so an error that comes at any time is one that the source, as it was before the first call, might answer with.
 pub trait Source {
     /// Why a call may be refused.
     type Error;
@@ -38,6 +42,9 @@ pub trait Source {
     // No term is left.
     ghost is_ended: { Self → Type 0 };
 
+    // Errors with which a call may be refused yet.
+    ghost faults: { Self → Self.Error → Type 0 };
+
     /// The head of the source.
     fn head(&self) -> &RunHead
         ensures { heading_of result.now ≡ heading self.now };
@@ -51,7 +58,9 @@ pub trait Source {
             × BeginsTerm yields gives is_drained self.old self.new term)
             ((current self.new ≡ None) × is_ended self.new
             × EndsTerms yields gives is_drained self.old self.new)) }
-        ensures ended { is_ended self.old → (result ≡ Ok false) × is_ended self.new };
+        ensures ended { is_ended self.old → (result ≡ Ok false) × is_ended self.new }
+        ensures fault { IfErr result (faults self.old) }
+        ensures no_more_faults { OnOk result (KeepsFaults faults self.old self.new) };
 
     /// The term at hand.
     fn term(&self) -> &str
@@ -68,7 +77,9 @@ pub trait Source {
         ensures given { IfOk result (λ found. MatchOption found
             (is_drained self.new × EndsPostings yields gives self.old self.new)
             (λ document. GivesPosting yields gives self.old self.new (document, positions.new.items))) }
-        ensures drained { is_drained self.old → result ≡ Ok None };
+        ensures drained { is_drained self.old → result ≡ Ok None }
+        ensures fault { IfErr result (faults self.old) }
+        ensures no_more_faults { OnOk result (KeepsFaults faults self.old self.new) };
 
     /// Appends all postings of the term at hand that are left, coded as one list: their documents counted in the
     /// whole collection, from the head's first number on, and the first gap taken from `next`, which is one above the
@@ -89,6 +100,8 @@ pub trait Source {
             (heading self.old).first next listed.documents listed.next
             out.old.items out.new.items) }
         ensures refused { OnErr result (out.new.items ≡ out.old.items) }
+        ensures fault { IfErr result (IsListFault (faults self.old)) }
+        ensures no_more_faults { OnOk result (KeepsFaults faults self.old self.new) }
     {
         let first = self.head().first;
         let start = out.len();

@@ -7,9 +7,9 @@ ghost use Rattle.ix.specs.AskedFiles.{RefusesStop};
 ghost use Rattle.ix.specs.Files.{IsFront};
 ghost use Rattle.ix.specs.Refusals.{IsUnread};
 
-use crate::ask::ask;
 use crate::files::{FileSource, ReadFault};
 use crate::refusal::Refusal;
+use ix_ask::{EngineRefusal, ask};
 use ix_build::Plan;
 use ix_text::{StopError, StopList};
 use std::alloc::Global;
@@ -71,14 +71,14 @@ fn stop_list_of<'a>(alloc: Global, path: &'a str, bytes: &[u8]) -> Result<StopLi
         IfErr result (IsNoStopText path.entry.now whole) }
 {
     if bytes.len() == ROOM {
-        return Err(Refusal::Stop(StopError::TooLarge));
+        return Err(Refusal::Engine(EngineRefusal::Stop(StopError::TooLarge)));
     }
     let Ok(text) = str::from_utf8(bytes) else {
         return Err(Refusal::NotUtf8(path));
     };
     match StopList::read(alloc, text) {
         Ok(stop) => Ok(stop),
-        Err(error) => Err(Refusal::Stop(error)),
+        Err(error) => Err(Refusal::Engine(EngineRefusal::Stop(error))),
     }
 }
 
@@ -91,6 +91,6 @@ pub fn read_file<'a, F: FileSource>(files: &F, path: &'a str) -> Result<Vec<u8>,
     match files.read(path, ROOM) {
         Ok(bytes) => Ok(bytes),
         Err(ReadFault::Refused) => Err(Refusal::Read(path)),
-        Err(ReadFault::Memory) => Err(Refusal::Memory),
+        Err(ReadFault::Memory) => Err(Refusal::Engine(EngineRefusal::Memory)),
     }
 }

@@ -9,6 +9,7 @@ ghost use Rattle.ix.specs.SavedIndexes.{SavesIndex};
 use crate::command::ask::{read_file, read_stop_list};
 use crate::files::{FileSource, FileTarget};
 use crate::refusal::Refusal;
+use ix_ask::EngineRefusal;
 use ix_build::{Plan, build};
 use ix_text::{Collection, StopList};
 use std::alloc::Global;
@@ -46,7 +47,7 @@ fn documents_of<'t, 'a>(alloc: Global, text: &'t [u8]) -> Result<Collection<'t>,
 {
     match Collection::read(alloc, text) {
         Ok(documents) => Ok(documents),
-        Err(error) => Err(Refusal::Collection(error)),
+        Err(error) => Err(Refusal::Engine(EngineRefusal::Collection(error))),
     }
 }
 
@@ -69,7 +70,7 @@ fn save<'a, R: Threads + Wait + Sync, F: FileTarget>(
         Err(fault) => return Err(Refusal::unsaved(path, fault)),
     };
     if let Err(error) = build(rt, alloc, documents, stop, plan, &mut writer) {
-        return Err(Refusal::Build(error));
+        return Err(Refusal::Engine(EngineRefusal::Build(error)));
     }
     match files.close(path, writer) {
         Ok(()) => Ok(()),

@@ -11,6 +11,7 @@ ghost use Rattle.ix.specs.MergedRuns.{RefusesRunFiles};
 
 use crate::files::{FileSource, FileTarget, ReadFault};
 use crate::refusal::Refusal;
+use ix_ask::EngineRefusal;
 use ix_merge::{MergeError, merge};
 use ix_run::RunReader;
 use std::alloc::Global;
@@ -48,7 +49,7 @@ fn open_all<'a, F: FileSource>(
     for (place, path) in paths.iter().enumerate() {
         let reader = open(alloc, files, path, place)?;
         if readers.push(reader).is_err() {
-            return Err(Refusal::Memory);
+            return Err(Refusal::Engine(EngineRefusal::Memory));
         }
     }
     Ok(readers)
@@ -68,11 +69,11 @@ fn open<'a, F: FileSource>(
     let reader = match files.open(path) {
         Ok(reader) => reader,
         Err(ReadFault::Refused) => return Err(Refusal::Read(path)),
-        Err(ReadFault::Memory) => return Err(Refusal::Memory),
+        Err(ReadFault::Memory) => return Err(Refusal::Engine(EngineRefusal::Memory)),
     };
     match RunReader::open(alloc, reader) {
         Ok(run) => Ok(run),
-        Err(error) => Err(Refusal::Merge(MergeError::Source(place, error))),
+        Err(error) => Err(Refusal::Engine(EngineRefusal::Merge(MergeError::Source(place, error)))),
     }
 }
 
@@ -93,7 +94,7 @@ fn save<'a, R: Read + Drop, F: FileTarget>(
         Err(fault) => return Err(Refusal::unsaved(path, fault)),
     };
     if let Err(error) = merge(alloc, runs, &mut writer) {
-        return Err(Refusal::Merge(error));
+        return Err(Refusal::Engine(EngineRefusal::Merge(error)));
     }
     match files.close(path, writer) {
         Ok(()) => Ok(()),

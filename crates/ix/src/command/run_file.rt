@@ -9,6 +9,7 @@ ghost use Rattle.ix.specs.WrittenRuns.{HasRun, IsRunRefused, IsRunSaved, Refuses
 use crate::command::ask::{read_file, read_stop_list};
 use crate::files::{FileSource, FileTarget, WriteFault};
 use crate::refusal::Refusal;
+use ix_ask::EngineRefusal;
 use ix_run::{Run, invert};
 use ix_text::{Collection, StopList};
 use std::alloc::Global;
@@ -47,11 +48,11 @@ fn run_of<'a>(alloc: Global, text: &[u8], stop: &StopList, first: u32) -> Result
 {
     let documents = match Collection::read(alloc, text) {
         Ok(documents) => documents,
-        Err(error) => return Err(Refusal::Collection(error)),
+        Err(error) => return Err(Refusal::Engine(EngineRefusal::Collection(error))),
     };
     match invert(alloc, documents.docs(), stop, first) {
         Ok(run) => Ok(run),
-        Err(error) => Err(Refusal::Run(error)),
+        Err(error) => Err(Refusal::Engine(EngineRefusal::Run(error))),
     }
 }
 

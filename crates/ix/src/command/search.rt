@@ -6,7 +6,7 @@ ghost use Rattle.ix.specs.IndexFiles.{IsSearchRefused, IsSearchedFromFile};
 use crate::files::FileSource;
 use crate::index_file::open_index;
 use crate::refusal::Refusal;
-use crate::search::search;
+use ix_ask::search;
 use std::alloc::Global;
 use std::io::Write;
 

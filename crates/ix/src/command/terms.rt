@@ -5,8 +5,8 @@ ghost use Rattle.ix.specs.IndexFiles.{IsListingRefused, IsPrintedFromFile};
 
 use crate::files::FileSource;
 use crate::index_file::open_index;
-use crate::listing::list_terms;
 use crate::refusal::Refusal;
+use ix_ask::list_terms;
 use std::alloc::Global;
 use std::io::Write;
 

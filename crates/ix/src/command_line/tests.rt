@@ -11,9 +11,9 @@ fn a_line_of_each_command(rt: HostRuntime) -> Result<(), Fail> {
     ] {
         let Line::Ask {
             stop,
+            plan: _plan,
             collection,
             query,
-            ..
         } = read_line(rt.alloc(), words)?
         else {
             return Err(Fail::from("it is another line"));

@@ -4,17 +4,16 @@ ghost use Rattle.std.specs.Prelude.{◌≡◌, ◌≢◌, ◌⊎◌, ◌↔◌, 
 ghost use Rattle.ix_text.specs.ByteOrder.{IsAscending};
 ghost use Rattle.ix_text.specs.Parts.{GramEntry};
 ghost use Rattle.ix_file.specs.Grams.{AreGramsOfTerms, IsGramOfTerm};
-ghost use Rattle.ix_file.specs.HeldGrams.{gram_of};
+ghost use Rattle.ix_file.specs.WindowPairs.{gram_of};
 ghost use Rattle.ix_file.specs.OpenedGrams.{AreNumbersOf, FindsGram, IsGramRow, IsRightEntry, gap_codes, gram_in, grams_in, terms_in};
 ghost use Rattle.ix_file.specs.OpenedGrams as opened;
 ghost use Rattle.ix_file.specs.Sections.{grams_section};
 ghost use Rattle.ix_file.specs.TermTexts.{HoldsTexts};
 ghost use Rattle.ix_file.specs.declared.open_error.OpenError.TheVariants.{Memory};
 
-use crate::grams::GramPair;
 use crate::open::dictionary::TermRow;
 use crate::open::front::{number, text};
-use crate::open::pairs::{check_total, has_gram, pair_of};
+use crate::open::pairs::{GramPair, check_total, has_gram, pair_of};
 use crate::open::texts::TermTexts;
 use crate::{OpenError, Section};
 use std::alloc::Global;

@@ -22,9 +22,12 @@ enum Mixed<'a, 'b> {
 }
 
 impl<'a, 'b> Source for Mixed<'a, 'b> {
+    ghost use Rattle.ix_run.specs.Faults.{MayFault};
     ghost use Rattle.ix_run.specs.Reading.{HasRead, IsDrained, IsEnded, MayYield, term_of};
     ghost use Rattle.ix_run.specs.RunReaders.{heading_read};
     ghost use Rattle.ix_run.specs.RunSources.{HasGiven, HasLeft, IsAtEnd, IsAtEndOfTerm};
+    ghost use Rattle.ix_run.specs.declared.run_text_error.RunTextError.TheVariants.{Memory};
+    ghost use Rattle.std.specs.Prelude.{◌≡◌};
     ghost use Rattle.ix_merge.specs.declared.tests.mixed.Mixed.TheVariants.{Run, Text, Index};
 
     type Error = RunTextError;
@@ -40,6 +43,8 @@ impl<'a, 'b> Source for Mixed<'a, 'b> {
     ghost is_drained = { elim [ Run s ↦ IsAtEndOfTerm s | Text s ↦ IsDrained s | Index s ↦ IsAtEndOfTerm s ] };
 
     ghost is_ended = { elim [ Run s ↦ IsAtEnd s | Text s ↦ IsEnded s | Index s ↦ IsAtEnd s ] };
+
+    ghost faults = { elim [ Run s ↦ λ error. (¬ (IsAtEnd s)) × (error ≡ Memory) | Text s ↦ MayFault ⟦<&'static [u8] as Read>⟧.remaining s | Index s ↦ λ error. (¬ (IsAtEnd s)) × (error ≡ Memory) ] };
 
     fn head(&self) -> &RunHead {
         match self {

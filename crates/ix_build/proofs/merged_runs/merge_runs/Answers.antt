@@ -1,9 +1,11 @@
 -- From what is said of the sources to what is said of the runs.
-use Rattle.std.proofs.Common.{◌≡◌, List, map, All, ap, subst, ◌∙◌, arith}
-use Rattle.std.proofs.lemmas.List.{take_all}
+use Rattle.std.proofs.Common.{◌≡◌, ◌∷◌, [], ◌++◌, List, map, take, get_or, All, ap, sym, subst, ◌∙◌, arith}
+use Rattle.std.proofs.lemmas.List.{map_push, take_all, take_more}
+use Rattle.std.proofs.lemmas.List.Elements.{All-push}
 use Rattle.std.proofs.lemmas.Result.{on_ok_weaker, on_err_weaker, IfErr-weaker}
 use Rattle.ix_run.specs.Heads.{Heading}
 use Rattle.ix_run.specs.RunSources.{HasGiven, SourceValue, unread}
+use Rattle.ix_run.specs.Runs.{RunValue}
 use Rattle.ix_run.specs.Sources.{IsUnread}
 use Rattle.ix_run.specs.RunSources.{HasLeft}
 use Rattle.ix_merge.specs.Pieces.{LeavesFront, WritesConcatenation}
@@ -43,3 +45,19 @@ returns-clause-front g c =
     let before = g.W.Write.contents c.args.out.now in
     let now = g.W.Write.contents c.merge.new.out in
     on_err_weaker c.merge.result (subst (λ (hs : List Heading). LeavesFront hs before now) are) c.merge.ensures.front
+
+pub loop-run-preserved : goal.loop-run-preserved
+loop-run-preserved g c =
+    let runs = c.args.runs.now in
+    let i = c.loop-run.run-index in
+    let one : c.push_reserved.new.self.items ≡ c.loop-run.sources.items ++ unread c.run-item.result ∷ [] =
+    c.push_reserved.ensures.items ∙ ap (λ (source : SourceValue). c.loop-run.sources.items ++ source ∷ []) c.source.ensures.value in
+    record {
+      made =
+          one ∙ ap (λ (sources : List SourceValue). sources ++ unread c.run-item.result ∷ []) c.loop-run.invariant.made
+          ∙ ap (λ (run : RunValue). map unread (take i runs) ++ unread run ∷ []) c.run-item.is
+          ∙ sym (ap (map unread) (take_more runs i c.run-item.result c.loop-run-test.true) ∙ map_push unread (take i runs) (get_or runs i c.run-item.result));
+      unread = subst (All (IsUnread HasGiven)) (sym c.push_reserved.ensures.items) (All-push (IsUnread HasGiven) c.loop-run.sources.items c.source.result c.loop-run.invariant.unread c.source.ensures.unread);
+      counted = omega (arith, c.push_reserved.ensures.len, c.loop-run.invariant.counted);
+      room = omega (arith, c.push_reserved.ensures.capacity, c.loop-run.invariant.room);
+    }

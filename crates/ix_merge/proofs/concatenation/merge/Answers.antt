@@ -9,11 +9,12 @@ use Rattle.ix_file.specs.declared.row.DocRow.{DocRow}
 use Rattle.ix_run.specs.Heads.{IsLawfulHeading}
 use Rattle.ix_merge.specs.Merging.{AreApart}
 use Rattle.ix_merge.specs.Pieces.{LeavesFront, WritesConcatenation, WritesFront}
-use Rattle.ix_merge.specs.Refusals.{AreMergeable, HaveOneStop, IsRefusal}
+use Rattle.ix_merge.specs.Refusals.{AreMergeable, HaveOneStop, IsRefusal, TellsFault}
 use Rattle.ix_merge.specs.Rows.{AreRowsOf}
 use Rattle.ix_merge.proofs.Closing.{AreBegun, written_some}
+use Rattle.ix_merge.proofs.Faulting.{headings_tell_none, tells_fault, writer_tells_none}
 use Rattle.ix_merge.proofs.Refused.{gap_told, overlap_told, difference_told, size_told}
-use Rattle.ix_merge.proofs.WholeMerge.{begun, covered_apart, front_written, late_refusal, lawful_headings, on_err, short_names, whole_written}
+use Rattle.ix_merge.proofs.WholeMerge.{begun, covered_apart, front_written, late_refusal, lawful_headings, on_err, short_names, whole_written, writer_refusal}
 use Rattle.ix_merge.proofs.concatenation.merge.Goals as goal
 
 pub collect_rows-requires : goal.collect_rows-requires
@@ -78,7 +79,7 @@ returns-in_err-merge_terms-clause-gap g c =
     let P : List g.row.S.Denot → Type 0 = λ sources. AreMergeable (map g.S.Source.heading sources) in
     let mergeable = subst P c.as_slice.ensures.value c.in_ok-rows.ensures.mergeable in
     let few : length c.as_mut_slice.result.now ≤ length hs = omega (arith, ap length c.as_mut_slice.ensures.value, length-map c.args.sources.items g.S.Source.heading) in
-    rw (p.1, p.2) (gap_told hs (Err error) tt (late_refusal hs (length c.as_mut_slice.result.now) error mergeable few c.in_err-merge_terms.ensures.refused))
+    rw (p.1, p.2) (gap_told hs (Err error) tt (late_refusal hs g.S.Source.faults c.as_mut_slice.result.now error mergeable few c.in_err-merge_terms.ensures.refused))
 
 pub returns-in_err-merge_terms-clause-overlap : goal.returns-in_err-merge_terms-clause-overlap
 returns-in_err-merge_terms-clause-overlap g c =
@@ -88,7 +89,7 @@ returns-in_err-merge_terms-clause-overlap g c =
     let P : List g.row.S.Denot → Type 0 = λ sources. AreMergeable (map g.S.Source.heading sources) in
     let mergeable = subst P c.as_slice.ensures.value c.in_ok-rows.ensures.mergeable in
     let few : length c.as_mut_slice.result.now ≤ length hs = omega (arith, ap length c.as_mut_slice.ensures.value, length-map c.args.sources.items g.S.Source.heading) in
-    rw (p.1, p.2) (overlap_told hs (Err error) tt (late_refusal hs (length c.as_mut_slice.result.now) error mergeable few c.in_err-merge_terms.ensures.refused))
+    rw (p.1, p.2) (overlap_told hs (Err error) tt (late_refusal hs g.S.Source.faults c.as_mut_slice.result.now error mergeable few c.in_err-merge_terms.ensures.refused))
 
 pub returns-in_err-merge_terms-clause-front : goal.returns-in_err-merge_terms-clause-front
 returns-in_err-merge_terms-clause-front g c =
@@ -194,14 +195,14 @@ returns-clause-gap g c =
     let hs = map g.S.Source.heading c.args.sources.items in
     let P : List g.row.S.Denot → Type 0 = λ sources. AreMergeable (map g.S.Source.heading sources) in
     let mergeable = subst P c.as_slice.ensures.value c.in_ok-rows.ensures.mergeable in
-    gap_told hs (Err c.put_error.result) tt (late_refusal hs 0 c.put_error.result mergeable (omega arith) c.put_error.ensures)
+    gap_told hs (Err c.put_error.result) tt (writer_refusal hs c.put_error.result mergeable c.put_error.ensures)
 
 pub returns-clause-overlap : goal.returns-clause-overlap
 returns-clause-overlap g c =
     let hs = map g.S.Source.heading c.args.sources.items in
     let P : List g.row.S.Denot → Type 0 = λ sources. AreMergeable (map g.S.Source.heading sources) in
     let mergeable = subst P c.as_slice.ensures.value c.in_ok-rows.ensures.mergeable in
-    overlap_told hs (Err c.put_error.result) tt (late_refusal hs 0 c.put_error.result mergeable (omega arith) c.put_error.ensures)
+    overlap_told hs (Err c.put_error.result) tt (writer_refusal hs c.put_error.result mergeable c.put_error.ensures)
 
 pub returns-clause-front : goal.returns-clause-front
 returns-clause-front g c =
@@ -232,3 +233,18 @@ returns-clause-front g c =
     let moved : (w : g.row.W.Denot) → w ≡ c.finish.new.self.0 → LeavesFront (map heading c.args.sources.items) before (contents w) =
     λ w same. inr (subst L (sym same) (subst F c.as_mut_slice.ensures.value written)) in
     moved _ (search rules)
+
+pub returns-in_err-merge_terms-clause-fault : goal.returns-in_err-merge_terms-clause-fault
+returns-in_err-merge_terms-clause-fault g c =
+    let p = err_from_is_err_and c.from_residual-in_err-merge_terms.result c.from_residual-in_err-merge_terms.ensures.1 in
+    let error = c.in_err-merge_terms.field-0.0 in
+    let P : List g.row.S.Denot → Type 0 = λ sources. TellsFault g.S.Source.faults sources error in
+    rw (p.1, p.2) (subst P c.as_mut_slice.ensures.value (tells_fault g.S.Source.faults c.as_mut_slice.result.now error c.in_err-merge_terms.ensures.refused))
+
+pub returns-clause-fault : goal.returns-clause-fault
+returns-clause-fault g c = writer_tells_none g.S.Source.faults c.args.sources.items c.put_error.result c.put_error.ensures
+
+pub returns-in_err-rows-clause-fault : goal.returns-in_err-rows-clause-fault
+returns-in_err-rows-clause-fault g c =
+    let p = err_from_is_err_and c.from_residual.result c.from_residual.ensures.1 in
+    rw (p.1, p.2) (headings_tell_none g.S.Source.faults c.args.sources.items c.in_err-rows.field-0.0 c.in_err-rows.ensures.of_headings)

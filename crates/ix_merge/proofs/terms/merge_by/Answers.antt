@@ -6,6 +6,8 @@ use Rattle.ix_run.specs.Heads.{Heading}
 use Rattle.ix_merge.specs.Keys.{key_of}
 use Rattle.ix_merge.specs.Merging.{AreApart}
 use Rattle.ix_merge.specs.Tournaments.{IsSettledBut}
+use Rattle.std.proofs.lemmas.Result.{err_from_is_err_and}
+use Rattle.ix_merge.proofs.Faulting.{keep_more, refusal_at}
 use Rattle.ix_merge.proofs.MergingSteps.{behind_then, longer, may_take, merged_nothing, merged_some_then, merging_first, merging_more, share_here, tells_all}
 use Rattle.ix_merge.proofs.Playing.{HoldsFirst, holds_first}
 use Rattle.ix_merge.proofs.Rounds.{behind_first, leaf_changed, none_left, then_some-cond}
@@ -24,6 +26,7 @@ loop-place-init g c =
     record {
       as_many = started.as_many;
       headed = started_headed g.S.Source.heading g.S.Source.current g.S.Source.yields g.S.Source.gives c.args.sources.now c.begin_all.new.sources started;
+      no_more_faults = c.in_ok-begin_all.ensures.no_more_faults;
       same_writer = refl;
       played = c.play_all.ensures;
       behind = behind_first g.S.Source.heading g.S.Source.current g.S.Source.yields g.S.Source.gives g.met.S.Source.given_lawfully c.args.sources.now c.begin_all.new.sources (string_bytes c.args.entry.now.term) c.args.entry.now.next started c.requires.none;
@@ -68,6 +71,18 @@ returns-in_err-more-clause-some g c before told was none =
     on_err_if c.from_residual-in_err-more.result _
     (merged_some_then g.S.Source.heading g.S.Source.current g.S.Source.yields g.S.Source.gives g.W.Write.contents g.met.S.Source.given_lawfully c.args.sources.now c.loop-place.sources before told c.loop-place.writer
     (string_bytes c.loop-place.entry.term) c.loop-place.entry.next merging i.behind c.requires.few c.in-Some.place source within here c.take_turn.new.writer (c.in_err-more.ensures.some before merging.told _ merging.was may))
+
+pub returns-in_err-more-clause-refused : goal.returns-in_err-more-clause-refused
+returns-in_err-more-clause-refused g c =
+    let i = c.loop-place.invariant in
+    let first : HoldsFirst (map (key_of g.S.Source.heading g.S.Source.current) c.loop-place.sources) c.in-Some.place =
+    holds_first (map (key_of g.S.Source.heading g.S.Source.current) c.loop-place.sources) c.loop-place.tree c.in-Some.place i.played (sym c.first_of.ensures ∙ c.in-Some.is) in
+    let within : c.in-Some.place < length c.loop-place.sources = omega (arith, first.within, length-map c.loop-place.sources (key_of g.S.Source.heading g.S.Source.current)) in
+    let source = get_or c.loop-place.sources c.in-Some.place c.index-sources-place.result in
+    let here : get_or c.loop-place.sources c.in-Some.place source ≡ source = get_or_default c.loop-place.sources c.in-Some.place source c.index-sources-place.result within in
+    let p = err_from_is_err_and c.from_residual-in_err-more.result c.from_residual-in_err-more.ensures.1 in
+    rw (p.1, p.2)
+    (refusal_at g.S.Source.faults c.args.sources.now c.loop-place.sources c.in-Some.place source i.as_many i.no_more_faults within here c.in_err-more.field-0.0 c.in_err-more.ensures.refused)
 
 pub play_again-requires-clause-others : goal.play_again-requires-clause-others
 play_again-requires-clause-others g c =
@@ -115,6 +130,9 @@ loop-place-preserved g c =
     record {
       as_many = length-set c.loop-place.sources c.in-Some.place c.take_turn.new.source ∙ i.as_many;
       headed = map-set_same g.S.Source.heading c.loop-place.sources c.in-Some.place c.take_turn.new.source c.index-sources-place.result c.take_turn.ensures.heading ∙ i.headed;
+      no_more_faults =
+          keep_more g.S.Source.faults c.args.sources.now c.loop-place.sources c.in-Some.place source i.as_many i.no_more_faults within here
+          c.take_turn.new.source c.in_ok-more.ensures.no_more_faults;
       same_writer = c.take_turn.ensures.same_writer ∙ i.same_writer;
       played = c.play_again.ensures;
       behind =

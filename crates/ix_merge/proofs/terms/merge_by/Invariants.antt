@@ -2,6 +2,7 @@ use Rattle.std.proofs.Common.{◌≡◌, ℕ, ◌-◌, ◌*◌, ◌^◌, List, [
 use Rattle.ix_file.specs.Told.{Told, entries_of}
 use Rattle.ix_file.specs.Writers.{WasTold, sink_name}
 use Rattle.ix_merge.specs.Keys.{key_of}
+use Rattle.ix_merge.specs.Merging.{KeepFaults}
 use Rattle.ix_merge.specs.Tournaments.{IsTournament}
 use Rattle.ix_merge.proofs.Behind.{AreBehind}
 use Rattle.ix_merge.proofs.MergingSteps.{IsMerging}
@@ -11,6 +12,7 @@ abbrev pub invariant-loop-place : goal.invariant-loop-place
 invariant-loop-place g l = record {
   as_many : length l.sources ≡ length l.fn.sources;
   headed : map g.S.Source.heading l.sources ≡ map g.S.Source.heading l.fn.sources;
+  no_more_faults : KeepFaults g.S.Source.faults l.fn.sources l.sources;
   same_writer : sink_name l.writer ≡ sink_name l.fn.writer;
   played : IsTournament (map (key_of g.S.Source.heading g.S.Source.current) l.sources) l.tree;
   behind : AreBehind g.S.Source.heading g.S.Source.current (string_bytes l.entry.term) l.entry.next l.sources;

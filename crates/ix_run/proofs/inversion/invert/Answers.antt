@@ -5,7 +5,6 @@ use Rattle.ix_text.specs.Collections.{collection_of}
 use Rattle.ix_text.specs.Docs.{named_text}
 use Rattle.ix_run.specs.Inverted.{document_of, documents_of, occurrences_of}
 use Rattle.ix_run.specs.Heads.{row_of_doc}
-use Rattle.ix_run.specs.Runs.{term_shown}
 use Rattle.ix_run.specs.declared.errors.RunError.TheVariants.{TooLarge}
 use Rattle.ix_run.proofs.Blocks.{block_run, block_fits, numbers_too_large, tokens_too_large}
 use Rattle.ix_run.proofs.inversion.invert.Goals as goal
@@ -38,18 +37,18 @@ new-requires c =
       first = c.args.first;
       collection = collection_of c.args.stop.now texts;
       of_collection =
-          block_run c.args.stop.now texts c.args.first _ (map row_of_doc c.in_ok-rows.rows.items) c.in_ok-terms.terms.items c.in_ok-stop_terms.ensures.lawful c.in_ok-rows.ensures.lawful
+          block_run c.args.stop.now texts c.args.first _ (map row_of_doc c.in_ok-rows.rows.items) c.in_ok-terms.terms c.in_ok-stop_terms.ensures.lawful c.in_ok-rows.ensures.lawful
           (omega (arith, size)) c.in_ok-rows.ensures.few c.in_ok-rows.ensures.rows terms
-          (ap (λ stop. record { first = c.args.first; stop = stop; rows = map row_of_doc c.in_ok-rows.rows.items; terms = map term_shown c.in_ok-terms.terms.items }) c.in_ok-stop_terms.ensures.same);
+          (ap (λ stop. record { first = c.args.first; stop = stop; rows = map row_of_doc c.in_ok-rows.rows.items; terms = c.in_ok-terms.terms }) c.in_ok-stop_terms.ensures.same);
     }
 
 pub returns-clause-run : goal.returns-clause-run
 returns-clause-run c =
     let texts = map named_text c.args.docs.now in
     let size = length-map c.args.docs.now named_text in
-    block_run c.args.stop.now texts c.args.first c.new.result (map row_of_doc c.in_ok-rows.rows.items) c.in_ok-terms.terms.items c.in_ok-stop_terms.ensures.lawful c.in_ok-rows.ensures.lawful
+    block_run c.args.stop.now texts c.args.first c.new.result (map row_of_doc c.in_ok-rows.rows.items) c.in_ok-terms.terms c.in_ok-stop_terms.ensures.lawful c.in_ok-rows.ensures.lawful
     (omega (arith, size)) c.in_ok-rows.ensures.few c.in_ok-rows.ensures.rows (c.in_ok-terms.ensures (occurrences_of 0 (documents_of c.args.stop.now texts)) c.in_ok-rows.ensures.held)
-    (c.new.ensures ∙ ap (λ stop. record { first = c.args.first; stop = stop; rows = map row_of_doc c.in_ok-rows.rows.items; terms = map term_shown c.in_ok-terms.terms.items }) c.in_ok-stop_terms.ensures.same)
+    (c.new.ensures ∙ ap (λ stop. record { first = c.args.first; stop = stop; rows = map row_of_doc c.in_ok-rows.rows.items; terms = c.in_ok-terms.terms }) c.in_ok-stop_terms.ensures.same)
 
 pub returns-clause-refused : goal.returns-clause-refused
 returns-clause-refused c = λ many.

@@ -1,5 +1,5 @@
 use Rattle.std.proofs.Common.{ℕ, List}
-use Rattle.ix_file.specs.HeldGrams.{HoldsGrams}
+use Rattle.ix_file.specs.GramTables.{HoldsGrams}
 use Rattle.ix_file.proofs.grams.tests.section.Given as goal
 
 abbrev pub invariant-loop-term : goal.invariant-loop-term

@@ -1,6 +1,6 @@
 use Rattle.std.proofs.Common.{◌≡◌, ◌+◌, ◌-◌, false, refl, arith}
 use Rattle.std.proofs.lemmas.List.{length-map}
-use Rattle.ix_file.specs.HeldGrams.{gram_of}
+use Rattle.ix_file.specs.WindowPairs.{gram_of}
 use Rattle.ix_file.specs.OpenedGrams.{terms_in}
 use Rattle.ix_file.proofs.GramNumbers.{number_told, number_past}
 use Rattle.ix_file.proofs.PairCounts.{text_of}

@@ -34,7 +34,7 @@ returns-in-Err-clause-error g c =
     let stop = arc_value v.stop in
     let refused = rw (c.deref.ensures, c.as_slice-table.ensures.value) at c.in-Err.ensures.refused in
     rw (← c.self.view_is)
-    (refused_addition stop v.segments.items v.entries.items v.removed.items v.count v.tokens v.front.operations c.self.invariant (documents_under stop c.args.documents.now) c.in-Err.error refused)
+    (refused_addition stop v.segments.items v.entries.items v.removed.items v.count v.tokens v.front.operations c.self.invariant c.args.plan.now.workers (documents_under stop c.args.documents.now) c.in-Err.error refused)
 
 pub push-requires : goal.push-requires
 push-requires g c =

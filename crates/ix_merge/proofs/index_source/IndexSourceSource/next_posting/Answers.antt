@@ -4,6 +4,7 @@ use Rattle.ix_run.specs.Heads.{heading_of}
 use Rattle.ix_run.specs.Runs.{coded}
 use Rattle.ix_run.specs.RunSources.{HasGiven, HasLeft, SourceValue}
 use Rattle.ix_run.specs.Sources.{GivesPosting}
+use Rattle.ix_run.proofs.Faulting.{going_fault, some_going}
 use Rattle.ix_run.proofs.RunSources.{place_next, step_given}
 use Rattle.ix_merge.proofs.index_source.IndexSourceSource.next_posting.Goals as goal
 
@@ -20,3 +21,12 @@ returns-clause-given c =
     subst P c.self.view_is
     (subst Q (sym c.in_ok-read_positions.ensures.ok)
     (step_given (heading_of c.self.inside.head) (map coded (drop c.self.inside.number c.self.inside.index.now.parts.entries)) (option_copied c.self.inside.term) (c.in-Some.posting.document, c.in-Some.posting.positions) c.next.new.self c.self.inside.postings (sym c.again-postings.ensures ∙ c.in-Some.ensures.steps)))
+
+pub returns-in_default-clause-no_more_faults : goal.returns-in_default-clause-no_more_faults
+returns-in_default-clause-no_more_faults c = λ error may. some_going c.args.self.now c.requires
+
+pub returns-clause-no_more_faults : goal.returns-clause-no_more_faults
+returns-clause-no_more_faults c = λ error may. some_going c.args.self.now c.requires
+
+pub returns-in_err-read_positions-clause-fault : goal.returns-in_err-read_positions-clause-fault
+returns-in_err-read_positions-clause-fault c = going_fault c.args.self.now c.from_residual.result c.requires

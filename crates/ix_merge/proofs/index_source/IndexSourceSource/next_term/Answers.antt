@@ -44,3 +44,14 @@ returns-clause-ended c = λ ended.
     let none : (map coded (drop c.self.inside.number c.self.inside.index.now.parts.entries)) ≡ [] = ap (λ (s : SourceValue). s.terms) c.self.view_is ∙ ended.0 in
     let e : coded next.entry ∷ map coded (drop (c.self.inside.number + 1) c.self.inside.index.now.parts.entries) ≡ [] = sym next.terms ∙ none in
     absurd cc
+
+pub returns-then-self-term_count-clause-no_more_faults : goal.returns-then-self-term_count-clause-no_more_faults
+returns-then-self-term_count-clause-no_more_faults c = λ error may.
+    absurd (may (no_more c.self.inside.index.now.parts.entries c.self.inside.number (omega (arith, c.term_count.ensures.count)), refl))
+
+pub returns-clause-no_more_faults : goal.returns-clause-no_more_faults
+returns-clause-no_more_faults c = λ error may ended.
+    let next : NextEntry c.self.inside.index.now.parts.entries c.self.inside.number c.term.result.now c.list-self-inside.result = next_entry c.self.inside.index.now.parts.entries c.self.inside.number c.term.result.now c.list-self-inside.result c.term.ensures c.list-self-inside.ensures in
+    let none : (map coded (drop c.self.inside.number c.self.inside.index.now.parts.entries)) ≡ [] = ap (λ (s : SourceValue). s.terms) c.self.view_is ∙ ended.0 in
+    let e : coded next.entry ∷ map coded (drop (c.self.inside.number + 1) c.self.inside.index.now.parts.entries) ≡ [] = sym next.terms ∙ none in
+    absurd cc

@@ -6,6 +6,7 @@ use Rattle.ix_run.specs.Runs.{coded, last_document}
 use Rattle.ix_run.specs.RunSources.{EndsAt, HasGiven, HasLeft, SourceValue}
 use Rattle.ix_run.specs.Sources.{GivesList}
 use Rattle.ix_run.proofs.ListSteps.{if_granted}
+use Rattle.ix_run.proofs.Faulting.{some_going}
 use Rattle.ix_run.proofs.RunSources.{can_shift, no_postings, place_list, step_list, step_no_list}
 use Rattle.ix_merge.proofs.IndexSources.{ends_somewhere}
 use Rattle.ix_merge.proofs.index_source.IndexSourceSource.take_list.Goals as goal
@@ -62,3 +63,9 @@ returns-clause-given c =
     step_list (heading_of c.self.inside.head) (map coded (drop c.self.inside.number c.self.inside.index.now.parts.entries)) (option_copied c.self.inside.term) c.self.inside.postings c.args.self.now c.self.view_is c.new-self-inside.result (no_postings c.new-self-inside.result c.new-self-inside.ensures)
     c.args.next _ _ c.args.out.now.items c.push_shifted.new.out.items c.len-documents.ensures.value (sym (can.after some))
     (if_granted c.push_shifted.result (sym c.is_err.ensures.value ∙ c.if-is_err.false) c.push_shifted.ensures.ok)
+
+pub returns-then-documents-eq0-clause-no_more_faults : goal.returns-then-documents-eq0-clause-no_more_faults
+returns-then-documents-eq0-clause-no_more_faults c = λ error may. some_going c.args.self.now c.requires.at_hand
+
+pub returns-clause-no_more_faults : goal.returns-clause-no_more_faults
+returns-clause-no_more_faults c = λ error may. some_going c.args.self.now c.requires.at_hand

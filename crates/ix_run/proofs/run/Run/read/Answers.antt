@@ -23,7 +23,7 @@ pub new-requires : goal.new-requires
 new-requires g c =
     let read = c.in_ok-terms.ensures.read in
     let same : heading_of c.into_head.result ≡ heading_of c.in_ok-reader.reader.head = c.into_head.ensures ∙ c.in_ok-terms.ensures.heading in
-    is_run (head_value c.into_head.result c.in_ok-terms.terms.items) read.entries read.told
+    is_run (head_value c.into_head.result c.in_ok-terms.terms) read.entries read.told
     (subst (λ (h : Heading). AreWhole h read.entries) (sym same) (read.yielded.whole [] None c.in_ok-reader.ensures.unread))
 
 pub returns-clause-exact : goal.returns-clause-exact
@@ -32,7 +32,7 @@ returns-clause-exact g c bytes known =
     let same : heading_of c.into_head.result ≡ heading_of c.in_ok-reader.reader.head = c.into_head.ensures ∙ c.in_ok-terms.ensures.heading in
     let P : Heading → Type 0 = λ h. bytes ≡ run_layout h.first (parts_with h read.entries) in
     ap run_bytes c.new.ensures
-    ∙ run_exact (head_value c.into_head.result c.in_ok-terms.terms.items) read.entries read.told bytes
+    ∙ run_exact (head_value c.into_head.result c.in_ok-terms.terms) read.entries read.told bytes
     (subst P (sym same) (c.in_ok-reader.ensures.yields bytes read.entries known read.yielded).0)
 
 pub returns-clause-accepted : goal.returns-clause-accepted
@@ -41,4 +41,4 @@ returns-clause-accepted g c first collection bytes is known =
     let faced = c.in_ok-reader.ensures.faced first collection bytes is known in
     let same : heading_of c.into_head.result ≡ heading_of c.in_ok-reader.reader.head = c.into_head.ensures ∙ c.in_ok-terms.ensures.heading in
     subst (λ (run : RunValue). IsRunOf run first collection) (sym c.new.ensures)
-    (run_accepted (head_value c.into_head.result c.in_ok-terms.terms.items) read.entries read.told first collection bytes is (same ∙ faced.0) (read.accepted is.parts.entries faced.1))
+    (run_accepted (head_value c.into_head.result c.in_ok-terms.terms) read.entries read.told first collection bytes is (same ∙ faced.0) (read.accepted is.parts.entries faced.1))

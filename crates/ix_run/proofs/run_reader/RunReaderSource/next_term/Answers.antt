@@ -3,6 +3,7 @@ use Rattle.std.proofs.Common.{◌≡◌, ap, string_bytes}
 use Rattle.ix_run.specs.Reading.{term_at}
 use Rattle.ix_run.specs.declared.run_reader.Place.{Place}
 use Rattle.ix_run.specs.declared.run_reader.Place.TheVariants.{AtTerm, Ended}
+use Rattle.ix_run.proofs.Faulting.{going_begun, keeps_faults_on, may_fault, well_begun}
 use Rattle.ix_run.proofs.ReadSkips.{ends_again}
 use Rattle.ix_run.proofs.run_reader.RunReaderSource.next_term.Goals as goal
 
@@ -20,3 +21,15 @@ returns-in-Ok-clause-accepted g c postings entries faces = c.in-Ok.ensures.accep
 
 pub returns-in-Err-clause-accepted : goal.returns-in-Err-clause-accepted
 returns-in-Err-clause-accepted g c postings entries faces = c.in-Err.ensures.accepted entries postings faces
+
+pub returns-in-Ok-clause-no_more_faults : goal.returns-in-Ok-clause-no_more_faults
+returns-in-Ok-clause-no_more_faults g c =
+    let self = c.args.self.now in
+    let remaining = g.R.Read.remaining in
+    keeps_faults_on remaining self (going_begun remaining self c.in-Begun.is) (well_begun remaining self c.in-Begun.is) c.go_on.new.self c.in-Ok.more _ _ c.in-Ok.ensures.begun c.in-Ok.ensures.accepted
+
+pub returns-in-Err-clause-fault : goal.returns-in-Err-clause-fault
+returns-in-Err-clause-fault g c =
+    let self = c.args.self.now in
+    let remaining = g.R.Read.remaining in
+    may_fault remaining self (going_begun remaining self c.in-Begun.is) (well_begun remaining self c.in-Begun.is) c.in-Err.error (λ postings entries faces. c.in-Err.ensures.accepted entries postings faces)

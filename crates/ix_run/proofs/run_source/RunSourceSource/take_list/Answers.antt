@@ -2,34 +2,34 @@
 use Rattle.std.proofs.Common.{ℕ, ◌<◌, map, length, sym, subst, ◌∙◌, arith}
 use Rattle.std.specs.Option.{option_copied}
 use Rattle.ix_run.specs.Heads.{heading_of}
-use Rattle.ix_run.specs.Runs.{term_shown}
 use Rattle.ix_run.specs.RunSources.{HasGiven, HasLeft, SourceValue}
 use Rattle.ix_run.specs.Sources.{GivesList}
 use Rattle.ix_run.proofs.ListSteps.{if_granted}
+use Rattle.ix_run.proofs.Faulting.{some_going}
 use Rattle.ix_run.proofs.RunSources.{can_shift, ends_none, no_postings, place_list, step_list, step_no_list}
 use Rattle.ix_run.proofs.run_source.RunSourceSource.take_list.Goals as goal
 
 pub overflow_cast-documents : goal.overflow_cast-documents
 overflow_cast-documents c =
-    let source : SourceValue = record { heading = heading_of c.self.inside.head.now; terms = map term_shown c.self.inside.terms.now; term = option_copied c.self.inside.term; postings = c.self.inside.postings } in
+    let source : SourceValue = record { heading = heading_of c.self.inside.head.now; terms = c.self.inside.terms; term = option_copied c.self.inside.term; postings = c.self.inside.postings } in
     let few = (can_shift source c.args.self.now c.self.inside.last c.args.next c.self.view_is c.self.invariant.0 c.self.invariant.1 c.requires.at_hand c.requires.low).few in
     omega (arith, few)
 
 pub push_shifted-requires : goal.push_shifted-requires
 push_shifted-requires c =
-    let source : SourceValue = record { heading = heading_of c.self.inside.head.now; terms = map term_shown c.self.inside.terms.now; term = option_copied c.self.inside.term; postings = c.self.inside.postings } in
+    let source : SourceValue = record { heading = heading_of c.self.inside.head.now; terms = c.self.inside.terms; term = option_copied c.self.inside.term; postings = c.self.inside.postings } in
     (can_shift source c.args.self.now c.self.inside.last c.args.next c.self.view_is c.self.invariant.0 c.self.invariant.1 c.requires.at_hand c.requires.low).are
 
 pub overflow_add-result : goal.overflow_add-result
 overflow_add-result c =
-    let source : SourceValue = record { heading = heading_of c.self.inside.head.now; terms = map term_shown c.self.inside.terms.now; term = option_copied c.self.inside.term; postings = c.self.inside.postings } in
+    let source : SourceValue = record { heading = heading_of c.self.inside.head.now; terms = c.self.inside.terms; term = option_copied c.self.inside.term; postings = c.self.inside.postings } in
     let some : 0 < length c.self.inside.postings = omega arith in
     let fits = (can_shift source c.args.self.now c.self.inside.last c.args.next c.self.view_is c.self.invariant.0 c.self.invariant.1 c.requires.at_hand c.requires.low).fits some in
     omega (arith, fits)
 
 pub overflow_add-result-2 : goal.overflow_add-result-2
 overflow_add-result-2 c =
-    let source : SourceValue = record { heading = heading_of c.self.inside.head.now; terms = map term_shown c.self.inside.terms.now; term = option_copied c.self.inside.term; postings = c.self.inside.postings } in
+    let source : SourceValue = record { heading = heading_of c.self.inside.head.now; terms = c.self.inside.terms; term = option_copied c.self.inside.term; postings = c.self.inside.postings } in
     let some : 0 < length c.self.inside.postings = omega arith in
     let fits = (can_shift source c.args.self.now c.self.inside.last c.args.next c.self.view_is c.self.invariant.0 c.self.invariant.1 c.requires.at_hand c.requires.low).fits some in
     omega (arith, fits)
@@ -37,7 +37,7 @@ overflow_add-result-2 c =
 pub invariant_of-self : goal.invariant_of-self
 invariant_of-self c =
     let none = no_postings c.new-self-inside.result c.new-self-inside.ensures in (
-      place_list (heading_of c.self.inside.head.now) (map term_shown c.self.inside.terms.now) (option_copied c.self.inside.term) c.self.inside.postings c.args.self.now c.self.view_is
+      place_list (heading_of c.self.inside.head.now) c.self.inside.terms (option_copied c.self.inside.term) c.self.inside.postings c.args.self.now c.self.view_is
           c.new-self-inside.result none c.requires.at_hand c.self.invariant.0,
       ends_none c.self.inside.last c.new-self-inside.result none,
     )
@@ -46,7 +46,7 @@ pub returns-then-documents-eq0-clause-given : goal.returns-then-documents-eq0-cl
 returns-then-documents-eq0-clause-given c =
     let P : ℕ → Type 0 = λ n. GivesList HasLeft HasGiven c.args.self.now c.args.self.now c.args.self.now.heading.first c.args.next n c.args.next c.args.out.now.items c.args.out.now.items in
     subst P (sym c.if-documents-eq0.true)
-    (step_no_list (heading_of c.self.inside.head.now) (map term_shown c.self.inside.terms.now) (option_copied c.self.inside.term) c.self.inside.postings c.args.self.now c.self.view_is
+    (step_no_list (heading_of c.self.inside.head.now) c.self.inside.terms (option_copied c.self.inside.term) c.self.inside.postings c.args.self.now c.self.view_is
     c.args.next c.args.out.now.items (omega arith))
 
 pub returns-clause-drained : goal.returns-clause-drained
@@ -54,10 +54,16 @@ returns-clause-drained c = λ some. no_postings c.new-self-inside.result c.new-s
 
 pub returns-clause-given : goal.returns-clause-given
 returns-clause-given c =
-    let source : SourceValue = record { heading = heading_of c.self.inside.head.now; terms = map term_shown c.self.inside.terms.now; term = option_copied c.self.inside.term; postings = c.self.inside.postings } in
+    let source : SourceValue = record { heading = heading_of c.self.inside.head.now; terms = c.self.inside.terms; term = option_copied c.self.inside.term; postings = c.self.inside.postings } in
     let some : 0 < length c.self.inside.postings = omega arith in
     let can = can_shift source c.args.self.now c.self.inside.last c.args.next c.self.view_is c.self.invariant.0 c.self.invariant.1 c.requires.at_hand c.requires.low in
-    step_list (heading_of c.self.inside.head.now) (map term_shown c.self.inside.terms.now) (option_copied c.self.inside.term) c.self.inside.postings c.args.self.now c.self.view_is
+    step_list (heading_of c.self.inside.head.now) c.self.inside.terms (option_copied c.self.inside.term) c.self.inside.postings c.args.self.now c.self.view_is
     c.new-self-inside.result (no_postings c.new-self-inside.result c.new-self-inside.ensures)
     c.args.next _ _ c.args.out.now.items c.push_shifted.new.out.items c.len-documents.ensures.value (sym (can.after some))
     (if_granted c.push_shifted.result (sym c.is_err.ensures.value ∙ c.if-is_err.false) c.push_shifted.ensures.ok)
+
+pub returns-then-documents-eq0-clause-no_more_faults : goal.returns-then-documents-eq0-clause-no_more_faults
+returns-then-documents-eq0-clause-no_more_faults c = λ error may. some_going c.args.self.now c.requires.at_hand
+
+pub returns-clause-no_more_faults : goal.returns-clause-no_more_faults
+returns-clause-no_more_faults c = λ error may. some_going c.args.self.now c.requires.at_hand

@@ -11,3 +11,12 @@ returns-in-Ok-clause-given c =
 pub returns-in-Ok-next_posting-clause-given : goal.returns-in-Ok-next_posting-clause-given
 returns-in-Ok-next_posting-clause-given c =
     rw c.in-Index.is (encloses_posting Index yields-value.it gives-value.it (IsAtEndOfTerm c.next_posting-in-Index.new.self) c.in-Index.source c.next_posting-in-Index.new.self c.next_posting-in-Index.new.positions.items c.in-Ok-next_posting.found c.in-Ok-next_posting.ensures.given)
+
+pub returns-in-Ok-clause-no_more_faults : goal.returns-in-Ok-clause-no_more_faults
+returns-in-Ok-clause-no_more_faults c = rw c.in-Run.is (λ error (may, is). (c.in-Ok.ensures.no_more_faults (record {}) may, is))
+
+pub returns-in-Ok-next_posting-clause-no_more_faults : goal.returns-in-Ok-next_posting-clause-no_more_faults
+returns-in-Ok-next_posting-clause-no_more_faults c = rw c.in-Index.is (λ error (may, is). (c.in-Ok-next_posting.ensures.no_more_faults (record {}) may, is))
+
+pub returns-in-Text-clause-no_more_faults : goal.returns-in-Text-clause-no_more_faults
+returns-in-Text-clause-no_more_faults c = rw c.in-Text.is c.next_posting-in-Text.ensures.no_more_faults

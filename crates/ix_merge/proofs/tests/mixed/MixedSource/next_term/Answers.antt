@@ -14,3 +14,12 @@ pub returns-in-Ok-next_term-clause-begun : goal.returns-in-Ok-next_term-clause-b
 returns-in-Ok-next_term-clause-begun c =
     let new = c.next_term-in-Index.new.self in
     rw c.in-Index.is (encloses_term Index yields-value.it gives-value.it is_drained-value.it (λ term. new.term ≡ Some term) (new.term ≡ None) (IsAtEnd new) c.in-Index.source new c.in-Ok-next_term.more c.in-Ok-next_term.ensures.begun)
+
+pub returns-in-Ok-clause-no_more_faults : goal.returns-in-Ok-clause-no_more_faults
+returns-in-Ok-clause-no_more_faults c = rw c.in-Run.is (λ error (may, is). (c.in-Ok.ensures.no_more_faults (record {}) may, is))
+
+pub returns-in-Ok-next_term-clause-no_more_faults : goal.returns-in-Ok-next_term-clause-no_more_faults
+returns-in-Ok-next_term-clause-no_more_faults c = rw c.in-Index.is (λ error (may, is). (c.in-Ok-next_term.ensures.no_more_faults (record {}) may, is))
+
+pub returns-in-Text-clause-no_more_faults : goal.returns-in-Text-clause-no_more_faults
+returns-in-Text-clause-no_more_faults c = rw c.in-Text.is c.next_term-in-Text.ensures.no_more_faults

@@ -1,7 +1,0 @@
-use Rattle.std.proofs.Common.{◌≡◌, take}
-use Rattle.ix_file.specs.Opened.{names_of}
-use Rattle.ix.specs.NameLines.{name_lines}
-use Rattle.ix.proofs.names.name_lines_in.Given as goal
-
-abbrev pub invariant-loop-number : goal.invariant-loop-number
-invariant-loop-number l = l.lines.items ≡ name_lines (names_of l.index.parts.rows) (take l.number-index l.numbers)

@@ -1,0 +1,138 @@
+//! Building the index text of a collection with its runs where the plan says.
+ghost use Rattle.std.specs.Prelude.{◌≡◌, ℕ, List, None, Some, vec_len, All, IfErr, IfOk, OnErr, OnOk};
+ghost use Rattle.std.specs.Io.KnownBytes.{Keeps};
+ghost use Rattle.ix_text.specs.Collections.{collection_of};
+ghost use Rattle.ix_file.specs.Endings.{WritesIndexText};
+ghost use Rattle.ix_build.specs.AlikeFronts.{LeavesAlikeFront, WritesAlike};
+ghost use Rattle.ix_build.specs.BuildErrors.{IsBeforeWriting, IsBuildRefusal, IsFolderRefusal};
+ghost use Rattle.ix_build.specs.FolderStores.{IsStoreIn};
+ghost use Rattle.ix_build.specs.GivenBack.{GivesBlocksBack};
+ghost use Rattle.ix_build.specs.ReadBack.{TellBytes};
+ghost use Rattle.ix_build.specs.RunPaths.{run_path};
+
+use crate::blocks::bounds_of;
+use crate::build_error::BuildError;
+use crate::building::{block_count, build};
+use crate::building_over::{BuiltOver, build_over};
+use crate::folder::{FolderStore, run_path};
+use crate::plan::Plan;
+use crate::run_files::RunFiles;
+use ix_text::{Collection, Memory, StopList};
+use std::alloc::Global;
+use std::io::Write;
+use std::sync::Wait;
+use std::thread::Threads;
+
+/// Writes the index text, version 2, of a collection under a stop list, whatever the plan, as `build` does, with the
+/// runs of its blocks where the plan says: in memory, or in files of a folder, which has to exist.
+///
+/// In a folder each run is saved in a file `run-` and the block's place in ten digits. Memory holds its head alone until
+/// the merge, which reads all of them as it goes, each through an open file. Files of those names are overwritten, and
+/// afterwards removed, also after a refusal; one that cannot be removed stays. With runs in memory `files` is asked for
+/// nothing.
+///
+/// Fails with `Thread` where a thread cannot be started, before anything is written; with `Spill` at the place, from 0,
+/// of a block whose run was not kept in the folder or not given back, which does not come with runs in memory; with
+/// `Write` where a write or the flush is refused; with `Memory` where memory is. After these a front of an index text
+/// with the collection's stop terms, names and token counts is written, perhaps nothing of it, or after a refused flush
+/// all of it.
+pub fn build_with_files<W: Write, F: RunFiles, R: Threads + Wait + Sync>(
+    rt: &R,
+    alloc: Global,
+    files: &F,
+    collection: &Collection<'_>,
+    stop: &StopList,
+    plan: &Plan,
+    out: &mut W,
+) -> Result<(), BuildError>
+    // With runs in memory it is the collection's own index text.
+    ensures written { plan.now.folder ≡ None → OnOk result (WritesIndexText
+        (W.contents out.old) (W.contents out.new) (collection_of stop.now collection.now)) }
+    ensures refused { plan.now.folder ≡ None → IfErr result (IsBuildRefusal plan.now.workers) }
+
+    // With runs in a folder it is too, where the files tell their bytes and give nothing back but the runs.
+    ensures exact { (folder : List ℕ) → plan.now.folder ≡ Some folder
+        → TellBytes F.Reader.remaining
+        → GivesBlocksBack plan.now.cut collection.now stop.now
+        (λ place. F.back files.now (run_path folder place))
+        → OnOk result (WritesIndexText (W.contents out.old) (W.contents out.new)
+        (collection_of stop.now collection.now)) }
+
+    // Whatever they give back, it has the same stop terms, names and token counts.
+    ensures alike { OnOk result (WritesAlike (collection_of stop.now collection.now)
+        (W.contents out.old) (W.contents out.new)) }
+    ensures spilled { IfErr result (IsFolderRefusal plan.now collection.now) }
+    ensures early { IfErr result (λ error. IsBeforeWriting error
+        → Keeps (W.contents out.old) (W.contents out.new)) }
+    ensures front { OnErr result (LeavesAlikeFront (collection_of stop.now collection.now)
+        (W.contents out.old) (W.contents out.new)) }
+{
+    match plan.folder() {
+        None => build(rt, alloc, collection, stop, plan, out),
+        Some(folder) => build_in_folder(rt, alloc, files, folder, collection, stop, plan, out),
+    }
+}
+
+/// Builds with the runs in files of this folder, which are removed afterwards.
+fn build_in_folder<W: Write, F: RunFiles, R: Threads + Wait + Sync>(
+    rt: &R,
+    alloc: Global,
+    files: &F,
+    folder: &str,
+    collection: &Collection<'_>,
+    stop: &StopList,
+    plan: &Plan,
+    out: &mut W,
+) -> Result<(), BuildError>
+    ensures exact { TellBytes F.Reader.remaining
+        → GivesBlocksBack plan.now.cut collection.now stop.now
+        (λ place. F.back files.now (run_path folder.now place))
+        → OnOk result (WritesIndexText (W.contents out.old) (W.contents out.new)
+        (collection_of stop.now collection.now)) }
+    ensures alike { OnOk result (WritesAlike (collection_of stop.now collection.now)
+        (W.contents out.old) (W.contents out.new)) }
+    ensures spilled { IfErr result (IsFolderRefusal plan.now collection.now) }
+    ensures early { IfErr result (λ error. IsBeforeWriting error
+        → Keeps (W.contents out.old) (W.contents out.new)) }
+    ensures front { OnErr result (LeavesAlikeFront (collection_of stop.now collection.now)
+        (W.contents out.old) (W.contents out.new)) }
+{
+    let Ok(bounds) = bounds_of(alloc, collection.docs(), plan.cut()) else {
+        return Err(BuildError::Memory);
+    };
+    let count = block_count(bounds.as_slice());
+    let Ok(stores) = stores_in(alloc, files, folder, plan.workers()) else {
+        return Err(BuildError::Memory);
+    };
+    let BuiltOver { stores: _, result } = build_over(
+        rt, alloc, collection, stop, plan, stores, out,
+    );
+    remove_runs(alloc, files, folder, count);
+    result
+}
+
+/// So many stores that keep runs in files of this folder.
+fn stores_in<'a, F>(
+    alloc: Global,
+    files: &'a F,
+    folder: &'a str,
+    workers: usize,
+) -> Result<Vec<FolderStore<'a, F>>, Memory>
+    ensures as_many { IfOk result (λ stores. vec_len stores ≡ workers) }
+    ensures each { IfOk result (λ stores. All (IsStoreIn files.now folder.now) stores.items) }
+{
+    let mut stores = Vec::with_capacity(alloc, workers)?;
+    for _ in 0..workers {
+        stores.push_reserved(FolderStore::new(alloc, files, folder));
+    }
+    Ok(stores)
+}
+
+/// Removes the files of the runs of so many places from the folder, those that are there and can be removed.
+fn remove_runs<F: RunFiles>(alloc: Global, files: &F, folder: &str, count: usize) {
+    for place in 0..count {
+        if let Ok(path) = run_path(alloc, folder, place) {
+            files.remove(path.as_str());
+        }
+    }
+}

@@ -1,0 +1,5 @@
+pub mod Asking
+pub mod Filling
+pub mod Indexing
+pub mod Searching
+pub mod Telling

@@ -1,0 +1,113 @@
+//! Each call once where it answers and once where it is refused, and a buffer that is too short.
+
+use crate::{Found, ix_ask, ix_build, ix_search, ix_terms};
+use std::alloc::Global;
+use std::process::Abort;
+use std::test::Fail;
+
+const FIVE: &[u8] = b"a\tx y\nb\ty\nc\t\nd\ty x y\ne\tx\n";
+
+/// What has told nothing yet.
+const NOTHING: Found = Found {
+    count: 9,
+    size: 9,
+    area: 9,
+    number: 9,
+};
+
+/// A status, how many were found, and what stands in the buffer.
+#[derive(Drop)]
+struct Row<'a>(u32, usize, &'a [u8]);
+
+/// Compares a status, a count and a buffer with a row.
+fn expect(rt: &impl Abort, status: u32, found: &Found, out: &[u8], row: &Row<'_>) {
+    assert_eq!(rt; status, row.0);
+    assert_eq!(rt; found.count, row.1);
+    assert_eq!(rt; found.size, row.2.len());
+    assert!(rt; out.len() >= found.size);
+    assert!(rt; out.starts_with(row.2));
+}
+
+#[test]
+fn a_collection_is_asked(rt: HostRuntime) -> Result<(), Fail> {
+    let mut out = [0; 40];
+    let mut found = NOTHING;
+    let status = ix_ask(rt.alloc(), FIVE, b"", b"y", &mut out, &mut found);
+    expect(&rt, status, &found, &out, &Row(0, 3, b"a\nb\nd\n"));
+    let status = ix_ask(rt.alloc(), FIVE, b"", b"y x", &mut out, &mut found);
+    expect(
+        &rt,
+        status,
+        &found,
+        &out,
+        &Row(1, 0, b"query 2: Unexpected(2)"),
+    );
+    assert_eq!(rt; (found.area, found.number), (3, 2));
+    let status = ix_ask(rt.alloc(), b"a", b"", b"y", &mut out, &mut found);
+    expect(
+        &rt,
+        status,
+        &found,
+        &out,
+        &Row(1, 0, b"collection 3: NoTab(1)"),
+    );
+    let status = ix_ask(rt.alloc(), FIVE, b"x y", b"y", &mut out, &mut found);
+    expect(
+        &rt,
+        status,
+        &found,
+        &out,
+        &Row(1, 0, b"stop 1: NotOneWord(1)"),
+    );
+    let status = ix_ask(rt.alloc(), FIVE, b"\xff", b"y", &mut out, &mut found);
+    assert_eq!(rt; (status, found.area), (2, 2));
+    let status = ix_ask(rt.alloc(), FIVE, b"", b"\xff", &mut out, &mut found);
+    assert_eq!(rt; (status, found.area), (2, 3));
+    Ok(())
+}
+
+#[test]
+fn a_short_buffer_gets_the_front(rt: HostRuntime) -> Result<(), Fail> {
+    let mut out = [7; 4];
+    let mut found = NOTHING;
+    let status = ix_ask(rt.alloc(), FIVE, b"", b"y", &mut out[..3], &mut found);
+    assert_eq!(rt; (status, found.count, found.size), (0, 3, 6));
+    assert!(rt; out == *b"a\nb\x07");
+    Ok(())
+}
+
+#[test]
+fn an_index_is_built_and_asked(rt: HostRuntime) -> Result<(), Fail> {
+    let mut text = [0; 1000];
+    let mut out = [0; 40];
+    let mut found = NOTHING;
+    let status = ix_build(rt.alloc(), FIVE, b"", &mut text, &mut found);
+    assert_eq!(rt; (status, found.count), (0, 0));
+    assert!(rt; found.size <= text.len());
+    let index = &text[..found.size];
+    let status = ix_search(rt.alloc(), index, b"\"y x\"", &mut out, &mut found);
+    expect(&rt, status, &found, &out, &Row(0, 1, b"d\n"));
+    let status = ix_terms(rt.alloc(), index, b"x*", &mut out, &mut found);
+    expect(&rt, status, &found, &out, &Row(0, 1, b"x\t3\n"));
+    let status = ix_search(rt.alloc(), index, b"(", &mut out, &mut found);
+    assert_eq!(rt; (status, found.area), (1, 3));
+    let status = ix_terms(rt.alloc(), index, b"*", &mut out, &mut found);
+    expect(
+        &rt,
+        status,
+        &found,
+        &out,
+        &Row(1, 0, b"pattern 2: BareStar"),
+    );
+    let status = ix_search(rt.alloc(), FIVE, b"y", &mut out, &mut found);
+    assert_eq!(rt; (status, found.area), (1, 5));
+    let status = ix_build(rt.alloc(), b"a", b"", &mut out, &mut found);
+    expect(
+        &rt,
+        status,
+        &found,
+        &out,
+        &Row(1, 0, b"collection 3: NoTab(1)"),
+    );
+    Ok(())
+}

@@ -1,0 +1,148 @@
+//! The indexer: it grows a version, and shows it.
+ghost use Rattle.std.specs.Prelude.{◌≡◌, ◌<◌, ◌++◌, ◌∷◌, [], length, option_map, slice_get, IfErr, IfOk, OnErr, OnOk};
+ghost use Rattle.ix_live.specs.Growing.{documents_under};
+ghost use Rattle.ix_live.specs.Identities.{version_of};
+ghost use Rattle.ix_live.specs.Indexers.{IsAhead, indexer_of};
+ghost use Rattle.ix_live.specs.LiveErrors.{RefusesAddition, RefusesRemoval};
+ghost use Rattle.ix_live.specs.Operations.{Remove, addition_of, documents_added};
+ghost use Rattle.ix_live.specs.Pieces.{Falls};
+ghost use Rattle.ix_live.specs.declared.live_error.LiveError.TheVariants.{Memory};
+
+use crate::live_error::LiveError;
+use crate::log::Head;
+use crate::news::News;
+use crate::rule::VersionWriter;
+use crate::showing::show_version;
+use crate::version::Version;
+use core::mem::replace_with;
+use ix_build::Plan;
+use ix_text::Collection;
+use std::alloc::Global;
+use std::marker::Model;
+use std::sync::Wait;
+use std::thread::Threads;
+
+/// Adds documents to a live index, removes documents, and publishes both for the searchers. It ends by `close` alone.
+/// Contracts see its stop set, which live index it is, the operations published and pending, and the pieces of all
+/// documents.
+pub struct Indexer {
+    writer: VersionWriter,
+    // what is published and, behind it, what is pending
+    next: Version,
+    head: Head,
+    alloc: Global,
+}
+
+impl Model for Indexer {
+    ghost use Rattle.ix_live.specs.Identities.{version_of};
+    ghost use Rattle.ix_live.specs.Indexers.{IndexerValue, IsAhead, indexer_of};
+
+    ghost Value = { IndexerValue };
+
+    ghost view = { λ indexer.
+        indexer_of (version_of indexer.writer.desk.shown.value) indexer.next };
+
+    ghost invariant = { λ indexer.
+        IsAhead (version_of indexer.writer.desk.shown.value) indexer.next indexer.head };
+}
+
+impl Indexer {
+    /// The indexer of a version, and of copies that show the version from which it goes on.
+    pub(crate) fn new(alloc: Global, writer: VersionWriter, next: Version, head: Head) -> Indexer
+        requires { IsAhead (version_of writer.desk.shown.value) next head }
+        ensures { result ≡ indexer_of (version_of writer.desk.shown.value) next }
+    {
+        Indexer {
+            writer,
+            next,
+            head,
+            alloc,
+        }
+    }
+
+    /// Adds documents behind all others; they are pending until they are published. A collection without documents
+    /// changes nothing.
+    ///
+    /// `Build` where the documents are not built, `TooLarge` where there would be more than 2^28 documents or tokens,
+    /// and `Memory` where memory is refused. All is then as it was.
+    pub fn add<R: Threads + Wait + Sync>(
+        &mut self,
+        rt: &R,
+        documents: &Collection<'_>,
+        plan: &Plan,
+    ) -> Result<(), LiveError>
+        ensures same { (self.new.stop ≡ self.old.stop) × (self.new.book ≡ self.old.book)
+            × (self.new.published ≡ self.old.published) }
+        ensures added { OnOk result (self.new.pending
+            ≡ self.old.pending ++ addition_of (documents_under self.old.stop documents.now)) }
+        ensures kept { OnErr result (self.new ≡ self.old) }
+        ensures error { IfErr result (RefusesAddition plan.now.workers
+            (self.old.published ++ self.old.pending)
+            (documents_under self.old.stop documents.now)) }
+    {
+        self.next.add(rt, self.alloc, &self.head, documents, plan)
+    }
+
+    /// Removes the document of a number; the removal is pending until it is published. The document keeps its number
+    /// and its name. A second removal changes nothing but the history.
+    ///
+    /// `Number` where there is no such document, and `Memory` where memory is refused. All is then as it was.
+    pub fn remove(&mut self, number: u32) -> Result<(), LiveError>
+        ensures same { (self.new.stop ≡ self.old.stop) × (self.new.book ≡ self.old.book)
+            × (self.new.published ≡ self.old.published) × (self.new.pieces ≡ self.old.pieces) }
+        ensures removed { OnOk result
+            (self.new.pending ≡ self.old.pending ++ Remove number ∷ []) }
+        ensures there { OnOk result
+            (number < length (documents_added (self.old.published ++ self.old.pending))) }
+        ensures kept { OnErr result (self.new ≡ self.old) }
+        ensures error { IfErr result (RefusesRemoval
+            (length (documents_added (self.old.published ++ self.old.pending))) number) }
+    {
+        self.next.remove(&self.head, number)
+    }
+
+    /// Publishes all that is pending, at the end of the history. It waits for the searchers that still take the version
+    /// from before the last publish, but for no query.
+    ///
+    /// `Memory` where memory is refused. All is then as it was.
+    pub fn publish<R: Wait>(&mut self, rt: &R) -> Result<News, LiveError>
+        ensures same { (self.new.stop ≡ self.old.stop) × (self.new.book ≡ self.old.book)
+            × (self.new.pieces ≡ self.old.pieces) }
+        ensures published { OnOk result
+            ((self.new.published ≡ self.old.published ++ self.old.pending)
+            × (self.new.pending ≡ [])) }
+        ensures news { IfOk result (λ news. news ≡ record {
+          book = self.old.book;
+          operations = self.old.published ++ self.old.pending;
+        }) }
+        ensures kept { OnErr result (self.new ≡ self.old) }
+        ensures error { IfErr result (λ error. error ≡ Memory) }
+    {
+        let version = self.next.share(self.alloc)?;
+        replace_with(&mut self.writer, (rt, version), show_version::<R>)?;
+        Ok(News {
+            front: self.next.front().again(),
+        })
+    }
+
+    /// The generation of the segment at a place, pending documents included; none past the end.
+    pub fn generation(&self, place: usize) -> Option<u32>
+        ensures generation { result
+            ≡ option_map (λ piece. piece.generation) (slice_get self.now.pieces place) }
+        ensures falls { Falls self.now.pieces }
+    {
+        self.next.generation(place)
+    }
+
+    /// Ends the indexer, once no searcher takes a version any more. What is pending is dropped, and no searcher answers
+    /// from now on.
+    pub fn close<R: Wait>(self, rt: &R) {
+        let Self {
+            writer,
+            next: _next,
+            head: _head,
+            alloc: _,
+        } = self;
+        writer.take(rt);
+    }
+}

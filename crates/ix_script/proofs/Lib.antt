@@ -1,0 +1,4 @@
+pub mod GroupLemmas
+pub mod LineLemmas
+pub mod Reading
+pub mod Uniqueness

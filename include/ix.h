@@ -1,0 +1,132 @@
+/*
+** ix: exact search in collections of named texts, for C and for every language that calls C.
+**
+** What a call computes is proved: docs/library.md says which promises hold, and what rests on the caller.
+**
+** TEXTS
+**   A collection text is UTF-8, one document a line: its name (1 to 255 bytes), a TAB, its text, LF.
+**   A stop text is UTF-8, one word a line: words that are left out of the documents. Size 0: no stop words.
+**   A query is UTF-8: words, "phrases", AND, OR, NOT, NEAR/n, brackets, and patterns with stars.
+**   A pattern is UTF-8: a piece of a term, with a star where anything may stand.
+**   An index text is what ix_build gives, or the program's `ix build`, `ix merge` or `ix upgrade`; version 1 or 2.
+**   None of them ends with a NUL: each is handed over by its first byte and its size in bytes.
+**
+** THE BUFFER
+**   A call puts its bytes into `out`, which has room for `out_size` of them, and tells in `found->size` how many there
+**   are. Where there are more, `out` has the first `out_size` of them and nothing is written behind it: call again
+**   with room for `found->size`. No NUL is put at the end. `out_size` may be 0, to learn the size alone.
+**
+** WHAT RESTS ON THE CALLER: nothing here can be checked from inside.
+**   - NO POINTER IS NULL, also where its size is 0, and each points to as many bytes as its size says.
+**   - `OUT`, `FOUND` AND THE TEXTS DO NOT OVERLAP. Texts may overlap one another: they are only read.
+**   - Nobody changes a text, `out` or `found` during the call.
+**   - No size is above PTRDIFF_MAX.
+**   - malloc, realloc and free are those of one allocator.
+**   - No call is made from a signal handler, nor in the forked child of a process with threads.
+**
+** THREADS
+**   A call starts no thread, and two calls share nothing but the texts that they read. Any number may run side by
+**   side, each with its own `out` and `found`.
+**
+** MEMORY
+**   What a call takes it gives back before it returns. The caller owns every buffer; there is nothing to be freed.
+*/
+#ifndef IX_H
+#define IX_H
+
+#include <stddef.h>
+#include <stdint.h>
+
+#ifdef __cplusplus
+extern "C" {
+#endif
+
+/* What a call answers: nothing but these. */
+enum {
+  IX_DONE = 0,    /* done, and `found` tells of what; that nothing was found is no refusal */
+  IX_REFUSED = 1, /* refused: `found->area` and `found->number` tell why, and `out` has the line that says it */
+  IX_NOT_UTF8 = 2 /* a text that is to be UTF-8 is not: `found->area` tells which; `out` is as it was */
+};
+
+/* What a refusal is about, in `found->area`. Its place in the area's list of errors is in `found->number`, from 1. */
+enum {
+  IX_COLLECTION = 1, /* the collection text breaks a rule; it need not be UTF-8 for this: that is error 2 of the list */
+  IX_STOP = 2,       /* the stop text breaks a rule */
+  IX_QUERY = 3,      /* the query does */
+  IX_PATTERN = 4,    /* the pattern does */
+  IX_INDEX = 5,      /* the bytes are no index text */
+  IX_RUN = 6,        /* (of the program) */
+  IX_MERGE = 7,      /* (of the program) */
+  IX_BUILD = 8,      /* (of the program) */
+  IX_MEMORY = 9      /* memory ran out, where no other area tells it */
+};
+
+/* What a call tells beside its answer. */
+typedef struct ix_found {
+  size_t count;    /* how many names or terms were found; 0 after a refusal, and for ix_build */
+  size_t size;     /* how many bytes there are for `out`, whether it has room for them or not; 0 after IX_NOT_UTF8 */
+  uint32_t area;   /* IX_COLLECTION .. IX_MEMORY after a refusal or IX_NOT_UTF8; else 0 */
+  uint32_t number; /* the error's number after a refusal; else 0 */
+} ix_found;
+
+/*
+** ix_ask: asks a collection text.
+**
+** Gives the names of exactly the documents that satisfy the query, each with LF, in the order of the text;
+** `found->count` is how many. Each document is looked at: to ask often, build an index once.
+**
+** Refuses with the areas IX_STOP, IX_COLLECTION, IX_QUERY (in this order of tests) and IX_MEMORY. The line is area,
+** number and name, as in `query 2: Unexpected(2)`, without LF.
+** IX_NOT_UTF8 with IX_STOP or IX_QUERY.
+*/
+uint32_t ix_ask(const uint8_t *collection, size_t collection_size, const uint8_t *stop, size_t stop_size,
+                const uint8_t *query, size_t query_size, uint8_t *out, size_t out_size, ix_found *found);
+
+/*
+** ix_build: builds the index text of a collection text.
+**
+** Gives the one index text, of version 2, of the documents without the stop words: the same bytes as `ix build`.
+** It is made by the calling thread alone, and made again by each call: keep more room than you think. An index text is
+** seldom longer than its collection text.
+**
+** Refuses with IX_STOP, IX_COLLECTION and IX_MEMORY. IX_NOT_UTF8 with IX_STOP.
+*/
+uint32_t ix_build(const uint8_t *collection, size_t collection_size, const uint8_t *stop, size_t stop_size,
+                  uint8_t *out, size_t out_size, ix_found *found);
+
+/*
+** ix_search: asks an index text.
+**
+** Gives the names of exactly the documents of the index that satisfy the query, each with LF, in the order of the
+** documents; `found->count` is how many. The query is read under the stop words of the index. What is no index text of
+** a collection is refused whole: whatever the bytes, no answer is made up.
+**
+** Refuses with IX_INDEX, IX_QUERY and IX_MEMORY. IX_NOT_UTF8 with IX_QUERY.
+*/
+uint32_t ix_search(const uint8_t *index, size_t index_size, const uint8_t *query, size_t query_size,
+                   uint8_t *out, size_t out_size, ix_found *found);
+
+/*
+** ix_terms: lists the terms of an index text.
+**
+** Gives a line for exactly each term that matches the pattern, in the order of the terms' bytes: the term, a TAB, in
+** how many documents it is, LF; `found->count` is how many terms.
+**
+** Refuses with IX_INDEX, IX_PATTERN and IX_MEMORY. IX_NOT_UTF8 with IX_PATTERN.
+*/
+uint32_t ix_terms(const uint8_t *index, size_t index_size, const uint8_t *pattern, size_t pattern_size,
+                  uint8_t *out, size_t out_size, ix_found *found);
+
+#if defined(__cplusplus)
+static_assert(sizeof(ix_found) == 2 * sizeof(size_t) + 8, "ix_found");
+static_assert(sizeof(size_t) == 8, "ix is for machines of 64 bits");
+}
+#elif defined(__STDC_VERSION__) && __STDC_VERSION__ >= 201112L
+_Static_assert(sizeof(ix_found) == 2 * sizeof(size_t) + 8, "ix_found");
+_Static_assert(offsetof(ix_found, size) == sizeof(size_t), "ix_found.size");
+_Static_assert(offsetof(ix_found, area) == 2 * sizeof(size_t), "ix_found.area");
+_Static_assert(offsetof(ix_found, number) == 2 * sizeof(size_t) + 4, "ix_found.number");
+_Static_assert(sizeof(size_t) == 8, "ix is for machines of 64 bits");
+#endif
+
+#endif

@@ -1,0 +1,27 @@
+# shellcheck shell=bash
+# Completions of ix for bash: commands, their options, and files for operands.
+_ix() {
+    local word=${COMP_WORDS[COMP_CWORD]} before=${COMP_WORDS[COMP_CWORD-1]} options
+    COMPREPLY=()
+    if [ "$COMP_CWORD" = 1 ]; then
+        mapfile -t COMPREPLY < <(compgen -W "ask build search terms run merge upgrade help --help" -- "$word")
+        return
+    fi
+    case ${COMP_WORDS[1]} in
+        ask | build) options="--stop --block --bytes --workers --help" ;;
+        run) options="--stop --first --help" ;;
+        help)
+            mapfile -t COMPREPLY < <(compgen -W "ask build search terms run merge upgrade" -- "$word")
+            return
+            ;;
+        *) options="--help" ;;
+    esac
+    case $before in
+        --block | --bytes | --workers | --first) return ;;
+    esac
+    case $word in
+        -*) mapfile -t COMPREPLY < <(compgen -W "$options" -- "$word") ;;
+        *) compopt -o default 2> /dev/null ;;
+    esac
+}
+complete -F _ix ix

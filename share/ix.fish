@@ -1,0 +1,17 @@
+# Completions of ix for fish: commands, their options, and files for operands.
+complete -c ix -n __fish_use_subcommand -f
+complete -c ix -n __fish_use_subcommand -a ask -d 'print the names of the documents of a collection that answer a query'
+complete -c ix -n __fish_use_subcommand -a build -d 'build an index of a collection'
+complete -c ix -n __fish_use_subcommand -a search -d 'print the names of the documents of an index that answer a query'
+complete -c ix -n __fish_use_subcommand -a terms -d 'print the terms of an index that match a pattern'
+complete -c ix -n __fish_use_subcommand -a run -d 'invert a part of a collection into a run file'
+complete -c ix -n __fish_use_subcommand -a merge -d 'merge run files into an index'
+complete -c ix -n __fish_use_subcommand -a upgrade -d 'write an index anew, in the newest version of the format'
+complete -c ix -n __fish_use_subcommand -a help -d 'print help on a command'
+complete -c ix -s h -l help -d 'print help'
+complete -c ix -n '__fish_seen_subcommand_from help' -f -a 'ask build search terms run merge upgrade'
+complete -c ix -n '__fish_seen_subcommand_from ask build run' -l stop -r -F -d 'leave out the words of a file'
+complete -c ix -n '__fish_seen_subcommand_from ask build' -l block -x -d 'invert so many documents at a time'
+complete -c ix -n '__fish_seen_subcommand_from ask build' -l bytes -x -d 'invert so many bytes of text at a time'
+complete -c ix -n '__fish_seen_subcommand_from ask build' -l workers -x -d 'invert by so many threads'
+complete -c ix -n '__fish_seen_subcommand_from run' -l first -x -d 'the number of the first document'

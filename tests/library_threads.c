@@ -1,0 +1,50 @@
+/*
+** Several threads ask one index text at once, each with a buffer of its own, and each answer is that of one thread.
+*/
+#include <ix.h>
+#include <pthread.h>
+#include <stdio.h>
+#include <stdlib.h>
+#include <string.h>
+
+enum { THREADS = 8, ROUNDS = 200 };
+
+static const char *five = "a\tx y\nb\ty\nc\t\nd\ty x y\ne\tx\n";
+static uint8_t index_text[4096];
+static size_t index_size;
+
+static const struct {
+  const char *query, *names;
+} rows[] = {{"y", "a\nb\nd\n"}, {"\"y x\"", "d\n"}, {"NOT y", "c\ne\n"}, {"x* AND NOT y", "e\n"}, {"z", ""}};
+
+static void *ask(void *faults) {
+  for (int round = 0; round < ROUNDS; round++)
+    for (size_t i = 0; i < sizeof rows / sizeof *rows; i++) {
+      uint8_t out[32];
+      ix_found found;
+      uint32_t status = ix_search(index_text, index_size, (const uint8_t *)rows[i].query, strlen(rows[i].query), out,
+                                  sizeof out, &found);
+      size_t size = strlen(rows[i].names);
+      if (status != IX_DONE || found.size != size || memcmp(out, rows[i].names, size)) ++*(int *)faults;
+    }
+  return NULL;
+}
+
+int main(void) {
+  ix_found found;
+  if (ix_build((const uint8_t *)five, strlen(five), (const uint8_t *)"", 0, index_text, sizeof index_text, &found) !=
+          IX_DONE ||
+      found.size > sizeof index_text)
+    return 1;
+  index_size = found.size;
+  pthread_t threads[THREADS];
+  int faults[THREADS] = {0}, all = 0;
+  for (int i = 0; i < THREADS; i++)
+    if (pthread_create(&threads[i], NULL, ask, &faults[i])) return 1;
+  for (int i = 0; i < THREADS; i++) {
+    pthread_join(threads[i], NULL);
+    all += faults[i];
+  }
+  printf("threads: %s\n", all ? "FAULTS" : "each answer is that of one thread");
+  return all != 0;
+}
