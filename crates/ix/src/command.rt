@@ -61,7 +61,7 @@ pub fn command<R: Files + Input + AllocGlobal + Threads + Wait + Sync, W: Write,
         IsRefused AnyBytes (spelled words.now) (W.contents out.old) (W.contents out.new)
         (E.contents err.old) (E.contents err.new) }
 {
-    command_over(rt, rt.alloc(), &HostFiles::new(rt), words, out, err)
+    command_over(rt, rt.alloc(), &HostFiles { rt }, words, out, err)
 }
 
 /// Does what the words after the program's name ask for, with the files that they name, and answers

@@ -9,14 +9,8 @@ use std::{fs, io};
 /// The files of the system, under their paths. Of their bytes nothing is known.
 #[derive(Drop)]
 pub struct SystemFiles<'r, R> {
-    rt: &'r R,
-}
-
-impl<'r, R> SystemFiles<'r, R> {
-    /// The files that this runtime reaches.
-    pub fn new(rt: &'r R) -> SystemFiles<'r, R> {
-        SystemFiles { rt }
-    }
+    /// The runtime that reaches them.
+    pub rt: &'r R,
 }
 
 /// An open file of the system, of whose bytes nothing is known.

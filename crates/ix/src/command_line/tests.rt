@@ -4,7 +4,7 @@ use ix_build::Cut;
 use std::test::Fail;
 
 #[test]
-fn a_line_of_each_command(rt: HostRuntime) -> Result<(), Fail> {
+fn lines_of_ask(rt: HostRuntime) -> Result<(), Fail> {
     for words in [
         ["ask", "--stop=s.txt", "c.txt", "red"].as_slice(),
         ["ask", "--stop", "s.txt", "c.txt", "red"].as_slice(),
@@ -35,6 +35,11 @@ fn a_line_of_each_command(rt: HostRuntime) -> Result<(), Fail> {
         assert!(rt; stop == None);
         assert!(rt; plan.cut() == Cut::Docs(block) && plan.workers() == workers);
     }
+    Ok(())
+}
+
+#[test]
+fn blocks_by_bytes(rt: HostRuntime) -> Result<(), Fail> {
     for words in [
         ["ask", "--bytes=7", "c.txt", "red"].as_slice(),
         ["build", "c.txt", "c.ix", "--bytes", "7"].as_slice(),
@@ -45,6 +50,11 @@ fn a_line_of_each_command(rt: HostRuntime) -> Result<(), Fail> {
         };
         assert!(rt; plan.cut() == Cut::Bytes(7) && plan.workers() == 4);
     }
+    Ok(())
+}
+
+#[test]
+fn lines_of_an_index(rt: HostRuntime) -> Result<(), Fail> {
     let Line::Search { index, query } = read_line(rt.alloc(), &["search", "c.ix", "red"])? else {
         return Err(Fail::from("it is another line"));
     };

@@ -16,14 +16,8 @@ const STANDARD_INPUT: &str = "-";
 /// known.
 #[derive(Drop)]
 pub struct HostFiles<'r, R> {
-    rt: &'r R,
-}
-
-impl<'r, R> HostFiles<'r, R> {
-    /// The files that this runtime reaches.
-    pub fn new(rt: &'r R) -> HostFiles<'r, R> {
-        HostFiles { rt }
-    }
+    /// The runtime that reaches them.
+    pub rt: &'r R,
 }
 
 impl<R: Files + Input + AllocGlobal> FileSource for HostFiles<'_, R> {

@@ -45,7 +45,7 @@ fn built_in<F: RunFiles, R: AllocGlobal + Abort + Threads + Wait + Sync, W: Writ
 
 #[test]
 fn a_folder_is_left_empty(rt: HostRuntime) -> Result<(), Fail> {
-    let files = SystemFiles::new(&rt);
+    let files = SystemFiles { rt: &rt };
     let folder = new_path(&rt, process::id(rt.process()), "empty")?;
     fs::create_dir(&rt, folder.as_str())?;
     for cut in [
@@ -77,7 +77,7 @@ fn run_files_are_the_runs(rt: HostRuntime) -> Result<(), Fail> {
     fs::create_dir(&rt, folder.as_str())?;
     let collection = Collection::read(alloc, FIVE_DOCUMENTS)?;
     let stop = StopList::empty(alloc);
-    let files = SystemFiles::new(&rt);
+    let files = SystemFiles { rt: &rt };
     for cut in [Cut::Docs(2), Cut::Bytes(4)] {
         let mut stores = Vec::new(alloc);
         stores.push(FolderStore::new(alloc, &files, folder.as_str()))?;
@@ -114,7 +114,7 @@ fn run_files_are_the_runs(rt: HostRuntime) -> Result<(), Fail> {
 
 #[test]
 fn no_folder_spills_the_first_block(rt: HostRuntime) -> Result<(), Fail> {
-    let files = SystemFiles::new(&rt);
+    let files = SystemFiles { rt: &rt };
     let folder = new_path(&rt, process::id(rt.process()), "none")?;
     for workers in [1, 3, 64] {
         let mut out = Vec::new(rt.alloc());
@@ -148,7 +148,7 @@ impl Write for Full {
 
 #[test]
 fn a_refused_write_leaves_no_run(rt: HostRuntime) -> Result<(), Fail> {
-    let files = SystemFiles::new(&rt);
+    let files = SystemFiles { rt: &rt };
     let folder = new_path(&rt, process::id(rt.process()), "refused")?;
     fs::create_dir(&rt, folder.as_str())?;
     let refused = built_in(&rt, &files, folder.as_str(), Cut::Docs(2), 2, &mut Full)?;
@@ -159,7 +159,7 @@ fn a_refused_write_leaves_no_run(rt: HostRuntime) -> Result<(), Fail> {
 
 #[test]
 fn a_folder_in_the_way_spills_its_place(rt: HostRuntime) -> Result<(), Fail> {
-    let files = SystemFiles::new(&rt);
+    let files = SystemFiles { rt: &rt };
     let folder = new_path(&rt, process::id(rt.process()), "way")?;
     fs::create_dir(&rt, folder.as_str())?;
     let way = format!(in rt.alloc(); "{}/run-0000000001", folder.as_str())?;
@@ -177,7 +177,7 @@ fn a_folder_in_the_way_spills_its_place(rt: HostRuntime) -> Result<(), Fail> {
 fn a_store_counts_what_it_refuses(rt: HostRuntime) -> Result<(), Fail> {
     let alloc = rt.alloc();
     let folder = new_path(&rt, process::id(rt.process()), "store")?;
-    let files = SystemFiles::new(&rt);
+    let files = SystemFiles { rt: &rt };
     let mut store = FolderStore::new(alloc, &files, folder.as_str());
     let collection = Collection::read(alloc, FIVE_DOCUMENTS)?;
     let stop = StopList::empty(alloc);

@@ -131,54 +131,32 @@ fn what_was_built_answers_as_the_collection(rt: HostRuntime) -> Result<(), Fail>
 }
 
 #[test]
+fn plans_that_are_refused(rt: HostRuntime) -> Result<(), Fail> {
+    let disk = disk_of_five(&rt)?;
+    for words in [
+        ["build", "five"].as_slice(),
+        ["build", "--block", "0", "five", "new"].as_slice(),
+        ["build", "--block", "268435457", "five", "new"].as_slice(),
+        ["build", "--bytes", "0", "five", "new"].as_slice(),
+        ["build", "--bytes", "268435457", "five", "new"].as_slice(),
+        ["build", "--block=2", "--bytes=4", "five", "new"].as_slice(),
+        ["build", "--workers", "0", "five", "new"].as_slice(),
+        ["build", "--workers", "65", "five", "new"].as_slice(),
+        ["ask", "--block", "0", "five", "y"].as_slice(),
+        ["ask", "--block", "268435457", "five", "y"].as_slice(),
+        ["ask", "--workers", "0", "five", "y"].as_slice(),
+        ["ask", "--workers", "65", "five", "y"].as_slice(),
+    ] {
+        expect(&rt, &disk, words, "ix: arguments refused\n")?;
+        assert!(rt; disk.get("new").is_err());
+    }
+    Ok(())
+}
+
+#[test]
 fn builds_that_are_refused(rt: HostRuntime) -> Result<(), Fail> {
     let disk = disk_of_five(&rt)?;
     for (words, line) in [
-        (["build", "five"].as_slice(), "ix: arguments refused\n"),
-        (
-            ["build", "--block", "0", "five", "new"].as_slice(),
-            "ix: arguments refused\n",
-        ),
-        (
-            ["build", "--block", "268435457", "five", "new"].as_slice(),
-            "ix: arguments refused\n",
-        ),
-        (
-            ["build", "--bytes", "0", "five", "new"].as_slice(),
-            "ix: arguments refused\n",
-        ),
-        (
-            ["build", "--bytes", "268435457", "five", "new"].as_slice(),
-            "ix: arguments refused\n",
-        ),
-        (
-            ["build", "--block=2", "--bytes=4", "five", "new"].as_slice(),
-            "ix: arguments refused\n",
-        ),
-        (
-            ["build", "--workers", "0", "five", "new"].as_slice(),
-            "ix: arguments refused\n",
-        ),
-        (
-            ["build", "--workers", "65", "five", "new"].as_slice(),
-            "ix: arguments refused\n",
-        ),
-        (
-            ["ask", "--block", "0", "five", "y"].as_slice(),
-            "ix: arguments refused\n",
-        ),
-        (
-            ["ask", "--block", "268435457", "five", "y"].as_slice(),
-            "ix: arguments refused\n",
-        ),
-        (
-            ["ask", "--workers", "0", "five", "y"].as_slice(),
-            "ix: arguments refused\n",
-        ),
-        (
-            ["ask", "--workers", "65", "five", "y"].as_slice(),
-            "ix: arguments refused\n",
-        ),
         (
             ["build", "--stop", "two words", "no tab", "new"].as_slice(),
             "ix: stop 1: NotOneWord(1)\n",
