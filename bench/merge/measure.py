@@ -1,0 +1,45 @@
+#!/usr/bin/env python3
+"""Measures merging, and prints the best of each over the rounds of the bench, with the limits that are set beside the
+figures. What POSTINGS alone takes is the whole less the index of one document that holds each term once.
+
+usage: measure.py MERGE_BENCH TEXT TERMS
+"""
+import os
+import subprocess
+import sys
+
+sys.path.insert(0, os.path.dirname(os.path.dirname(os.path.abspath(__file__))))
+from measuring import peak_of, rounds_of
+
+INVERTING = 0.5  # times inverting the text by one thread, for the whole merge of 16 runs
+COPY = 4  # times a copy of the bytes written, for POSTINGS alone
+MANY = 1.5  # times the merge of 16 runs, for 1,000
+PARTS = 16
+MOST = 1000
+
+
+def best(words):
+    """The least of each column."""
+    return [min(column) for column in zip(*rounds_of(words))]
+
+
+def main():
+    bench, text, terms = sys.argv[1:]
+    with open(text, "rb") as lines:
+        count = sum(1 for _ in lines)
+    blocks = {parts: str(max(1, -(-count // parts))) for parts in (PARTS, MOST)}
+    with open(terms, "wb") as out:
+        subprocess.run([bench, "terms", text], stdout=out, check=True)
+    listed = best([bench, terms, "1"])[1]
+    few, many = (best([bench, text, blocks[parts]]) for parts in (PARTS, MOST))
+    inverted, merged, from_texts, read, copied, size, runs, positions, alike = few
+    print(f"{os.path.getsize(text)} bytes of text, {count} documents; an index of {size} bytes with {positions} positions; inverting {inverted} us")
+    print(f"merging {runs} runs in memory {merged} us, {merged / inverted:.2f} times inverting (limit {INVERTING})")
+    print(f"  its dictionary and grams {listed} us; the rest {(merged - listed) / copied:.1f} times a copy of the index, {copied} us (limit {COPY} of POSTINGS)")
+    print(f"  from run texts {from_texts} us, where reading them takes {read} us: {from_texts / (read + merged):.2f} times both (limit 1)")
+    print(f"merging {many[6]} runs {many[1]} us, {many[1] / merged:.2f} times as long (limit {MANY})")
+    print("the run texts give the same bytes" if alike and many[8] else "THE RUN TEXTS GIVE OTHER BYTES")
+    print(f"memory of inverting and merging: {peak_of([bench, text, blocks[PARTS], 'once']) / os.path.getsize(text):.2f} times the text, which is part of it")
+
+
+main()
