@@ -1,5 +1,5 @@
 //! Searchers: each answers from the version that is shown, in a thread of its own if it likes.
-ghost use Rattle.std.specs.Prelude.{◌≡◌, Some, IfErr, IfOk, OnErr, OnOk, length, map};
+ghost use Rattle.std.specs.Prelude.{◌≡◌, Some, IfErr, IfOk, MatchBool, OnErr, OnOk, length, map};
 ghost use Rattle.std.specs.Arc.{arc_value};
 ghost use Rattle.std.specs.String.{string_bytes};
 ghost use mathlib.Core.List.{IsPrefix};
@@ -77,6 +77,16 @@ impl Searcher {
         if !self.front.covers(&news.front) {
             self.front = news.front.again();
         }
+    }
+
+    /// Whether it knows of nothing beyond what was news; it may have to learn it still. If it does, the news is a
+    /// beginning of what it knows.
+    pub fn is_within(&self, news: &News) -> bool
+        requires { news.now.book ≡ self.now.history.book }
+        ensures { MatchBool result (IsPrefix self.now.history.operations news.now.operations)
+            (IsPrefix news.now.operations self.now.history.operations) }
+    {
+        news.front.covers(&self.front)
     }
 
     /// The numbers of the documents that satisfy a query and are not removed, ascending, after a history that begins

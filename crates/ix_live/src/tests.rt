@@ -1,5 +1,9 @@
+//! What no clause says of a live index: that its calls succeed, what they find in worked rows, and their errors' names.
 ghost use Rattle.std.specs.Prelude.{◌≡◌};
 ghost use Rattle.ix_live.specs.Logs.{head_of};
+
+mod beside;
+mod searching;
 
 use crate::front::Front;
 use crate::log::Head;
