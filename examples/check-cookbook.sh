@@ -72,6 +72,9 @@ prints "a collection in parts" "1@example.org
 2@example.org" "$("$ix" search mail.ix 'london')"
 "$ix" build mail.tsv whole.ix
 prints "the index of its parts is that of the whole" same "$(cmp -s mail.ix whole.ix && echo same)"
+mkdir runs
+"$ix" build --runs runs --block 1 mail.tsv mail.ix
+prints "the index of runs in a folder is the same, and the folder empty" same "$(cmp -s mail.ix whole.ix && rmdir runs && echo same)"
 
 status=0
 "$ix" ask mail.tsv 'rome' > names || status=$?

@@ -8,7 +8,8 @@ _ix() {
         return
     fi
     case ${COMP_WORDS[1]} in
-        ask | build) options="--stop --block --bytes --workers --help" ;;
+        ask) options="--stop --block --bytes --workers --help" ;;
+        build) options="--stop --block --bytes --workers --runs --help" ;;
         run) options="--stop --first --help" ;;
         help)
             mapfile -t COMPREPLY < <(compgen -W "ask build search terms run merge upgrade" -- "$word")
@@ -18,6 +19,10 @@ _ix() {
     esac
     case $before in
         --block | --bytes | --workers | --first) return ;;
+        --runs)
+            mapfile -t COMPREPLY < <(compgen -d -- "$word")
+            return
+            ;;
     esac
     case $word in
         -*) mapfile -t COMPREPLY < <(compgen -W "$options" -- "$word") ;;

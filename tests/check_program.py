@@ -177,6 +177,15 @@ def files():
                     ["--block", "2", "--workers", "64"], ["--block", "268435456"]):
         gives(f"build {' '.join(options)}", ["build", *options, "c.txt", "c.ix"], 0)
         holds(f"index of five documents, {' '.join(options) or 'as it comes'}", "c.ix", FIVE_INDEX)
+    for folder in ("runs", "-"):
+        os.mkdir(folder)
+        gives(f"build --runs {folder}", ["build", "--runs", folder, "--block", "2", "--workers", "3", "c.txt", "c.ix"], 0)
+        holds(f"index of five documents, its runs in {folder}", "c.ix", FIVE_INDEX)
+        check(f"the folder {folder} of the runs is left empty", not os.listdir(folder), os.listdir(folder))
+    gives("a folder of runs that is not there", ["build", "--runs", "none", "c.txt", "none.ix"], 2, b"", b"ix: build 2: Spill(0)")
+    os.mkdir("runs/run-0000000001")
+    gives("a folder in the way of a run", ["build", "--runs", "runs", "--block", "2", "c.txt", "none.ix"], 2, b"", b"ix: build 2: Spill(1)")
+    check("no run is left where one was refused", os.listdir("runs") == ["run-0000000001"], os.listdir("runs"))
     lines = FIVE.splitlines(keepends=True)
     for first, text in RUNS.items():
         Path("block.txt").write_bytes(b"".join(lines[first:first + 2]))

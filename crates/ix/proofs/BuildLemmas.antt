@@ -1,12 +1,15 @@
 -- What was read of a collection file against all of it, for the index that is built of it.
-use Rattle.std.proofs.Common.{◌≡◌, ℕ, List, take, subst}
+use Rattle.std.proofs.Common.{◌≡◌, ℕ, List, None, Some, take, subst}
 use Rattle.std.specs.Prelude.{Option}
 use Rattle.std.specs.Borrow.{Bor}
 use Rattle.ix_text.specs.Collections.{NamedText}
 use Rattle.ix_text.specs.CollectionText.{IsCollectionText}
 use Rattle.ix.specs.AskedFiles.{IsStopHeld}
-use Rattle.ix.specs.BuiltIndexes.{AreOfFiles, IsUnbuilt, RefusesDocuments}
-use Rattle.ix.specs.Files.{Holding, IsFront}
+use Rattle.ix_build.specs.GivenBack.{GivesBlocksBack}
+use Rattle.ix_build.specs.Plans.{PlanValue}
+use Rattle.ix_build.specs.RunPaths.{run_path}
+use Rattle.ix.specs.BuiltIndexes.{AreOfFiles, ComeBack, IsUnbuilt, RefusesDocuments, of_folder, of_memory}
+use Rattle.ix.specs.Files.{Holding, IsFront, Keeping}
 use Rattle.ix.specs.Refusals.{IsUnsaved}
 use Rattle.ix_ask.specs.declared.refusal.EngineRefusal.TheVariants as engine
 use Rattle.ix.specs.declared.refusal.Refusal.{Refusal}
@@ -29,6 +32,13 @@ refuses_documents_whole bytes whole (refusal.Engine (engine.Collection error)) c
 refuses_documents_whole bytes whole _ cut why = absurd why
 
 -- what is not saved is not built
-pub unbuilt_unsaved : (workers : ℕ) (path : List ℕ) (told : Refusal) → IsUnsaved path told → IsUnbuilt workers path told
-unbuilt_unsaved workers path (refusal.Engine (engine.Build error)) is = absurd is
-unbuilt_unsaved workers path told is = is
+pub unbuilt_unsaved : (plan : PlanValue) (documents : List NamedText) (path : List ℕ) (told : Refusal) → IsUnsaved path told → IsUnbuilt plan documents path told
+unbuilt_unsaved plan documents path (refusal.Engine (engine.Build error)) is = absurd is
+unbuilt_unsaved plan documents path told is = is
+
+-- what is so of runs in memory, and of runs in a folder that come back, is so of runs that come back
+pub come_back : (P : Type 0) (kept : Keeping) (plan : PlanValue) (stop : List (List ℕ)) (documents : List NamedText) → (plan.folder ≡ None → P)
+    → ((folder : List ℕ) → plan.folder ≡ Some folder → kept.told → GivesBlocksBack plan.cut documents stop (λ place. kept.back (run_path folder place)) → P)
+    → ComeBack kept plan stop documents → P
+come_back P kept plan stop documents memory files (of_memory none) = memory none
+come_back P kept plan stop documents memory files (of_folder folder named told back) = files folder named told back

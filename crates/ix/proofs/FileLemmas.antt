@@ -1,5 +1,5 @@
 -- What was read of a file against all of it: a lawful text was read whole, and one that was not is too long.
-use Rattle.std.proofs.Common.{◌≡◌, ℕ, ◌+◌, ◌^◌, ◌<◌, ◌≤◌, List, length, take, Option, Some, Result, Ok, Err, IfOk, IfErr, IsErrAnd, inl, inr, sym, ◌∙◌, ap, subst, arith}
+use Rattle.std.proofs.Common.{◌≡◌, ℕ, ◌+◌, ◌^◌, ◌<◌, ◌≤◌, List, length, take, Option, Some, Result, Ok, Err, IfOk, IfErr, IsErrAnd, OnOk, inl, inr, sym, ◌∙◌, ap, subst, arith}
 use Rattle.std.specs.Prelude.{IsSomeAnd}
 use Rattle.std.specs.Borrow.{Bor}
 use Rattle.std.proofs.lemmas.List.{length-take, take_all}
@@ -102,3 +102,8 @@ told_up Tells P (Err told) error is holds = holds told is
 pub err_weaker : {T : Type 0} (result : Result T Refusal) (P Q : Refusal → Type 0) → ((told : Refusal) → P told → Q told) → IfErr result P → IfErr result Q
 err_weaker (Ok x) P Q weaker holds = tt
 err_weaker (Err told) P Q weaker holds = weaker told holds
+
+-- two facts of what went well make a third
+pub ok_of_both : {T E : Type 0} {P Q R : Type 0} (result : Result T E) → (P → Q → R) → OnOk result P → OnOk result Q → OnOk result R
+ok_of_both (Ok x) make one other = make one other
+ok_of_both (Err e) make one other = tt

@@ -1,11 +1,12 @@
 -- A file that was created, written and ended holds what was written.
-use Rattle.std.proofs.Common.{◌≡◌, ◌∙◌, ℕ, List, [], ◌++◌, Option, Some, None, refl, ap, subst}
+use Rattle.std.proofs.Common.{◌≡◌, ◌∙◌, ℕ, List, ◌++◌, Option, Some, None, refl, ap, subst}
 use Rattle.std.specs.Prelude.{IfSome}
 use Rattle.std.specs.Io.KnownBytes.{Appends, IsAtEnd}
 use Rattle.ix_text.specs.Collections.{Collection}
 use Rattle.ix_file.specs.Endings.{WritesIndexText}
+use Rattle.ix_build.specs.AlikeFronts.{WritesAlike}
 use Rattle.ix.specs.Files.{Holding}
-use Rattle.ix.specs.SavedIndexes.{SavesIndex}
+use Rattle.ix.specs.SavedIndexes.{SavesAlike, SavesIndex}
 
 pub saved_whole : {W : Type 0} (contents : W → Option (List ℕ)) (Saved : List ℕ → Type 0) → ((bytes : List ℕ) (writer : W) → contents writer ≡ None → Saved bytes)
     → (begun ended : W) (text : List ℕ) → IsAtEnd (contents begun) → Appends (contents begun) (contents ended) text → IfSome (contents ended) Saved → Saved text
@@ -24,4 +25,14 @@ index_saved contents saves path untold begun ended collection empty writes saved
   text = writes.text;
   of_collection = writes.of_collection;
   saved = saved_whole contents (saves path) untold begun ended writes.text empty writes.written saved;
+}
+
+-- and one of a collection like another
+pub alike_saved : {W : Type 0} (contents : W → Option (List ℕ)) (saves : Holding) (path : List ℕ) → ((bytes : List ℕ) (writer : W) → contents writer ≡ None → saves path bytes)
+    → (begun ended : W) (collection : Collection) → IsAtEnd (contents begun) → WritesAlike collection (contents begun) (contents ended) → IfSome (contents ended) (saves path)
+    → SavesAlike saves path collection
+alike_saved contents saves path untold begun ended collection empty writes saved = record {
+  whole = writes.whole;
+  alike = writes.alike;
+  saved = index_saved contents saves path untold begun ended writes.whole empty writes.written saved;
 }

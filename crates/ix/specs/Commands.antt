@@ -35,13 +35,14 @@ ask_shape = record (new_shape (codes "ask")) {
       ∷ [];
 }
 
--- `build [--stop FILE] [--block N] [--bytes N] [--workers W] COLLECTION INDEX`
+-- `build [--stop FILE] [--block N] [--bytes N] [--workers W] [--runs FOLDER] COLLECTION INDEX`
 abbrev pub build_shape : Shape
 build_shape = record (new_shape (codes "build")) {
   rules = option_rule (codes "stop")
       ∷ number_rule (codes "block") (pos 1) (pos 268435456)
       ∷ number_rule (codes "bytes") (pos 1) (pos 268435456)
       ∷ number_rule (codes "workers") (pos 1) (pos 64)
+      ∷ option_rule (codes "runs")
       ∷ operand_rule (codes "COLLECTION")
       ∷ operand_rule (codes "INDEX")
       ∷ [];

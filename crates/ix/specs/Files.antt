@@ -1,5 +1,6 @@
 -- The files that a command line names, what was read of them, and what they were saved with.
-use Rattle.std.specs.Prelude.{◌≡◌, ℕ, List, take}
+use Rattle.std.specs.Prelude.{◌≡◌, ℕ, List, Option, take}
+use Rattle.ix_build.specs.ReadBack.{TellBytes}
 
 -- a path, and the bytes of the file there, as it was read or as it was saved
 abbrev pub Holding : Type 1
@@ -8,6 +9,16 @@ Holding = List ℕ → List ℕ → Type 0
 -- nothing is known of files
 abbrev pub AnyBytes : Holding
 AnyBytes path bytes = Unit {0}
+
+-- What is known of the files in which runs are kept: whether those who read them tell their bytes, and which bytes may come
+-- back of a path.
+pub record Keeping : Type 1 where
+  pub told : Type 0
+  pub back : Holding
+
+-- what such files promise
+abbrev pub keeping_of : {R : Type 0} → (R → Option (List ℕ)) → Holding → Keeping
+keeping_of remaining back = record { told = TellBytes remaining; back = back }
 
 -- These are the first bytes of a file: so many of them, or all where it has fewer.
 pub record IsFront (Holds : List ℕ → Type 0) (room : ℕ) (bytes : List ℕ) : Type 0 where

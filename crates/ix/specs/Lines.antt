@@ -71,10 +71,12 @@ cut_of (Some documents) None = Some (Docs documents)
 cut_of None (Some bytes) = Some (Bytes bytes)
 cut_of None None = Some (Docs 1024)
 
--- The plan is that of one of the options `--block` and `--bytes`, and of `--workers`, else 4.
-pub record HasPlan (rows : List Row) (plan : PlanValue) : Type 0 where
+-- The plan is that of one of the options `--block` and `--bytes`, and of `--workers`, else 4, with its runs in this folder, and
+-- without one in memory.
+pub record HasPlan (rows : List Row) (folder : Option Text) (plan : PlanValue) : Type 0 where
   pub cut : cut_of (given_number (codes "block") rows) (given_number (codes "bytes") rows) ≡ Some plan.cut
   pub workers : HasNumberOr (codes "workers") 4 rows plan.workers
+  pub folder_is : plan.folder ≡ folder
 
 -- `--block` stands beside `--bytes`
 abbrev pub HasBoth : List Row → Type 0
@@ -86,12 +88,12 @@ HasBoth rows = IsSome (one_of (codes "block") rows) × IsSome (one_of (codes "by
 abbrev pub Holds : Text → List Row → Line → Type 0
 Holds name rows (Ask stop plan collection query) = (name ≡ codes "ask")
     × HasText (codes "stop") rows stop
-    × HasPlan rows plan
+    × HasPlan rows None plan
     × HasOperand (codes "COLLECTION") rows collection
     × HasOperand (codes "QUERY") rows query
 Holds name rows (Build stop plan collection index) = (name ≡ codes "build")
     × HasText (codes "stop") rows stop
-    × HasPlan rows plan
+    × HasPlan rows (first_of (codes "runs") rows) plan
     × HasOperand (codes "COLLECTION") rows collection
     × HasOperand (codes "INDEX") rows index
 Holds name rows (Search index query) = (name ≡ codes "search")

@@ -12,7 +12,7 @@ use Rattle.ix_text.specs.Sinks.{AppendsFront}
 use Rattle.ix.specs.AskedFiles.{IsAnsweredFromFiles, IsAskRefused}
 use Rattle.ix.specs.BuiltIndexes.{IsBuilt, IsBuildRefused}
 use Rattle.ix.specs.Commands.{ix_app}
-use Rattle.ix.specs.Files.{Holding}
+use Rattle.ix.specs.Files.{Holding, Keeping}
 use Rattle.ix.specs.Help.{AsksForHelp, as_flag, help_of}
 use Rattle.ix.specs.IndexFiles.{IsListingRefused, IsPrintedFromFile, IsSearchRefused, IsSearchedFromFile}
 use Rattle.ix.specs.Lines.{CutsTwice, Reads, texts_of}
@@ -36,17 +36,17 @@ pub record IsHelped (words : List Text) (old new : Option Text) : Type 0 where
   pub printed : Appends old new (help_of words)
 
 -- What the line asks for was done, and so much was found; where it asks for a file, one was saved, and nothing was printed.
-abbrev pub IsDone : Holding → Holding → Line → Option Text → Option Text → ℕ → Type 0
-IsDone holds saves (Ask stop_file plan collection query) old new count = IsAnsweredFromFiles holds stop_file collection.now query.now old new count
-IsDone holds saves (Build stop_file plan collection index) old new count =
-    IsBuilt holds saves stop_file collection.now index.now × Keeps old new × (count ≡ 1)
-IsDone holds saves (Search index query) old new count = IsSearchedFromFile holds index.now query.now old new count
-IsDone holds saves (Terms index pattern) old new count = IsPrintedFromFile holds index.now pattern.now old new count
-IsDone holds saves (Run stop_file first collection run) old new count =
+abbrev pub IsDone : Holding → Holding → Keeping → Line → Option Text → Option Text → ℕ → Type 0
+IsDone holds saves kept (Ask stop_file plan collection query) old new count = IsAnsweredFromFiles holds stop_file collection.now query.now old new count
+IsDone holds saves kept (Build stop_file plan collection index) old new count =
+    IsBuilt holds saves kept stop_file plan collection.now index.now × Keeps old new × (count ≡ 1)
+IsDone holds saves kept (Search index query) old new count = IsSearchedFromFile holds index.now query.now old new count
+IsDone holds saves kept (Terms index pattern) old new count = IsPrintedFromFile holds index.now pattern.now old new count
+IsDone holds saves kept (Run stop_file first collection run) old new count =
     IsRunSaved holds saves stop_file first collection.now run.now × Keeps old new × (count ≡ 1)
-IsDone holds saves (Merge index runs) old new count =
+IsDone holds saves kept (Merge index runs) old new count =
     IsMerged holds saves (texts_of runs.items) index.now × Keeps old new × (count ≡ 1)
-IsDone holds saves (Upgrade old_file new_file) old new count =
+IsDone holds saves kept (Upgrade old_file new_file) old new count =
     IsUpgraded holds saves old_file.now new_file.now × Keeps old new × (count ≡ 1)
 
 -- what the line asks for was refused for this reason, and leaves this of the standard output
@@ -54,7 +54,7 @@ abbrev pub IsLineRefused : Holding → Line → Option Text → Option Text → 
 IsLineRefused holds (Ask stop_file plan collection query) old new told =
     IsAskRefused holds stop_file plan.workers collection.now query.now old new told
 IsLineRefused holds (Build stop_file plan collection index) old new told =
-    IsBuildRefused holds stop_file plan.workers collection.now index.now told × Keeps old new
+    IsBuildRefused holds stop_file plan collection.now index.now told × Keeps old new
 IsLineRefused holds (Search index query) old new told = IsSearchRefused holds index.now query.now old new told
 IsLineRefused holds (Terms index pattern) old new told = IsListingRefused holds index.now pattern.now old new told
 IsLineRefused holds (Run stop_file first collection run) old new told = IsRunRefused holds stop_file first collection.now run.now told × Keeps old new
@@ -63,18 +63,18 @@ IsLineRefused holds (Merge index runs) old new told =
 IsLineRefused holds (Upgrade old_file new_file) old new told = IsUpgradeRefused holds old_file.now new_file.now told × Keeps old new
 
 -- the words are a line that was done, and something was found
-pub record FindsSome (holds saves : Holding) (words : List Text) (old new : Option Text) : Type 0 where
+pub record FindsSome (holds saves : Holding) (kept : Keeping) (words : List Text) (old new : Option Text) : Type 0 where
   pub line : Line
   pub count : ℕ
   pub read : Reads words line
   pub some : 0 < count
-  pub done : IsDone holds saves line old new count
+  pub done : IsDone holds saves kept line old new count
 
 -- the words are a line that was done, and nothing was found
-pub record FindsNone (holds saves : Holding) (words : List Text) (old new : Option Text) : Type 0 where
+pub record FindsNone (holds saves : Holding) (kept : Keeping) (words : List Text) (old new : Option Text) : Type 0 where
   pub line : Line
   pub read : Reads words line
-  pub done : IsDone holds saves line old new 0
+  pub done : IsDone holds saves kept line old new 0
 
 -- the words have a fault, and not only that they ask for help, or they cut into blocks in two ways
 abbrev pub AreMistaken : List Text → Type 0

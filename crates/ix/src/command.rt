@@ -5,7 +5,7 @@
 
 ghost use Rattle.std.specs.Prelude.{◌≡◌, ◌≢◌, ◌≤◌, ◌⊎◌, IfOk, IfErr, OnOk};
 ghost use Rattle.std.specs.Io.KnownBytes.{Appends, Keeps};
-ghost use Rattle.ix.specs.Files.{AnyBytes};
+ghost use Rattle.ix.specs.Files.{AnyBytes, keeping_of};
 ghost use Rattle.ix.specs.Lines.{Refuses, texts_of};
 ghost use Rattle.ix.specs.Statuses.{FindsNone, FindsSome, IsDone, IsHelped, IsLineRefused};
 ghost use Rattle.ix.specs.Statuses.{IsLineless, IsUnwritten, IsRefused, IsRefusedFor, spelled};
@@ -26,6 +26,7 @@ use crate::help::{help_on, with_help_as_flag};
 use crate::refusal::Refusal;
 use crate::refuse::refuse;
 use ix_ask::EngineRefusal;
+use ix_build::RunFiles;
 use ix_text::{flush, put_all};
 use std::alloc::{AllocError, Global};
 use std::io::{Input, Write};
@@ -42,51 +43,54 @@ const NOTHING: u8 = 1;
 /// How much a command that writes a file has done.
 const ONE_FILE: usize = 1;
 
-/// [`command_over`] the files of the system, of whose bytes nothing is known.
-pub fn command<R: Files + Input + AllocGlobal + Threads + Wait + Sync, W: Write, E: Write>(
-    rt: &R,
-    words: &[&str],
-    out: &mut W,
-    err: &mut E,
-) -> u8
+/// [`command_over`] the files of the system, of whose bytes nothing is known. Those of the runs come
+/// from the caller, since files that are shared among threads are made at one runtime alone.
+pub fn command<
+    R: Files + Input + AllocGlobal + Threads + Wait + Sync,
+    S: RunFiles,
+    W: Write,
+    E: Write,
+>(rt: &R, runs: &S, words: &[&str], out: &mut W, err: &mut E) -> u8
     ensures status { result ≤ 2 }
     ensures found { result ≡ 0 →
         IsHelped (spelled words.now) (W.contents out.old) (W.contents out.new)
-        ⊎ FindsSome AnyBytes AnyBytes (spelled words.now)
-        (W.contents out.old) (W.contents out.new) }
+        ⊎ FindsSome AnyBytes AnyBytes (keeping_of S.Reader.remaining (S.back runs.now))
+        (spelled words.now) (W.contents out.old) (W.contents out.new) }
     ensures nothing { result ≡ 1 →
-        FindsNone AnyBytes AnyBytes (spelled words.now) (W.contents out.old) (W.contents out.new) }
+        FindsNone AnyBytes AnyBytes (keeping_of S.Reader.remaining (S.back runs.now))
+        (spelled words.now) (W.contents out.old) (W.contents out.new) }
     ensures quiet { result ≢ 2 → Keeps (E.contents err.old) (E.contents err.new) }
     ensures refused { result ≡ 2 →
         IsRefused AnyBytes (spelled words.now) (W.contents out.old) (W.contents out.new)
         (E.contents err.old) (E.contents err.new) }
 {
-    command_over(rt, rt.alloc(), &HostFiles { rt }, words, out, err)
+    command_over(rt, rt.alloc(), &HostFiles { rt }, runs, words, out, err)
 }
 
 /// Does what the words after the program's name ask for, with the files that they name, and answers
 /// the exit status: 0 where something was found, a file was written or help was printed, 1 where
-/// nothing was found, 2 where it was refused.
+/// nothing was found, 2 where it was refused. A folder in which runs are to be kept is one of `runs`.
 ///
 /// What was found goes to `out`, and so does help, and nothing else does. A refusal is one line on
 /// `err`, and whether that line could be written is not answered. A refusal leaves `out` as it was,
 /// but where a write was refused: a beginning of the names, or of the help that was asked for, is
 /// out then.
-pub fn command_over<R: Threads + Wait + Sync, F: FileSource + FileTarget, W: Write, E: Write>(
-    rt: &R,
-    alloc: Global,
-    files: &F,
-    words: &[&str],
-    out: &mut W,
-    err: &mut E,
-) -> u8
+pub fn command_over<
+    R: Threads + Wait + Sync,
+    F: FileSource + FileTarget,
+    S: RunFiles,
+    W: Write,
+    E: Write,
+>(rt: &R, alloc: Global, files: &F, runs: &S, words: &[&str], out: &mut W, err: &mut E) -> u8
     ensures status { result ≤ 2 }
     ensures found { result ≡ 0 →
         IsHelped (spelled words.now) (W.contents out.old) (W.contents out.new)
-        ⊎ FindsSome (F.holds files.now) (F.saved files.now) (spelled words.now)
+        ⊎ FindsSome (F.holds files.now) (F.saved files.now)
+        (keeping_of S.Reader.remaining (S.back runs.now)) (spelled words.now)
         (W.contents out.old) (W.contents out.new) }
     ensures nothing { result ≡ 1 →
-        FindsNone (F.holds files.now) (F.saved files.now) (spelled words.now)
+        FindsNone (F.holds files.now) (F.saved files.now)
+        (keeping_of S.Reader.remaining (S.back runs.now)) (spelled words.now)
         (W.contents out.old) (W.contents out.new) }
     ensures quiet { result ≢ 2 → Keeps (E.contents err.old) (E.contents err.new) }
     ensures refused { result ≡ 2 →
@@ -97,34 +101,37 @@ pub fn command_over<R: Threads + Wait + Sync, F: FileSource + FileTarget, W: Wri
         Ok(words) => words,
         Err(AllocError) => return refuse(alloc, err, &Refusal::Engine(EngineRefusal::Memory)),
     };
-    match run(rt, alloc, files, words.as_slice(), out) {
+    match run(rt, alloc, files, runs, words.as_slice(), out) {
         Ok(status) => status,
         Err(refusal) => refuse(alloc, err, &refusal),
     }
 }
 
 /// Does what the words ask for, but for telling a refusal.
-fn run<'a, R: Threads + Wait + Sync, F: FileSource + FileTarget, W: Write>(
+fn run<'a, R: Threads + Wait + Sync, F: FileSource + FileTarget, S: RunFiles, W: Write>(
     rt: &R,
     alloc: Global,
     files: &F,
+    runs: &S,
     words: &'a [&'a str],
     out: &mut W,
 ) -> Result<u8, Refusal<'a>>
     ensures status { IfOk result (λ status. status ≤ 1) }
     ensures found { IfOk result (λ status. status ≡ 0 →
         IsHelped (texts_of words.entry.now) (W.contents out.old) (W.contents out.new)
-        ⊎ FindsSome (F.holds files.now) (F.saved files.now) (texts_of words.entry.now)
+        ⊎ FindsSome (F.holds files.now) (F.saved files.now)
+        (keeping_of S.Reader.remaining (S.back runs.now)) (texts_of words.entry.now)
         (W.contents out.old) (W.contents out.new)) }
     ensures nothing { IfOk result (λ status. status ≡ 1 →
-        FindsNone (F.holds files.now) (F.saved files.now) (texts_of words.entry.now)
+        FindsNone (F.holds files.now) (F.saved files.now)
+        (keeping_of S.Reader.remaining (S.back runs.now)) (texts_of words.entry.now)
         (W.contents out.old) (W.contents out.new)) }
     ensures refused { IfErr result (IsRefusedFor (F.holds files.now) (texts_of words.entry.now)
         (W.contents out.old) (W.contents out.new)) }
 {
     match read_line(alloc, words) {
         Ok(line) => {
-            let count = do_line(rt, alloc, files, line, out)?;
+            let count = do_line(rt, alloc, files, runs, line, out)?;
             Ok(if count == 0 { NOTHING } else { FOUND })
         }
         Err(error) => {
@@ -135,14 +142,16 @@ fn run<'a, R: Threads + Wait + Sync, F: FileSource + FileTarget, W: Write>(
 }
 
 /// Does a line that was read, and answers how much was found.
-fn do_line<'a, R: Threads + Wait + Sync, F: FileSource + FileTarget, W: Write>(
+fn do_line<'a, R: Threads + Wait + Sync, F: FileSource + FileTarget, S: RunFiles, W: Write>(
     rt: &R,
     alloc: Global,
     files: &F,
+    runs: &S,
     line: Line<'a>,
     out: &mut W,
 ) -> Result<usize, Refusal<'a>>
-    ensures done { IfOk result (IsDone (F.holds files.now) (F.saved files.now) line.entry
+    ensures done { IfOk result (IsDone (F.holds files.now) (F.saved files.now)
+        (keeping_of S.Reader.remaining (S.back runs.now)) line.entry
         (W.contents out.old) (W.contents out.new)) }
     ensures refused { IfErr result (IsLineRefused (F.holds files.now) line.entry
         (W.contents out.old) (W.contents out.new)) }
@@ -161,7 +170,7 @@ fn do_line<'a, R: Threads + Wait + Sync, F: FileSource + FileTarget, W: Write>(
             plan,
             collection,
             index,
-        } => match build::run(rt, alloc, files, stop, &plan, collection, index) {
+        } => match build::run(rt, alloc, files, runs, stop, &plan, collection, index) {
             Ok(()) => Ok(ONE_FILE),
             Err(refusal) => Err(refusal),
         },

@@ -16,8 +16,8 @@ mod worked;
 use clap::ArgMatches;
 pub use error::LineError;
 use fields::{number_or, operand, operands, option};
-use ix_build::Plan;
-use plan::read_plan;
+use ix_build::{Plan, Runs};
+use plan::{read_plan, runs_in};
 use std::alloc::Global;
 pub use worked::worked_lines;
 
@@ -36,11 +36,12 @@ pub enum Line<'a> {
         /// The text of the query.
         query: &'a str,
     },
-    /// `ix build [--stop FILE] [--block N] [--bytes N] [--workers W] COLLECTION INDEX`.
+    /// `ix build [--stop FILE] [--block N] [--bytes N] [--workers W] [--runs FOLDER] COLLECTION INDEX`.
     Build {
         /// The file of stop words, where one is named.
         stop: Option<&'a str>,
-        /// How the collection is cut into blocks, and by how many workers these are made.
+        /// How the collection is cut into blocks, by how many workers these are made, and where
+        /// their runs are kept.
         plan: Plan,
         /// The file of documents.
         collection: &'a str,
@@ -128,7 +129,7 @@ fn line_of<'a>(alloc: Global, name: &str, matches: &ArgMatches<'a>) -> Result<Li
 {
     match name {
         "ask" => ask_line(matches),
-        "build" => build_line(matches),
+        "build" => build_line(alloc, matches),
         "search" => Ok(search_line(matches)),
         "terms" => Ok(terms_line(matches)),
         "run" => Ok(run_line(matches)),
@@ -143,7 +144,7 @@ fn ask_line<'a>(matches: &ArgMatches<'a>) -> Result<Line<'a>, LineError>
     ensures line { IfOk result (Holds (codes "ask") (rows_of (found_of matches.now))) }
     ensures refused { IfErr result (RefusesRows (rows_of (found_of matches.now))) }
 {
-    let Some(plan) = read_plan(matches) else {
+    let Some(plan) = read_plan(matches, Runs::Memory) else {
         return Err(LineError::Both);
     };
     Ok(Line::Ask {
@@ -154,12 +155,13 @@ fn ask_line<'a>(matches: &ArgMatches<'a>) -> Result<Line<'a>, LineError>
     })
 }
 
-fn build_line<'a>(matches: &ArgMatches<'a>) -> Result<Line<'a>, LineError>
+fn build_line<'a>(alloc: Global, matches: &ArgMatches<'a>) -> Result<Line<'a>, LineError>
     requires { Entered ix_built (codes "build") (rows_of (found_of matches.now)) }
     ensures line { IfOk result (Holds (codes "build") (rows_of (found_of matches.now))) }
     ensures refused { IfErr result (RefusesRows (rows_of (found_of matches.now))) }
 {
-    let Some(plan) = read_plan(matches) else {
+    let runs = runs_in(alloc, option(matches, "runs"))?;
+    let Some(plan) = read_plan(matches, runs) else {
         return Err(LineError::Both);
     };
     let stop = option(matches, "stop");

@@ -94,7 +94,8 @@ Examples:
 pub const HELP_ON_BUILD: &str = "\
 Builds an index of a collection: a file that is searched without reading the collection.
 
-Usage: ix build [--stop FILE] [--block N] [--bytes N] [--workers W] COLLECTION INDEX
+Usage: ix build [--stop FILE] [--block N] [--bytes N] [--workers W] [--runs FOLDER]
+                COLLECTION INDEX
 
   COLLECTION     the file of documents; `-` is the standard input
   INDEX          the index file to be written; it is created once COLLECTION was read
@@ -104,8 +105,11 @@ Usage: ix build [--stop FILE] [--block N] [--bytes N] [--workers W] COLLECTION I
   --bytes N      in place of --block: documents are inverted at a time until their
                  texts have this many bytes, from 1 to 268435456
   --workers W    how many threads invert them, from 1 to 64; without it 4
+  --runs FOLDER  a folder, which has to exist: what was inverted waits in files there
+                 until all of it is merged, and takes less memory; without it in memory
 
-The index is the same whatever N and W are.
+The index is the same whatever N, W and FOLDER are. The files in FOLDER are run-0000000000
+and so on; such files are overwritten, and removed at the end, also after a refusal.
 
 A collection is a text in which each line is a document:
 its name, a TAB, and its text.
@@ -116,6 +120,7 @@ on the error output says why; the index file may then hold a beginning.
 Examples:
   ix build examples/mail.txt mail.ix
   ix build --workers 8 --block 256 examples/mail.txt mail.ix
+  mkdir runs; ix build --runs runs examples/mail.txt mail.ix
 ";
 
 /// What `ix search --help` prints.

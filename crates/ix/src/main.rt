@@ -11,6 +11,7 @@ mod refuse;
 
 use command::command;
 use ix_ask::EngineRefusal;
+use ix_build::{RunFiles, SystemFiles};
 use refusal::Refusal;
 use refuse::refuse;
 use std::alloc::AllocError;
@@ -23,10 +24,13 @@ use std::thread::Threads;
 
 fn main(rt: HostRuntime) -> ExitCode {
     let refusal = match env::args(&rt) {
-        Ok(args) => match run(&rt, args, &mut rt.stdout(), &mut rt.stderr()) {
-            Ok(status) => return ExitCode::from(status),
-            Err(AllocError) => Refusal::Engine(EngineRefusal::Memory),
-        },
+        Ok(args) => {
+            let runs = SystemFiles { rt: &rt };
+            match run(&rt, &runs, args, &mut rt.stdout(), &mut rt.stderr()) {
+                Ok(status) => return ExitCode::from(status),
+                Err(AllocError) => Refusal::Engine(EngineRefusal::Memory),
+            }
+        }
         Err(error) if error.kind() == ErrorKind::OutOfMemory => Refusal::Engine(
             EngineRefusal::Memory,
         ),
@@ -36,8 +40,9 @@ fn main(rt: HostRuntime) -> ExitCode {
 }
 
 /// Does what the words after the program's name ask for.
-fn run<R: Files + Input + AllocGlobal + Threads + Wait + Sync, W: Write, E: Write>(
+fn run<R: Files + Input + AllocGlobal + Threads + Wait + Sync, S: RunFiles, W: Write, E: Write>(
     rt: &R,
+    runs: &S,
     args: env::Args,
     out: &mut W,
     err: &mut E,
@@ -50,5 +55,5 @@ fn run<R: Files + Input + AllocGlobal + Threads + Wait + Sync, W: Write, E: Writ
     for text in &texts {
         words.push(text.as_str())?;
     }
-    Ok(command(rt, &words, out, err))
+    Ok(command(rt, runs, &words, out, err))
 }

@@ -3,6 +3,7 @@
 mod building;
 mod indexes;
 mod merging;
+mod runs;
 mod saving;
 mod worked;
 
@@ -12,6 +13,8 @@ use crate::help::{
     HELP, HELP_ON_ASK, HELP_ON_BUILD, HELP_ON_RUN, HELP_ON_SEARCH, HELP_ON_TERMS, HELP_ON_UPGRADE,
 };
 use indexes::{EMPTY, FIVE_FRONT_CODED, FIVE_PLAIN, LONG_TEXT, ONE, RED, STOPPED};
+use ix_build::SystemFiles;
+use runs::NoRuns;
 use std::alloc::Global;
 use std::io::{ErrorKind, Write};
 use std::process::Abort;
@@ -129,7 +132,7 @@ fn expect_over<R: AllocGlobal + Abort + Threads + Wait + Sync>(
 ) -> Result<(), Fail> {
     let mut out = Vec::new(rt.alloc());
     let mut err = Vec::new(rt.alloc());
-    let status = command_over(rt, rt.alloc(), files, words, &mut out, &mut err);
+    let status = command_over(rt, rt.alloc(), files, &NoRuns, words, &mut out, &mut err);
     assert!(rt; out.as_slice() == row.1.as_bytes());
     assert!(rt; err.as_slice() == row.2.as_bytes());
     assert_eq!(rt; status, row.0);
@@ -373,11 +376,19 @@ fn writes_that_are_refused(rt: HostRuntime) -> Result<(), Fail> {
         ["--help"].as_slice(),
     ] {
         let mut err = Vec::new(rt.alloc());
-        let status = command_over(&rt, rt.alloc(), &files, words, &mut Full, &mut err);
+        let status = command_over(&rt, rt.alloc(), &files, &NoRuns, words, &mut Full, &mut err);
         assert!(rt; err.as_slice() == b"ix: file 2: Write(-)\n".as_slice());
         assert_eq!(rt; status, 2);
         // Where the line cannot be written either, the status tells.
-        let status = command_over(&rt, rt.alloc(), &files, words, &mut Full, &mut Full);
+        let status = command_over(
+            &rt,
+            rt.alloc(),
+            &files,
+            &NoRuns,
+            words,
+            &mut Full,
+            &mut Full,
+        );
         assert_eq!(rt; status, 2);
     }
     Ok(())
@@ -391,7 +402,7 @@ fn a_file_of_the_system(rt: HostRuntime) -> Result<(), Fail> {
     let mut out = Vec::new(rt.alloc());
     let mut err = Vec::new(rt.alloc());
     let words = ["ask", path.as_str(), "NOT x"];
-    let status = command(&rt, &words, &mut out, &mut err);
+    let status = command(&rt, &SystemFiles { rt: &rt }, &words, &mut out, &mut err);
     fs::remove_file(&rt, path.as_str())?;
     assert!(rt; out.as_slice() == b"b\nc\n".as_slice() && err.is_empty());
     assert_eq!(rt; status, 0);

@@ -65,7 +65,8 @@ fn build<'a>(alloc: Global) -> Result<Command<'a>, AllocError>
     let with_block = with_stop.arg(number(alloc, "block", 1, MAX_DOCUMENTS))?;
     let with_bytes = with_block.arg(number(alloc, "bytes", 1, MAX_BYTES))?;
     let with_workers = with_bytes.arg(number(alloc, "workers", 1, MAX_WORKERS))?;
-    let with_collection = with_workers.arg(operand(alloc, "COLLECTION"))?;
+    let with_runs = with_workers.arg(option(alloc, "runs"))?;
+    let with_collection = with_runs.arg(operand(alloc, "COLLECTION"))?;
     let with_index = with_collection.arg(operand(alloc, "INDEX"))?;
     Ok(with_index)
 }

@@ -2,6 +2,7 @@
 
 use super::FIVE;
 use super::indexes::FIVE_FRONT_CODED;
+use super::runs::NoRuns;
 use super::saving::{Disk, disk_of_texts, expect, has};
 use crate::command::command_over;
 use std::process::Abort;
@@ -20,7 +21,7 @@ fn expect_names<R: AllocGlobal + Abort + Threads + Wait + Sync>(
     let mut out = Vec::new(rt.alloc());
     let mut err = Vec::new(rt.alloc());
     assert_eq!(rt;
-        command_over(rt, rt.alloc(), disk, words, &mut out, &mut err),
+        command_over(rt, rt.alloc(), disk, &NoRuns, words, &mut out, &mut err),
         status
     );
     assert!(rt; out.as_slice() == names.as_bytes());
@@ -28,7 +29,8 @@ fn expect_names<R: AllocGlobal + Abort + Threads + Wait + Sync>(
     Ok(())
 }
 
-fn disk_of_five<R: AllocGlobal>(rt: &R) -> Result<Disk, Fail> {
+/// A disk with the texts of the tests, and the five documents.
+pub fn disk_of_five<R: AllocGlobal>(rt: &R) -> Result<Disk, Fail> {
     let disk = disk_of_texts(rt)?;
     match disk.put("five", FIVE) {
         Ok(()) => Ok(disk),

@@ -1,8 +1,10 @@
 //! Commands that write files, over files in memory.
 
 use super::indexes::{EMPTY, FIVE_FRONT_CODED, FIVE_PLAIN, ONE, STOPPED};
+use super::runs::NoRuns;
 use crate::command::command_over;
 use crate::files::{FileSource, FileTarget, ReadFault, WriteFault};
+use ix_build::RunFiles;
 use std::alloc::Global;
 use std::cell::RefCell;
 use std::io;
@@ -165,9 +167,20 @@ pub fn expect<R: AllocGlobal + Abort + Threads + Wait + Sync>(
     words: &[&str],
     line: &str,
 ) -> Result<(), Fail> {
+    expect_with(rt, disk, &NoRuns, words, line)
+}
+
+/// The same, where runs may be kept in these files.
+pub fn expect_with<R: AllocGlobal + Abort + Threads + Wait + Sync, S: RunFiles>(
+    rt: &R,
+    disk: &Disk,
+    runs: &S,
+    words: &[&str],
+    line: &str,
+) -> Result<(), Fail> {
     let mut out = Vec::new(rt.alloc());
     let mut err = Vec::new(rt.alloc());
-    let status = command_over(rt, rt.alloc(), disk, words, &mut out, &mut err);
+    let status = command_over(rt, rt.alloc(), disk, runs, words, &mut out, &mut err);
     assert!(rt; err.as_slice() == line.as_bytes());
     assert!(rt; out.is_empty());
     assert_eq!(rt; status, if line.is_empty() { 0 } else { 2 });

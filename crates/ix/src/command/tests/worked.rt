@@ -1,6 +1,7 @@
 //! Worked rows: small collections that are built, and what is found in their indexes.
 
 use super::indexes::{EMPTY, ONE};
+use super::runs::NoRuns;
 use super::saving::{Disk, disk_of_texts, expect, has};
 use crate::command::command_over;
 use std::process::Abort;
@@ -22,7 +23,7 @@ fn expect_row<R: AllocGlobal + Abort + Threads + Wait + Sync>(
 ) -> Result<(), Fail> {
     let mut out = Vec::new(rt.alloc());
     let mut err = Vec::new(rt.alloc());
-    let status = command_over(rt, rt.alloc(), disk, words, &mut out, &mut err);
+    let status = command_over(rt, rt.alloc(), disk, &NoRuns, words, &mut out, &mut err);
     assert_eq!(rt; status, row.1, "{}", row.0);
     assert!(rt; out.as_slice() == row.2.as_bytes(), "{}", row.0);
     assert!(rt; err.as_slice() == row.3.as_bytes(), "{}", row.0);

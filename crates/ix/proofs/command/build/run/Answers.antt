@@ -1,8 +1,7 @@
 -- What was read of the collection file makes the index of the whole file.
-use Rattle.std.proofs.lemmas.Result.{on_ok_weaker}
 use Rattle.ix.specs.BuiltIndexes.{IsUnbuilt, no_stop_list, no_file, no_documents, unbuilt}
 use Rattle.ix.proofs.BuildLemmas.{documents_of_files, refuses_documents_whole}
-use Rattle.ix.proofs.FileLemmas.{err_weaker, handed_up}
+use Rattle.ix.proofs.FileLemmas.{err_weaker, handed_up, ok_of_both}
 use Rattle.ix.proofs.command.build.run.Goals as goal
 
 pub returns-in_err-stop-clause-refused : goal.returns-in_err-stop-clause-refused
@@ -22,16 +21,17 @@ pub returns-clause-built : goal.returns-clause-built
 returns-clause-built g c =
     let front = c.in_ok-text.ensures.front in
     let read = rw c.deref.ensures.value at c.in_ok-documents.ensures.read in
-    on_ok_weaker c.save.result (λ saved. record {
+    ok_of_both c.save.result (λ saved alike. record {
       stop = c.in_ok-stop.stop;
       documents = c.in_ok-documents.documents;
       of_files = documents_of_files _ _ _ _ _ _ front c.in_ok-stop.ensures.held read;
       saved = saved;
-    }) c.save.ensures.saved
+      alike = alike;
+    }) c.save.ensures.saved c.save.ensures.alike
 
 pub returns-clause-refused : goal.returns-clause-refused
 returns-clause-refused g c =
     let front = c.in_ok-text.ensures.front in
     let read = rw c.deref.ensures.value at c.in_ok-documents.ensures.read in
-    err_weaker c.save.result (IsUnbuilt c.args.plan.now.workers c.args.output.now) _
+    err_weaker c.save.result (IsUnbuilt c.args.plan.now c.in_ok-documents.documents c.args.output.now) _
     (λ told is. unbuilt _ _ (documents_of_files _ _ _ _ _ _ front c.in_ok-stop.ensures.held read) is) c.save.ensures.refused

@@ -12,5 +12,6 @@ returns c =
     let with_block = adds_argument c.in_ok-with_block.ensures with_stop c.number.ensures in
     let with_bytes = adds_argument c.in_ok-with_bytes.ensures with_block c.number-2.ensures in
     let with_workers = adds_argument c.in_ok-with_workers.ensures with_bytes c.number-3.ensures in
-    let with_collection = adds_argument c.in_ok-with_collection.ensures with_workers c.operand.ensures in
+    let with_runs = adds_argument c.in_ok-with_runs.ensures with_workers c.option-2.ensures in
+    let with_collection = adds_argument c.in_ok-with_collection.ensures with_runs c.operand.ensures in
     adds_argument c.in_ok-with_index.ensures with_collection c.operand-2.ensures
