@@ -10,8 +10,8 @@ use Rattle.ix_vbyte.specs.Postings.{codes_of}
 use Rattle.ix_vbyte.proofs.Gaps.{Ascends-push, next_after-push, gaps_from-push}
 use Rattle.ix_vbyte.proofs.Values.{code_of-apart}
 use Rattle.ix_file.specs.Grams.{IsGramOfTerm}
-use Rattle.ix_file.specs.OpenedGrams.{AreNumbersOf, gap_codes, terms_in}
-use Rattle.ix_file.specs.declared.open.dictionary.TermRow.{TermRow}
+use Rattle.ix_file.specs.OpenedGrams.{AreNumbersOf, gap_codes}
+use Rattle.ix_file.specs.PlacedTerms.{PlacedTerm, terms_in}
 use Rattle.ix_file.proofs.PairCounts.{text_of}
 
 -- the numbers so far, and what follows their gaps
@@ -139,7 +139,7 @@ no_next_gap terms gram next gap rest behind is wrong n =
     wrong (subst (λ (g : ℕ). (0 < g) × (next + g ≤ length terms) × IsGramOfTerm terms gram (next + g - 1)) same n.may)
 
 -- the term of a number has the gram, or not
-pub number_told : (rows : List TermRow) (gram : List ℕ) (next gap number : ℕ) (text : List ℕ) → ¬ (gap ≡ 0) → number ≡ next + (gap - 1) → number < length rows → slice_get (terms_in rows) number ≡ Some text
+pub number_told : (rows : List PlacedTerm) (gram : List ℕ) (next gap number : ℕ) (text : List ℕ) → ¬ (gap ≡ 0) → number ≡ next + (gap - 1) → number < length rows → slice_get (terms_in rows) number ≡ Some text
     → Contains (grams_of text) gram ↔ ((0 < gap) × (next + gap ≤ length (terms_in rows)) × IsGramOfTerm (terms_in rows) gram (next + gap - 1))
 number_told rows gram next gap number text some is low at =
     let n : next + gap - 1 ≡ number = omega (arith, some, is) in
@@ -151,5 +151,5 @@ number_told rows gram next gap number text some is low at =
     cc_term : (t u : List ℕ) → Some t ≡ Some u → t ≡ u
     cc_term t u e = cc
 
-pub number_past : (rows : List TermRow) (gram : List ℕ) (next gap number : ℕ) → ¬ (gap ≡ 0) → number ≡ next + (gap - 1) → length rows ≤ number → ¬ ((0 < gap) × (next + gap ≤ length (terms_in rows)) × IsGramOfTerm (terms_in rows) gram (next + gap - 1))
+pub number_past : (rows : List PlacedTerm) (gram : List ℕ) (next gap number : ℕ) → ¬ (gap ≡ 0) → number ≡ next + (gap - 1) → length rows ≤ number → ¬ ((0 < gap) × (next + gap ≤ length (terms_in rows)) × IsGramOfTerm (terms_in rows) gram (next + gap - 1))
 number_past rows gram next gap number some is past (_, low, _) = omega (arith, some, is, past, low, length-map rows text_of)

@@ -1,8 +1,8 @@
 -- A gram of GRAMS is read: where it stands, and which numbers stand under it.
-use Rattle.std.proofs.Common.{◌≡◌, ◌≢◌, ℕ, zero, suc, ◌+◌, ◌-◌, ◌^◌, ◌<◌, ◌≤◌, List, [], ◌∷◌, ◌++◌, length, slice_get, slice_range, string_bytes, Some, All, IsUtf8, sym, ap, ap₂, subst, ◌∙◌, arith, length-append}
+use Rattle.std.proofs.Common.{◌≡◌, ◌≢◌, ℕ, ◌+◌, ◌-◌, ◌^◌, ◌<◌, ◌≤◌, List, [], ◌∷◌, ◌++◌, length, slice_get, slice_range, Some, All, IsUtf8, sym, ap, ap₂, subst, ◌∙◌, arith, length-append}
 use Rattle.std.proofs.lemmas.List.{append_assoc, length-map}
 use Rattle.std.proofs.lemmas.List.Elements.{All-head}
-use Rattle.std.proofs.lemmas.Str.{IsUtf8-string_bytes}
+use Rattle.std.proofs.lemmas.Option.{get_or_from_slice_get, slice_get_within}
 use Rattle.ix_text.specs.Parts.{GramEntry}
 use Rattle.ix_text.specs.Terms.{IsTerm}
 use Rattle.ix_vbyte.specs.Code.{code_of}
@@ -14,11 +14,11 @@ use Rattle.ix_vbyte.proofs.Texts.{counted-apart}
 use Rattle.ix_vbyte.proofs.Values.{some_code_byte, code_of-apart}
 use Rattle.ix_vbyte.proofs.Walks.{positions_from, Told}
 use Rattle.ix_file.specs.declared.open.pairs.GramPair.{GramPair}
-use Rattle.ix_file.specs.declared.open.dictionary.TermRow.{TermRow}
+use Rattle.ix_file.specs.PlacedTerms.{PlacedTerm, terms_in}
 use Rattle.ix_file.specs.declared.open.grams.GramRow.{GramRow}
 use Rattle.ix_file.specs.Grams.{IsGramOfTerm}
 use Rattle.ix_file.specs.WindowPairs.{gram_of}
-use Rattle.ix_file.specs.OpenedGrams.{AreNumbersOf, IsGramRow, IsRightEntry, gap_codes, gram_bytes, gram_in, terms_in}
+use Rattle.ix_file.specs.OpenedGrams.{AreNumbersOf, IsGramRow, IsRightEntry, gap_codes, gram_bytes, gram_in}
 use Rattle.ix_file.proofs.GramTexts.{HasCharacters, gram_characters, gram_is_text}
 use Rattle.ix_file.proofs.PairCounts.{text_of}
 use Rattle.ix_file.specs.GramTables.{entry}
@@ -31,21 +31,20 @@ bytes_split entry other =
     append_assoc (counted entry.gram ++ code_of (length entry.numbers)) (gap_codes entry.numbers) other
     ∙ append_assoc (counted entry.gram) (code_of (length entry.numbers)) (gap_codes entry.numbers ++ other)
 
+text_is : (texts : List (List ℕ)) (n : ℕ) (text : List ℕ) → All IsUtf8 texts → slice_get texts n ≡ Some text → IsUtf8 text
+text_is texts n text all is =
+    subst IsUtf8 (get_or_from_slice_get texts n text [] is) (all n [] (slice_get_within texts n text is))
+
 -- a right entry that stands in what is left
-module _ (rows : List TermRow) (entry : GramEntry) (right : IsRightEntry (terms_in rows) entry) where
+module _ (rows : List PlacedTerm) (texts : All IsUtf8 (terms_in rows)) (entry : GramEntry) (right : IsRightEntry (terms_in rows) entry) where
   first_right : (terms : List (List ℕ)) (numbers : List ℕ) → 0 < length numbers → All (IsGramOfTerm terms entry.gram) numbers → (n : ℕ) × IsGramOfTerm terms entry.gram n
   first_right terms [] some all = absurd (omega arith)
   first_right terms (n ∷ numbers) some all = (n, All-head (IsGramOfTerm terms entry.gram) n numbers all)
 
-  terms_are_text : (rows : List TermRow) (n : ℕ) (term : List ℕ) → slice_get (terms_in rows) n ≡ Some term → IsUtf8 term
-  terms_are_text [] n term is = absurd cc
-  terms_are_text (row ∷ rows) zero term is = let same : string_bytes row.term ≡ term = cc in subst IsUtf8 same (IsUtf8-string_bytes row.term)
-  terms_are_text (row ∷ rows) (suc n) term is = terms_are_text rows n term is
-
   pub entry_characters : HasCharacters entry.gram
   entry_characters =
       let (n, is) = first_right (terms_in rows) entry.numbers right.some right.numbers.right in
-      gram_characters is.term entry.gram (terms_are_text rows n is.term is.numbered) is.windowed
+      gram_characters is.term entry.gram (text_is (terms_in rows) n is.term texts is.numbered) is.windowed
 
   -- no gram stands there
   pub no_gram_text : (left : List ℕ) → ((text rest : List ℕ) → IsTerm text → left ≢ counted text ++ rest) → (other : List ℕ) → left ≢ gram_bytes entry ++ other
@@ -92,7 +91,7 @@ module _ (rows : List TermRow) (entry : GramEntry) (right : IsRightEntry (terms_
 -- ---- the row of what was read
 
 -- What was read: a gram, a count, and as many numbers; and where they stand.
-pub record IsReadGram (rows : List TermRow) (section left gram behind gaps rest : List ℕ) (pair : GramPair) (count : ℕ) : Type 0 where
+pub record IsReadGram (rows : List PlacedTerm) (section left gram behind gaps rest : List ℕ) (pair : GramPair) (count : ℕ) : Type 0 where
   pub before : List ℕ
   pub whole : section ≡ before ++ left
   pub text : left ≡ counted gram ++ behind
@@ -104,7 +103,7 @@ pub record IsReadGram (rows : List TermRow) (section left gram behind gaps rest 
   pub many : length numbers ≡ count
   pub gap_bytes : gaps ≡ gap_codes numbers ++ rest
 
-pub read_gram_is : (rows : List TermRow) (section left gram behind gaps rest : List ℕ) (pair : GramPair) (count : ℕ) → (before : List ℕ) × (section ≡ before ++ left) → left ≡ counted gram ++ behind → gram_of pair ≡ gram → behind ≡ code_of count ++ gaps → ¬ (count ≡ 0)
+pub read_gram_is : (rows : List PlacedTerm) (section left gram behind gaps rest : List ℕ) (pair : GramPair) (count : ℕ) → (before : List ℕ) × (section ≡ before ++ left) → left ≡ counted gram ++ behind → gram_of pair ≡ gram → behind ≡ code_of count ++ gaps → ¬ (count ≡ 0)
     → (numbers : List ℕ) × AreNumbersOf (terms_in rows) (gram_of pair) numbers × (length numbers ≡ count) × (gaps ≡ gap_codes numbers ++ rest)
     → IsReadGram rows section left gram behind gaps rest pair count
 read_gram_is rows section left gram behind gaps rest pair count (before, whole) text spelled coded some (numbers, are, many, bytes) = record {
@@ -130,7 +129,7 @@ read_row section gram behind gaps rest count = record {
   numbers_size = length gaps - length rest;
 }
 
-module _ (rows : List TermRow) (section left gram behind gaps rest : List ℕ) (pair : GramPair) (count : ℕ) (few : length rows < 2 ^ 32) (r : IsReadGram rows section left gram behind gaps rest pair count) where
+module _ (rows : List PlacedTerm) (section left gram behind gaps rest : List ℕ) (pair : GramPair) (count : ℕ) (few : length rows < 2 ^ 32) (r : IsReadGram rows section left gram behind gaps rest pair count) where
   ascends : Ascends 0 (2 ^ 32 - 1) r.numbers
   ascends = Ascends-wider 0 (length (terms_in rows)) (2 ^ 32 - 1) r.numbers (omega (arith, few, length-map rows text_of)) r.are.ascend
 

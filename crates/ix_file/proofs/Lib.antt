@@ -23,7 +23,9 @@ pub mod GramReading
 pub mod GramSections
 pub mod GramTexts
 pub mod GramWindows
+pub mod Halving
 pub mod HeldLemmas
+pub mod HeldTermLemmas
 pub mod IndexTold
 pub mod ListEntering
 pub mod ListReading
@@ -38,6 +40,7 @@ pub mod Opening
 pub mod PairCounts
 pub mod PairGrams
 pub mod PairOrder
+pub mod PlacedLemmas
 pub mod Placing
 pub mod PositionReading
 pub mod PostingReading
@@ -51,6 +54,5 @@ pub mod TablesFound
 pub mod TablesRefused
 pub mod TellingLemmas
 pub mod TermPairs
-pub mod TermTextLemmas
 pub mod TextLaws
 pub mod TokenTotals

@@ -1,8 +1,9 @@
 -- DICTIONARY is read listing by listing.
-use Rattle.std.proofs.Common.{◌≡◌, ℕ, zero, suc, min, ◌+◌, ◌-◌, ◌^◌, ◌<◌, ◌≤◌, List, [], ◌∷◌, ◌++◌, Some, map, length, take, get_or, slice_get, All, Contains, IsUtf8, refl, sym, ap, ◌∙◌, ap₂, subst, arith}
+use Rattle.std.proofs.Common.{◌≡◌, ℕ, zero, suc, min, ◌+◌, ◌-◌, ◌^◌, ◌<◌, ◌≤◌, List, [], ◌∷◌, ◌++◌, Some, map, length, take, get_or, slice_get, All, Contains, IsUtf8, string_bytes, refl, sym, ap, ◌∙◌, ap₂, subst, arith}
 use Rattle.std.proofs.lemmas.List.{append_assoc, append-nil, map-append, length-map, get_or-map, nil_from_length}
-use Rattle.std.proofs.lemmas.List.Elements.{All-nil, All-push, All-contains, Contains-push}
+use Rattle.std.proofs.lemmas.List.Elements.{All-cons, All-contains, All-head, All-nil, All-push, All-tail, Contains-push}
 use Rattle.std.proofs.lemmas.List.Sums.{sum_by-cons, sum_by-le}
+use Rattle.std.proofs.lemmas.Option.{get_or_from_slice_get}
 use Rattle.std.specs.Cmp.Lexicographic.{slice_cmp}
 use Rattle.std.specs.Ordering.{nat_cmp}
 use Rattle.ix_text.specs.ByteOrder.{IsAscending}
@@ -10,10 +11,11 @@ use Rattle.ix_text.specs.StopSets.{HasTermSize}
 use Rattle.ix_text.specs.Terms.{IsTerm}
 use Rattle.ix_vbyte.specs.Code.{code_of}
 use Rattle.ix_vbyte.proofs.Values.{code_of-apart}
-use Rattle.ix_file.specs.Listings.{AreListings, HasListedCounts, Listing, listing_bytes, listing_in, listings_from, listings_in, listings_section, sizes_sum, dictionary_term_bytes}
+use Rattle.ix_file.specs.Listings.{AreListings, HasListedCounts, Listing, listing_bytes, listing_in, listing_read, listings_from, listings_in, listings_section, sizes_sum, dictionary_term_bytes}
 use Rattle.ix_file.specs.Sections.{Version}
 use Rattle.ix_file.specs.TermReading.{TermMayFollow, last_listed}
-use Rattle.ix_file.specs.declared.open.dictionary.TermRow.{TermRow}
+use Rattle.ix_file.specs.PlacedTerms.{PlacedTerm, placed_at, terms_in}
+use Rattle.ix_file.specs.declared.open.dictionary.ListedTerm.{ListedTerm}
 use Rattle.ix_file.proofs.AscendingLemmas.{ascending_front, ascending_last, ascending_none, ascending_push, last_of, less_from_pair, pair_from_less}
 use Rattle.ix_file.proofs.ListingsTold.{GoesOn, goes_on, last_from, last_from-listed, listings_from-push, term-apart}
 use Rattle.ix_file.proofs.StopReading.{All-front}
@@ -157,6 +159,33 @@ none_next version stop section done left e some refused listings are same = at (
     at : GoesOn version 0 [] done listings left → ⊥
     at g = at_more g.more g.whole g.rest
 
+-- the listings of one term more
+pub listing_pushed : (old : List PlacedTerm) (read : ListedTerm) (text : List ℕ) (start : ℕ) (new : List PlacedTerm) → new ≡ old ++ placed_at text (record { start = start; size = read.size; documents = read.documents }) ∷ [] → text ≡ string_bytes read.term
+    → listings_in new ≡ listings_in old ++ listing_read read ∷ []
+listing_pushed old read text start new pushed same =
+    let added : PlacedTerm = placed_at text (record { start = start; size = read.size; documents = read.documents }) in
+    ap listings_in pushed ∙ map-append listing_in old (added ∷ [])
+    ∙ ap (λ (t : List ℕ). listings_in old ++ record { term = t; documents = read.documents; size = read.size } ∷ []) same
+
+terms_listed : (terms : List PlacedTerm) → map term_of (listings_in terms) ≡ terms_in terms
+terms_listed [] = refl
+terms_listed (term ∷ terms) = ap (λ (ts : List (List ℕ)). term.term ∷ ts) (terms_listed terms)
+
+-- the terms of listings are text
+pub texts_listed : (terms : List PlacedTerm) → All (λ (l : Listing). IsTerm l.term) (listings_in terms) → All IsUtf8 (terms_in terms)
+texts_listed [] all = All-nil IsUtf8
+texts_listed (term ∷ terms) all =
+    let head = All-head (λ (l : Listing). IsTerm l.term) (listing_in term) (listings_in terms) all in
+    All-cons IsUtf8 term.term (terms_in terms) head.text (texts_listed terms (All-tail (λ (l : Listing). IsTerm l.term) (listing_in term) (listings_in terms) all))
+
+-- the last text
+pub last_text_is : (terms : List PlacedTerm) (text : List ℕ) (count : ℕ) → count ≡ length terms → slice_get (terms_in terms) (count - 1) ≡ Some text → text ≡ last_listed (listings_in terms)
+last_text_is terms text count sized is =
+    let same : map term_of (listings_in terms) ≡ terms_in terms = terms_listed terms in
+    let last : count - 1 ≡ length (listings_in terms) - 1 = omega (arith, sized, length-map terms listing_in) in
+    sym (get_or_from_slice_get (terms_in terms) (count - 1) text [] is) ∙ ap (λ (ts : List (List ℕ)). get_or ts (count - 1) []) (sym same)
+    ∙ ap (λ (n : ℕ). get_or (map term_of (listings_in terms)) n []) last
+
 -- ---- where the lists stand
 
 -- the largest sum that is kept
@@ -164,11 +193,11 @@ abbrev pub most : ℕ
 most = 2 ^ 64 - 1
 
 -- each list begins where those before it end, from a place on, as far as a number goes
-abbrev pub LieFrom : ℕ → List TermRow → Type 0
+abbrev pub LieFrom : ℕ → List PlacedTerm → Type 0
 LieFrom from [] = Unit {0}
 LieFrom from (row ∷ rows) = (row.start ≡ min from most) × LieFrom (from + row.size) rows
 
-pub lie_push : (from : ℕ) (rows : List TermRow) (row : TermRow) → LieFrom from rows → row.start ≡ min (from + sizes_sum (listings_in rows)) most → LieFrom from (rows ++ row ∷ [])
+pub lie_push : (from : ℕ) (rows : List PlacedTerm) (row : PlacedTerm) → LieFrom from rows → row.start ≡ min (from + sizes_sum (listings_in rows)) most → LieFrom from (rows ++ row ∷ [])
 lie_push from [] row lie at =
     let same : from + 0 ≡ from = omega arith in
     (at ∙ ap (λ n. min n most) same, tt)
@@ -179,12 +208,12 @@ lie_push from (r ∷ rs) row lie at =
 kept : (n : ℕ) → n ≤ most → min n most ≡ n
 kept n small = omega arith
 
-pub lie_at : (from : ℕ) (rows : List TermRow) (n : ℕ) (row : TermRow) → LieFrom from rows → from + sizes_sum (listings_in rows) ≤ most → slice_get rows n ≡ Some row → row.start ≡ from + sizes_sum (listings_in (take n rows))
+pub lie_at : (from : ℕ) (rows : List PlacedTerm) (n : ℕ) (row : PlacedTerm) → LieFrom from rows → from + sizes_sum (listings_in rows) ≤ most → slice_get rows n ≡ Some row → row.start ≡ from + sizes_sum (listings_in (take n rows))
 lie_at from [] n row lie small is = absurd (cc)
 lie_at from (r ∷ rs) zero row lie small is =
     let same : row ≡ r = cc in
     let none : from ≡ from + 0 = omega arith in
-    ap (λ (q : TermRow). q.start) same ∙ lie.0 ∙ kept from (omega arith) ∙ none
+    ap (λ (q : PlacedTerm). q.start) same ∙ lie.0 ∙ kept from (omega arith) ∙ none
 lie_at from (r ∷ rs) (suc n) row lie small is =
     let whole = sum_by-cons (λ (l : Listing). l.size) (listing_in r) (listings_in rs) in
     let front = sum_by-cons (λ (l : Listing). l.size) (listing_in r) (listings_in (take n rs)) in

@@ -1,5 +1,5 @@
 -- The lists of POSTINGS, found where the rows of the dictionary say: what they are, and that they are all of POSTINGS.
-use Rattle.std.proofs.Common.{◌≡◌, ℕ, suc, ◌+◌, ◌-◌, ◌^◌, ◌<◌, ◌≤◌, List, [], ◌∷◌, ◌++◌, map, flat_map, length, take, drop, get_or, slice_get, slice_range, Some, All, Contains, sum_by, refl, sym, ap, ap₂, ◌∙◌, subst, arith, length-drop, string_bytes}
+use Rattle.std.proofs.Common.{◌≡◌, ℕ, suc, ◌+◌, ◌-◌, ◌^◌, ◌<◌, ◌≤◌, List, [], ◌∷◌, ◌++◌, map, flat_map, length, take, drop, get_or, slice_get, slice_range, Some, All, Contains, sum_by, refl, sym, ap, ap₂, ◌∙◌, subst, arith, length-drop}
 use Rattle.std.proofs.lemmas.List.{append-nil, append_assoc, length-take-le}
 use Rattle.std.proofs.lemmas.List.Elements.{All-cons, All-head, All-nil, All-tail, Contains-get_or}
 use Rattle.std.proofs.lemmas.List.Folds.{drop_split, flat_map-map}
@@ -20,34 +20,34 @@ use Rattle.ix_file.specs.Opened.{lists_of}
 use Rattle.ix_file.specs.ReadLists.{AreListedIn, list_in}
 use Rattle.ix_file.specs.Sections.{postings_section}
 use Rattle.ix_file.specs.Tables.{IsListRow, entries_in, entry_in}
-use Rattle.ix_file.specs.declared.open.dictionary.TermRow.{TermRow}
+use Rattle.ix_file.specs.PlacedTerms.{PlacedTerm}
 
 -- ---- where the lists lie
 
 -- the list of each row begins where that of the row before ends, the first at a place
-abbrev pub LieFrom : ℕ → List TermRow → Type 0
+abbrev pub LieFrom : ℕ → List PlacedTerm → Type 0
 LieFrom from [] = Unit {0}
 LieFrom from (row ∷ rows) = (row.start ≡ from) × LieFrom (from + row.size) rows
 
-lie_from : (from : ℕ) (rows : List TermRow) → ((n : ℕ) (row : TermRow) → slice_get rows n ≡ Some row → row.start ≡ from + sizes_sum (listings_in (take n rows))) → LieFrom from rows
+lie_from : (from : ℕ) (rows : List PlacedTerm) → ((n : ℕ) (row : PlacedTerm) → slice_get rows n ≡ Some row → row.start ≡ from + sizes_sum (listings_in (take n rows))) → LieFrom from rows
 lie_from from [] each = tt
 lie_from from (row ∷ rows) each = (each 0 row refl ∙ omega arith, lie_from (from + row.size) rows (λ n other at. each (suc n) other at ∙ further n))
   where
     further : (n : ℕ) → from + sizes_sum (listings_in (take (suc n) (row ∷ rows))) ≡ from + row.size + sizes_sum (listings_in (take n rows))
     further n = omega (arith, sum_by-cons (λ (listing : Listing). listing.size) (listing_in row) (listings_in (take n rows)))
 
-pub laid_out : (rows : List TermRow) → AreLaidOut rows → LieFrom 0 rows
+pub laid_out : (rows : List PlacedTerm) → AreLaidOut rows → LieFrom 0 rows
 laid_out rows are = lie_from 0 rows (λ n row at. are n row at ∙ omega arith)
 
 -- each lies in the section where all do
-pub lie_within : (section : List ℕ) (from : ℕ) (rows : List TermRow) → LieFrom from rows → from + sizes_sum (listings_in rows) ≤ length section → All (λ row. row.start + row.size ≤ length section) rows
-lie_within section from [] lie within = All-nil (λ (row : TermRow). row.start + row.size ≤ length section)
+pub lie_within : (section : List ℕ) (from : ℕ) (rows : List PlacedTerm) → LieFrom from rows → from + sizes_sum (listings_in rows) ≤ length section → All (λ row. row.start + row.size ≤ length section) rows
+lie_within section from [] lie within = All-nil (λ (row : PlacedTerm). row.start + row.size ≤ length section)
 lie_within section from (row ∷ rows) lie within =
     let sum : sizes_sum (listings_in (row ∷ rows)) ≡ row.size + sizes_sum (listings_in rows) = sum_by-cons (λ (listing : Listing). listing.size) (listing_in row) (listings_in rows) in
-    All-cons (λ (row : TermRow). row.start + row.size ≤ length section) row rows (omega (arith, sum, lie.0)) (lie_within section (from + row.size) rows lie.1 (omega (arith, sum)))
+    All-cons (λ (row : PlacedTerm). row.start + row.size ≤ length section) row rows (omega (arith, sum, lie.0)) (lie_within section (from + row.size) rows lie.1 (omega (arith, sum)))
 
 -- the lists, one behind another
-pub lists_joined : (section : List ℕ) (from : ℕ) (rows : List TermRow) → LieFrom from rows → drop from section ≡ flat_map (list_in section) rows ++ drop (from + sizes_sum (listings_in rows)) section
+pub lists_joined : (section : List ℕ) (from : ℕ) (rows : List PlacedTerm) → LieFrom from rows → drop from section ≡ flat_map (list_in section) rows ++ drop (from + sizes_sum (listings_in rows)) section
 lists_joined section from [] lie = ap (λ n. drop n section) (omega arith)
 lists_joined section from (row ∷ rows) lie =
     let sum : sizes_sum (listings_in (row ∷ rows)) ≡ row.size + sizes_sum (listings_in rows) = sum_by-cons (λ (listing : Listing). listing.size) (listing_in row) (listings_in rows) in
@@ -58,13 +58,13 @@ lists_joined section from (row ∷ rows) lie =
     first ∙ ap (λ bytes. list_in section row ++ bytes) (rest ∙ ap (λ n. flat_map (list_in section) rows ++ drop n section) end)
     ∙ sym (append_assoc (list_in section row) (flat_map (list_in section) rows) (drop (from + sizes_sum (listings_in (row ∷ rows))) section))
 
-pub lists_whole : (section : List ℕ) (rows : List TermRow) → AreLaidOut rows → sizes_sum (listings_in rows) ≡ length section → flat_map (list_in section) rows ≡ section
+pub lists_whole : (section : List ℕ) (rows : List PlacedTerm) → AreLaidOut rows → sizes_sum (listings_in rows) ≡ length section → flat_map (list_in section) rows ≡ section
 lists_whole section rows are sum =
     let joined = lists_joined section 0 rows (laid_out rows are) in
     let nothing : drop (0 + sizes_sum (listings_in rows)) section ≡ [] = ap (λ n. drop n section) (omega (arith, sum)) ∙ drop-length section in
     sym (joined ∙ ap (λ bytes. flat_map (list_in section) rows ++ bytes) nothing ∙ append-nil (flat_map (list_in section) rows))
 
-pub length-list_in : (section : List ℕ) (row : TermRow) → row.start + row.size ≤ length section → length (list_in section row) ≡ row.size
+pub length-list_in : (section : List ℕ) (row : PlacedTerm) → row.start + row.size ≤ length section → length (list_in section row) ≡ row.size
 length-list_in section row within =
     length-take-le (row.start + row.size - row.start) (drop row.start section) (omega (arith, length-drop row.start section)) ∙ omega arith
 
@@ -96,24 +96,24 @@ listed_postings rows count bytes postings few are =
     postings_from (2 ^ 32 - 1) postings are.are.ascending are.are.each (λ k d within. posting_small rows (get_or postings k d) few (are.each k d within))
 
 -- the list of the row is that of the postings of its entry
-abbrev pub IsListed : List DocumentRow → List ℕ → TermRow → Type 0
+abbrev pub IsListed : List DocumentRow → List ℕ → PlacedTerm → Type 0
 IsListed rows section row = AreListedIn rows row.documents (list_in section row) (entry_in section row).postings
 
 -- the lists of some rows
-abbrev pub AreListed : List DocumentRow → List ℕ → List TermRow → List (List Posting) → Type 0
+abbrev pub AreListed : List DocumentRow → List ℕ → List PlacedTerm → List (List Posting) → Type 0
 AreListed rows section terms lists = AllZip (λ term postings. AreListedIn rows term.documents (list_in section term) postings) terms lists
 
-told : (rows : List DocumentRow) (section : List ℕ) (row : TermRow) (postings : List Posting) → AreFew rows → AreListedIn rows row.documents (list_in section row) postings → (entry_in section row).postings ≡ postings
+told : (rows : List DocumentRow) (section : List ℕ) (row : PlacedTerm) (postings : List Posting) → AreFew rows → AreListedIn rows row.documents (list_in section row) postings → (entry_in section row).postings ≡ postings
 told rows section row postings few are = (coded_list row.documents (list_in section row) postings (listed_postings rows row.documents (list_in section row) postings few are) are.counted are.coded).told
 
-pub lists_are : (rows : List DocumentRow) (section : List ℕ) (terms : List TermRow) (lists : List (List Posting)) → AreFew rows → AreListed rows section terms lists → lists_of (entries_in section terms) ≡ lists
+pub lists_are : (rows : List DocumentRow) (section : List ℕ) (terms : List PlacedTerm) (lists : List (List Posting)) → AreFew rows → AreListed rows section terms lists → lists_of (entries_in section terms) ≡ lists
 lists_are rows section [] [] few are = refl
 lists_are rows section [] (list ∷ lists) few are = absurd are
 lists_are rows section (term ∷ terms) [] few are = absurd are
 lists_are rows section (term ∷ terms) (list ∷ lists) few are =
     ap₂ (λ x xs. x ∷ xs) (told rows section term list few are.0) (lists_are rows section terms lists few are.1)
 
-pub each_listed : (rows : List DocumentRow) (section : List ℕ) (terms : List TermRow) (lists : List (List Posting)) → AreFew rows → AreListed rows section terms lists → All (IsListed rows section) terms
+pub each_listed : (rows : List DocumentRow) (section : List ℕ) (terms : List PlacedTerm) (lists : List (List Posting)) → AreFew rows → AreListed rows section terms lists → All (IsListed rows section) terms
 each_listed rows section [] [] few are = All-nil (IsListed rows section)
 each_listed rows section [] (list ∷ lists) few are = absurd are
 each_listed rows section (term ∷ terms) [] few are = absurd are
@@ -123,7 +123,7 @@ each_listed rows section (term ∷ terms) (list ∷ lists) few are =
     (each_listed rows section terms lists few are.1)
 
 -- the lists may be walked
-pub list_row : (rows : List DocumentRow) (section : List ℕ) (row : TermRow) → AreFew rows → IsListed rows section row → row.start + row.size ≤ length section → IsListRow section row
+pub list_row : (rows : List DocumentRow) (section : List ℕ) (row : PlacedTerm) → AreFew rows → IsListed rows section row → row.start + row.size ≤ length section → IsListRow section row
 list_row rows section row few are within = record {
   within = within;
   coded = record {
@@ -135,20 +135,20 @@ list_row rows section row few are within = record {
 }
 
 -- the dictionary lists them as it says
-pub entry_listed : (rows : List DocumentRow) (section : List ℕ) (row : TermRow) → IsListed rows section row → row.start + row.size ≤ length section → listing_of (entry_in section row) ≡ listing_in row
+pub entry_listed : (rows : List DocumentRow) (section : List ℕ) (row : PlacedTerm) → IsListed rows section row → row.start + row.size ≤ length section → listing_of (entry_in section row) ≡ listing_in row
 entry_listed rows section row are within =
-    let with_counts : ℕ → ℕ → Listing = λ documents size. record { term = string_bytes row.term; documents = documents; size = size } in
+    let with_counts : ℕ → ℕ → Listing = λ documents size. record { term = row.term; documents = documents; size = size } in
     ap₂ with_counts are.counted (ap length (sym are.coded) ∙ length-list_in section row within)
 
-pub entries_listed : (rows : List DocumentRow) (section : List ℕ) (terms : List TermRow) → All (IsListed rows section) terms → All (λ row. row.start + row.size ≤ length section) terms → map listing_of (entries_in section terms) ≡ listings_in terms
+pub entries_listed : (rows : List DocumentRow) (section : List ℕ) (terms : List PlacedTerm) → All (IsListed rows section) terms → All (λ row. row.start + row.size ≤ length section) terms → map listing_of (entries_in section terms) ≡ listings_in terms
 entries_listed rows section [] are within = refl
 entries_listed rows section (term ∷ terms) are within =
-    let Within = λ (row : TermRow). row.start + row.size ≤ length section in
+    let Within = λ (row : PlacedTerm). row.start + row.size ≤ length section in
     ap₂ (λ x xs. x ∷ xs) (entry_listed rows section term (All-head (IsListed rows section) term terms are) (All-head Within term terms within))
     (entries_listed rows section terms (All-tail (IsListed rows section) term terms are) (All-tail Within term terms within))
 
 -- they are all of POSTINGS
-pub postings_joined : (rows : List DocumentRow) (section : List ℕ) (terms : List TermRow) → All (IsListed rows section) terms → flat_map (list_in section) terms ≡ postings_section (entries_in section terms)
+pub postings_joined : (rows : List DocumentRow) (section : List ℕ) (terms : List PlacedTerm) → All (IsListed rows section) terms → flat_map (list_in section) terms ≡ postings_section (entries_in section terms)
 unfolding postings_section
 postings_joined rows section [] are = refl
 postings_joined rows section (term ∷ terms) are =

@@ -1,5 +1,5 @@
 -- What stands at a place of a table, and what it tells.
-use Rattle.std.proofs.Common.{◌≡◌, ℕ, ◌-◌, ◌^◌, ◌<◌, ◌≤◌, ◌⊎◌, ⊎_elim, List, [], ◌∷◌, map, length, get_or, Some, Result, Ok, Err, is_ok, true, Equal, All, Contains, MatchOption, refl, sym, ap, ◌∙◌, subst, arith, string_bytes}
+use Rattle.std.proofs.Common.{◌≡◌, ℕ, ◌-◌, ◌^◌, ◌<◌, ◌≤◌, ◌⊎◌, ⊎_elim, List, [], ◌∷◌, map, length, get_or, Some, Result, Ok, Err, is_ok, true, Equal, All, Contains, MatchOption, refl, sym, ap, ◌∙◌, subst, arith}
 use Rattle.std.proofs.lemmas.List.{length-map}
 use Rattle.std.proofs.lemmas.List.Elements.{All-contains, All-get_or, Contains-get_or}
 use Rattle.std.proofs.lemmas.Option.{slice_get-get_or, slice_get-map, slice_get_read, slice_get_within}
@@ -25,7 +25,7 @@ use Rattle.ix_file.specs.Opened.{lists_of}
 use Rattle.ix_file.specs.LongLists.{IsLongIn}
 use Rattle.ix_file.specs.ReadLists.{list_in}
 use Rattle.ix_file.specs.Tables.{entries_in, entry_in, term_in}
-use Rattle.ix_file.specs.declared.open.dictionary.TermRow.{TermRow}
+use Rattle.ix_file.specs.PlacedTerms.{PlacedTerm}
 use Rattle.ix_file.specs.declared.tables.LongList.{LongList}
 use Rattle.ix_file.proofs.SectionSizes.{few_entries, small_parts}
 
@@ -74,9 +74,9 @@ few_terms parts are =
     few_entries parts (small_parts has.collection parts has.lawful has.of_collection)
 
 -- the terms of the entries are those of the rows
-pub terms_in : (section : List ℕ) (rows : List TermRow) → terms_of (entries_in section rows) ≡ map term_in rows
+pub terms_in : (section : List ℕ) (rows : List PlacedTerm) → terms_of (entries_in section rows) ≡ map term_in rows
 terms_in section [] = refl
-terms_in section (row ∷ rows) = ap (λ terms. string_bytes row.term ∷ terms) (terms_in section rows)
+terms_in section (row ∷ rows) = ap (λ terms. row.term ∷ terms) (terms_in section rows)
 
 -- the entry of a place
 pub entry_at : (entries : List DictionaryEntry) (n : ℕ) (term : List ℕ) (postings : List Posting) → slice_get (terms_of entries) n ≡ Some term → slice_get (lists_of entries) n ≡ Some postings → Contains entries (record { term = term; postings = postings })
@@ -102,10 +102,10 @@ number_at parts n term terms are same at =
     record { numbered = numbered; below = below; small = omega (arith, below, few_terms parts are) }
 
 -- ---- the places of a list
-pub row_at : (section : List ℕ) (terms : List TermRow) (n : ℕ) (row : TermRow) → n < length (entries_in section terms) → row ≡ get_or terms n row → slice_get terms n ≡ Some row
+pub row_at : (section : List ℕ) (terms : List PlacedTerm) (n : ℕ) (row : PlacedTerm) → n < length (entries_in section terms) → row ≡ get_or terms n row → slice_get terms n ≡ Some row
 row_at section terms n row below read = slice_get_read terms (length terms) n row refl (omega (arith, below, length-map terms (entry_in section))) read
 
-pub with_places : (section : List ℕ) (terms : List TermRow) (longs : List LongList) (n : ℕ) (row : TermRow) (postings : List Posting) (skips : List Skip) → All (IsLongIn section terms) longs → slice_get terms n ≡ Some row
+pub with_places : (section : List ℕ) (terms : List PlacedTerm) (longs : List LongList) (n : ℕ) (row : PlacedTerm) (postings : List Posting) (skips : List Skip) → All (IsLongIn section terms) longs → slice_get terms n ≡ Some row
     → IsCodedList row.documents (list_in section row) → ((are : List Posting) → ArePostings 0 (2 ^ 32 - 1) are → length are ≡ row.documents → list_in section row ≡ list_bytes are → postings ≡ are)
     → (skips ≡ []) ⊎ ((long : LongList) × Contains longs long × (long.number ≡ n) × (skips ≡ long.skips.items)) → AreSkips postings skips
 with_places section terms longs n row postings skips all there list gives found =

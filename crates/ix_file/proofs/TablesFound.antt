@@ -19,7 +19,7 @@ use Rattle.ix_file.specs.ReadLists.{AreListsIn}
 use Rattle.ix_file.specs.Sections.{Version, documents_section, grams_section, stop_section}
 use Rattle.ix_file.specs.Spelled.{AreSectionsOf}
 use Rattle.ix_file.specs.Tables.{AreTablesOf, entries_in, entry_in, parts_in, term_in}
-use Rattle.ix_file.specs.declared.open.dictionary.TermRow.{TermRow}
+use Rattle.ix_file.specs.PlacedTerms.{PlacedTerm}
 use Rattle.ix_file.specs.declared.tables.Tables.{Tables}
 use Rattle.ix_file.proofs.ListingsTold.{dictionary_listings}
 use Rattle.ix_file.proofs.ListsFound.{AreFew, IsListed, each_listed, entries_distinct, entries_listed, laid_out, lie_within, list_row, lists_are, lists_whole, postings_joined}
@@ -34,19 +34,19 @@ pub record AreRead (version : Version) (texts : SectionTexts) (tables : Tables) 
   pub rows_counted : length tables.rows.items ≡ document_count
   pub few_documents : document_count ≤ 2 ^ 28
   pub names : All (IsNameRow texts.documents) tables.rows.items
-  pub listings : AreListings tables.stop (listings_in tables.terms.items)
-  pub dictionary : texts.dictionary ≡ listings_section version (listings_in tables.terms.items)
-  pub terms_counted : length tables.terms.items ≡ term_count
-  pub sizes : sizes_sum (listings_in tables.terms.items) ≡ length texts.postings
-  pub laid_out : AreLaidOut tables.terms.items
+  pub listings : AreListings tables.stop (listings_in tables.terms)
+  pub dictionary : texts.dictionary ≡ listings_section version (listings_in tables.terms)
+  pub terms_counted : length tables.terms ≡ term_count
+  pub sizes : sizes_sum (listings_in tables.terms) ≡ length texts.postings
+  pub laid_out : AreLaidOut tables.terms
   pub lists : List (List Posting)
-  pub listed : AreListsIn (rows_in texts.documents tables.rows.items) texts.postings tables.terms.items lists
-  pub longs : All (IsLongIn texts.postings tables.terms.items) tables.longs.items
-  pub of_terms : AreGramsOfTerms (map term_in tables.terms.items) (grams_in texts.grams tables.grams.items)
+  pub listed : AreListsIn (rows_in texts.documents tables.rows.items) texts.postings tables.terms lists
+  pub longs : All (IsLongIn texts.postings tables.terms) tables.longs.items
+  pub of_terms : AreGramsOfTerms (map term_in tables.terms) (grams_in texts.grams tables.grams.items)
   pub grams : texts.grams ≡ grams_section (grams_in texts.grams tables.grams.items)
   pub gaps : All (IsGramRow texts.grams) tables.grams.items
 
-pub listed_terms : (rows : List TermRow) → map (λ listing. listing.term) (listings_in rows) ≡ map term_in rows
+pub listed_terms : (rows : List PlacedTerm) → map (λ listing. listing.term) (listings_in rows) ≡ map term_in rows
 listed_terms [] = refl
 listed_terms (row ∷ rows) = ap (λ terms. term_in row ∷ terms) (listed_terms rows)
 
@@ -55,21 +55,21 @@ module _ (version : Version) (texts : SectionTexts) (tables : Tables) (document_
   rows = rows_in texts.documents tables.rows.items
 
   abbrev entries : List DictionaryEntry
-  entries = entries_in texts.postings tables.terms.items
+  entries = entries_in texts.postings tables.terms
 
   few : AreFew rows
   few = record { documents = omega (arith, read.rows_counted, read.few_documents, length-map tables.rows.items (row_in texts.documents)); tokens = read.rows.few_tokens }
 
-  within : All (λ row. row.start + row.size ≤ length texts.postings) tables.terms.items
-  within = lie_within texts.postings 0 tables.terms.items (laid_out tables.terms.items read.laid_out) (omega (arith, read.sizes))
+  within : All (λ row. row.start + row.size ≤ length texts.postings) tables.terms
+  within = lie_within texts.postings 0 tables.terms (laid_out tables.terms read.laid_out) (omega (arith, read.sizes))
 
-  each : All (IsListed rows texts.postings) tables.terms.items
-  each = each_listed rows texts.postings tables.terms.items read.lists few read.listed.each
+  each : All (IsListed rows texts.postings) tables.terms
+  each = each_listed rows texts.postings tables.terms read.lists few read.listed.each
 
-  listings : map listing_of entries ≡ listings_in tables.terms.items
-  listings = entries_listed rows texts.postings tables.terms.items each within
+  listings : map listing_of entries ≡ listings_in tables.terms
+  listings = entries_listed rows texts.postings tables.terms each within
 
-  lawful_term : (row : TermRow) → IsListed rows texts.postings row → IsTerm (term_in row) → (Contains tables.stop (term_in row) → ⊥) → IsLawfulTerm (parts_in texts tables) (entry_in texts.postings row)
+  lawful_term : (row : PlacedTerm) → IsListed rows texts.postings row → IsTerm (term_in row) → (Contains tables.stop (term_in row) → ⊥) → IsLawfulTerm (parts_in texts tables) (entry_in texts.postings row)
   lawful_term row listed term no_stop = record {
     term = term;
     no_stop = no_stop;
@@ -80,16 +80,16 @@ module _ (version : Version) (texts : SectionTexts) (tables : Tables) (document_
 
   lawful_terms : All (IsLawfulTerm (parts_in texts tables)) entries
   lawful_terms =
-      All-map (IsLawfulTerm (parts_in texts tables)) (entry_in texts.postings) tables.terms.items
+      All-map (IsLawfulTerm (parts_in texts tables)) (entry_in texts.postings) tables.terms
       (λ k d below.
-      let row = get_or tables.terms.items k d in
+      let row = get_or tables.terms k d in
       let listed = listing_at k d below in
       lawful_term row (each k d below) (listed.0) (listed.1))
     where
-      listing_at : (k : ℕ) (d : TermRow) → k < length tables.terms.items → IsTerm (term_in (get_or tables.terms.items k d)) × (Contains tables.stop (term_in (get_or tables.terms.items k d)) → ⊥)
+      listing_at : (k : ℕ) (d : PlacedTerm) → k < length tables.terms → IsTerm (term_in (get_or tables.terms k d)) × (Contains tables.stop (term_in (get_or tables.terms k d)) → ⊥)
       listing_at k d below =
-          let same = get_or-map listing_in tables.terms.items k d (listing_in d) below in
-          let inside : k < length (listings_in tables.terms.items) = omega (arith, below, length-map tables.terms.items listing_in) in (
+          let same = get_or-map listing_in tables.terms k d (listing_in d) below in
+          let inside : k < length (listings_in tables.terms) = omega (arith, below, length-map tables.terms listing_in) in (
             subst (λ (listing : Listing). IsTerm listing.term) same (read.listings.terms k (listing_in d) inside),
             subst (λ (listing : Listing). Contains tables.stop listing.term → ⊥) same (read.listings.unstopped k (listing_in d) inside),
           )
@@ -102,21 +102,21 @@ module _ (version : Version) (texts : SectionTexts) (tables : Tables) (document_
     names = read.rows.names;
     few_documents = few.documents;
     few_tokens = few.tokens;
-    ascending = subst IsAscending (listed_terms tables.terms.items ∙ sym (terms_in texts.postings tables.terms.items)) read.listings.ascending;
+    ascending = subst IsAscending (listed_terms tables.terms ∙ sym (terms_in texts.postings tables.terms)) read.listings.ascending;
     terms = lawful_terms;
   }
 
   lawful : AreLawful (parts_in texts tables)
   lawful =
       lawful_if_distinct (parts_in texts tables) in_order
-      (entries_distinct rows entries read.lists (lists_are rows texts.postings tables.terms.items read.lists few read.listed.each) read.listed.distinct)
+      (entries_distinct rows entries read.lists (lists_are rows texts.postings tables.terms read.lists few read.listed.each) read.listed.distinct)
 
   pub tables_found : AreTablesOf texts tables
   tables_found = record {
     lawful = lawful;
-    grams = subst (λ (terms : List (List ℕ)). AreGramsOfTerms terms (grams_in texts.grams tables.grams.items)) (sym (terms_in texts.postings tables.terms.items)) read.of_terms;
+    grams = subst (λ (terms : List (List ℕ)). AreGramsOfTerms terms (grams_in texts.grams tables.grams.items)) (sym (terms_in texts.postings tables.terms)) read.of_terms;
     names = read.names;
-    lists = λ k d below. list_row rows texts.postings (get_or tables.terms.items k d) few (each k d below) (within k d below);
+    lists = λ k d below. list_row rows texts.postings (get_or tables.terms k d) few (each k d below) (within k d below);
     longs = read.longs;
     gaps = read.gaps;
   }
@@ -134,11 +134,11 @@ module _ (version : Version) (texts : SectionTexts) (tables : Tables) (document_
   sections_found = record {
     spelled =
         same_texts _ _ _ _ _
-        (sym (lists_whole texts.postings tables.terms.items read.laid_out read.sizes) ∙ postings_joined rows texts.postings tables.terms.items each)
+        (sym (lists_whole texts.postings tables.terms read.laid_out read.sizes) ∙ postings_joined rows texts.postings tables.terms each)
         read.stop
         read.documents
         (read.dictionary ∙ ap (listings_section version) (sym listings) ∙ sym (dictionary_listings version entries))
         read.grams;
     document_count = sym read.rows_counted ∙ sym (length-map tables.rows.items (row_in texts.documents));
-    term_count = sym read.terms_counted ∙ sym (length-map tables.terms.items (entry_in texts.postings));
+    term_count = sym read.terms_counted ∙ sym (length-map tables.terms (entry_in texts.postings));
   }

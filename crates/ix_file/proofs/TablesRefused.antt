@@ -26,7 +26,7 @@ use Rattle.ix_file.specs.ReadLists.{AreListsIn, list_in}
 use Rattle.ix_file.specs.Sections.{Version, documents_section, grams_section, postings_section, stop_section}
 use Rattle.ix_file.specs.Spelled.{AreSectionsOf}
 use Rattle.ix_file.specs.Tables.{term_in}
-use Rattle.ix_file.specs.declared.open.dictionary.TermRow.{TermRow}
+use Rattle.ix_file.specs.PlacedTerms.{PlacedTerm}
 use Rattle.ix_file.proofs.IndexTold.{rows_told, stop_told}
 use Rattle.ix_file.proofs.ListingsTold.{dictionary_listings, listings_told}
 use Rattle.ix_file.proofs.ListsFound.{AreListed, LieFrom, laid_out, length-list_in}
@@ -53,7 +53,7 @@ lie_in parts entry is = record {
 }
 
 -- rows that lie one behind another stand for the lists of the entries that spell the section from there on
-listed_from : (documents : List DocumentRow) (section : List ℕ) (from : ℕ) (rows : List TermRow) (entries : List DictionaryEntry) → LieFrom from rows → from + sizes_sum (listings_in rows) ≤ length section
+listed_from : (documents : List DocumentRow) (section : List ℕ) (from : ℕ) (rows : List PlacedTerm) (entries : List DictionaryEntry) → LieFrom from rows → from + sizes_sum (listings_in rows) ≤ length section
     → map listing_of entries ≡ listings_in rows → drop from section ≡ flat_map (λ entry. list_bytes entry.postings) entries → All (LieIn documents) entries → AreListed documents section rows (lists_of entries)
 listed_from documents section from [] [] lie within same spelled all = tt
 listed_from documents section from [] (entry ∷ entries) lie within same spelled all = cc
@@ -118,11 +118,11 @@ module _ (version : Version) (texts : SectionTexts) (document_count term_count :
   unfolding postings_section
   postings = ap (λ (t : SectionTexts). t.postings) is.spelled
 
-  same_listings : (rows : List TermRow) → texts.dictionary ≡ listings_section version (listings_in rows) → map listing_of parts.entries ≡ listings_in rows
+  same_listings : (rows : List PlacedTerm) → texts.dictionary ≡ listings_section version (listings_in rows) → map listing_of parts.entries ≡ listings_in rows
   same_listings rows spelled =
       listings_told version (map listing_of parts.entries) (listings_in rows) (sym (dictionary_listings version parts.entries) ∙ sym (ap (λ (t : SectionTexts). t.dictionary) is.spelled) ∙ spelled)
 
-  pub no_lists : (documents : List DocumentRow) (rows : List TermRow) → texts.documents ≡ documents_section documents → texts.dictionary ≡ listings_section version (listings_in rows) → AreLaidOut rows → sizes_sum (listings_in rows) ≡ length texts.postings
+  pub no_lists : (documents : List DocumentRow) (rows : List PlacedTerm) → texts.documents ≡ documents_section documents → texts.dictionary ≡ listings_section version (listings_in rows) → AreLaidOut rows → sizes_sum (listings_in rows) ≡ length texts.postings
       → ((lists : List (List Posting)) → AreListsIn documents texts.postings rows lists → ⊥) → ⊥
   no_lists documents rows spelled dictionary laid sum refused =
       let same : parts.rows ≡ documents = rows_told parts.rows documents (sym (ap (λ (t : SectionTexts). t.documents) is.spelled) ∙ spelled) in
@@ -132,7 +132,7 @@ module _ (version : Version) (texts : SectionTexts) (document_count term_count :
         distinct = subst AreDistinct (sym (flat_map-map (numbers_of_postings parts.rows) (λ (entry : DictionaryEntry). entry.postings) parts.entries)) (lawful_distinct parts lawful);
       }))
 
-  pub no_grams : (rows : List TermRow) → texts.dictionary ≡ listings_section version (listings_in rows) → ((more : List GramEntry) → AreGramsOfTerms (map term_in rows) more → texts.grams ≡ grams_section more → ⊥) → ⊥
+  pub no_grams : (rows : List PlacedTerm) → texts.dictionary ≡ listings_section version (listings_in rows) → ((more : List GramEntry) → AreGramsOfTerms (map term_in rows) more → texts.grams ≡ grams_section more → ⊥) → ⊥
   no_grams rows spelled refused =
       let terms : terms_of parts.entries ≡ map term_in rows =
       sym (listing_terms parts.entries) ∙ ap (map (λ (listing : Listing). listing.term)) (same_listings rows spelled) ∙ listed_terms rows in

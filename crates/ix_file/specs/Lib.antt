@@ -6,6 +6,7 @@ pub mod GramLaws
 pub mod GramPairs
 pub mod GramTables
 pub mod Grams
+pub mod HeldTerms
 pub mod IndexText
 pub mod Laws
 pub mod Listings
@@ -15,6 +16,7 @@ pub mod Opened
 pub mod OpenedGrams
 pub mod OpenedLaws
 pub mod OpenedRows
+pub mod PlacedTerms
 pub mod Places
 pub mod PutErrors
 pub mod ReadLists
@@ -29,7 +31,6 @@ pub mod Tables
 pub mod Telling
 pub mod TellingLaws
 pub mod TermReading
-pub mod TermTexts
 pub mod Told
 pub mod WindowPairs
 pub mod Writers

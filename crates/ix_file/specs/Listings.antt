@@ -7,7 +7,8 @@ use Rattle.ix_vbyte.specs.Code.{code_of}
 use Rattle.ix_vbyte.specs.Postings.{list_bytes}
 use Rattle.ix_vbyte.specs.Texts.{counted}
 use Rattle.ix_file.specs.Sections.{Version, Plain, FrontCoded, grouped}
-use Rattle.ix_file.specs.declared.open.dictionary.TermRow.{TermRow}
+use Rattle.ix_file.specs.PlacedTerms.{PlacedTerm}
+use Rattle.ix_file.specs.declared.open.dictionary.ListedTerm.{ListedTerm}
 
 -- A term as the dictionary lists it: with the number of its documents, and of the bytes of its list.
 pub record Listing : Type 0 where
@@ -20,11 +21,15 @@ abbrev pub listing_of : DictionaryEntry → Listing
 listing_of entry = record { term = entry.term; documents = length entry.postings; size = length (list_bytes entry.postings) }
 
 -- what a row of the table lists
-abbrev pub listing_in : TermRow → Listing
-listing_in row = record { term = string_bytes row.term; documents = row.documents; size = row.size }
+abbrev pub listing_in : PlacedTerm → Listing
+listing_in row = record { term = row.term; documents = row.documents; size = row.size }
+
+-- what a term that was read is listed as
+abbrev pub listing_read : ListedTerm → Listing
+listing_read read = record { term = string_bytes read.term; documents = read.documents; size = read.size }
 
 -- the rows of a table
-abbrev pub listings_in : List TermRow → List Listing
+abbrev pub listings_in : List PlacedTerm → List Listing
 listings_in rows = map listing_in rows
 
 -- a term at its place, behind the term before
@@ -64,5 +69,5 @@ pub record AreListings (stop : List (List ℕ)) (listings : List Listing) : Type
   pub counts : All HasListedCounts listings
 
 -- the list of each row begins where those of the rows before it end
-abbrev pub AreLaidOut : List TermRow → Type 0
-AreLaidOut rows = (n : ℕ) (row : TermRow) → slice_get rows n ≡ Some row → row.start ≡ sizes_sum (listings_in (take n rows))
+abbrev pub AreLaidOut : List PlacedTerm → Type 0
+AreLaidOut rows = (n : ℕ) (row : PlacedTerm) → slice_get rows n ≡ Some row → row.start ≡ sizes_sum (listings_in (take n rows))

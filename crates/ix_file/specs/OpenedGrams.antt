@@ -1,5 +1,5 @@
 -- The grams of an opened index, where they stand in GRAMS.
-use Rattle.std.specs.Prelude.{◌≡◌, ◌≢◌, ℕ, ◌+◌, ◌<◌, ◌≤◌, List, ◌++◌, map, length, slice_range, slice_get, string_bytes, Some, Option, IfSome, IfNone, All}
+use Rattle.std.specs.Prelude.{◌≡◌, ◌≢◌, ℕ, ◌+◌, ◌<◌, ◌≤◌, List, ◌++◌, map, length, slice_range, slice_get, Some, Option, IfSome, IfNone, All}
 use Rattle.ix_text.specs.Parts.{GramEntry}
 use Rattle.ix_vbyte.specs.Code.{code_of}
 use Rattle.ix_vbyte.specs.Gaps.{Ascends, gaps_of}
@@ -7,12 +7,7 @@ use Rattle.ix_vbyte.specs.Postings.{codes_of}
 use Rattle.ix_vbyte.specs.Texts.{counted}
 use Rattle.ix_vbyte.specs.Walking.{ArePositionsFrom, positions_told}
 use Rattle.ix_file.specs.Grams.{IsGramOfTerm}
-use Rattle.ix_file.specs.declared.open.dictionary.TermRow.{TermRow}
 use Rattle.ix_file.specs.declared.open.grams.GramRow.{GramRow}
-
--- the terms of a table
-abbrev pub terms_in : List TermRow → List (List ℕ)
-terms_in rows = map (λ row. string_bytes row.term) rows
 
 -- the entry that a row of the table stands for, in this section
 abbrev pub gram_in : List ℕ → GramRow → GramEntry

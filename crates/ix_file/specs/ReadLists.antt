@@ -10,7 +10,7 @@ use Rattle.ix_text.specs.TokenTables.{HasTokens}
 use Rattle.ix_text.specs.declared.token_table.TokenTable.{TokenTable}
 use Rattle.ix_file.specs.Claimed.{HasRoom}
 use Rattle.ix_file.specs.declared.open.claims.Claims.{Claims}
-use Rattle.ix_file.specs.declared.open.dictionary.TermRow.{TermRow}
+use Rattle.ix_file.specs.PlacedTerms.{PlacedTerm}
 
 -- The bytes begin with the gaps of so many positions, which ascend below the number of tokens.
 pub record ArePositionsIn (tokens count : ℕ) (bytes positions rest : List ℕ) : Type 0 where
@@ -32,15 +32,15 @@ pub record AreListedIn (rows : List DocumentRow) (count : ℕ) (bytes : List ℕ
   pub coded : bytes ≡ list_bytes postings
 
 -- the bytes of a term's list
-abbrev pub list_in : List ℕ → TermRow → List ℕ
+abbrev pub list_in : List ℕ → PlacedTerm → List ℕ
 list_in section term = slice_range section term.start (term.start + term.size)
 
 -- The bytes of the term are the list of the postings.
-abbrev pub IsListOf : List DocumentRow → List ℕ → TermRow → List Posting → Type 0
+abbrev pub IsListOf : List DocumentRow → List ℕ → PlacedTerm → List Posting → Type 0
 IsListOf rows section term postings = AreListedIn rows term.documents (list_in section term) postings
 
 -- Each term has its list, and no token stands in two lists.
-pub record AreListsIn (rows : List DocumentRow) (section : List ℕ) (terms : List TermRow) (lists : List (List Posting)) : Type 0 where
+pub record AreListsIn (rows : List DocumentRow) (section : List ℕ) (terms : List PlacedTerm) (lists : List (List Posting)) : Type 0 where
   pub each : AllZip (IsListOf rows section) terms lists
   pub distinct : AreDistinct (flat_map (numbers_of_postings rows) lists)
 

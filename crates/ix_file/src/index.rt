@@ -1,19 +1,20 @@
 //! An opened index: what stands in it is looked up where it stands.
-ghost use Rattle.std.specs.Prelude.{◌≡◌, ◌<◌, map, slice_get, length, Some, Contains, MatchOption};
-ghost use Rattle.ix_file.specs.Tables.{term_in};
+ghost use Rattle.std.specs.Prelude.{◌≡◌, slice_get, Some, Contains, MatchOption};
+ghost use Rattle.ix_file.specs.PlacedTerms.{terms_in};
 ghost use Rattle.ix_text.specs.ByteOrder.{IsAscending};
 
 use crate::OpenError;
 use crate::numbers::Numbers;
-use crate::open::dictionary::TermRow;
 use crate::open::frame::{SectionBytes, Version, cut};
 use crate::open::grams::find_gram;
 use crate::open::lists::list_of;
 use crate::open::read_tables;
+use crate::open::terms::Terms;
 use crate::tables::{Held, skips_of};
 use ix_text::StopList;
 use ix_vbyte::cursor::Postings;
 use std::alloc::Global;
+use std::cmp::Ordering;
 use std::marker::Model;
 use std::str::from_utf8;
 
@@ -134,8 +135,7 @@ impl<'a> Index<'a> {
         requires { number < length self.now.parts.entries }
         ensures { slice_get (terms_of self.now.parts.entries) number ≡ Some result.now }
     {
-        let row = &self.tables.tables().terms[number as usize];
-        row.term.as_str()
+        self.tables.tables().terms.text(number as usize)
     }
 
     /// In how many documents the term of a number is.
@@ -143,8 +143,7 @@ impl<'a> Index<'a> {
         requires { number < length self.now.parts.entries }
         ensures { slice_get (document_counts self.now.parts.entries) number ≡ Some result }
     {
-        let row = &self.tables.tables().terms[number as usize];
-        row.documents
+        self.tables.tables().terms.list(number as usize).documents
     }
 
     /// The postings of the term of a number.
@@ -152,9 +151,8 @@ impl<'a> Index<'a> {
         requires { number < length self.now.parts.entries }
         ensures { slice_get (lists_of self.now.parts.entries) number ≡ Some result }
     {
-        let row = &self.tables.tables().terms[number as usize];
-        let end = row.start + row.size as usize;
-        Postings::new(&self.sections.postings[row.start..end], row.documents)
+        let place = self.tables.tables().terms.list(number as usize);
+        Postings::new(list_of(self.sections.postings, place), place.documents)
     }
 
     /// The same list, which may be entered anywhere: `seek` does not walk a long list, but goes on near what is sought.
@@ -163,8 +161,9 @@ impl<'a> Index<'a> {
         ensures { slice_get (lists_of self.now.parts.entries) number ≡ Some result }
     {
         let tables = self.tables.tables();
-        let row = &tables.terms[number as usize];
-        let postings = Postings::new(list_of(self.sections.postings, row), row.documents);
+        let place = tables.terms.list(number as usize);
+        let list = list_of(self.sections.postings, place);
+        let postings = Postings::new(list, place.documents);
         postings.with_skips(skips_of(tables.longs.as_slice(), number as usize))
     }
 
@@ -174,7 +173,7 @@ impl<'a> Index<'a> {
             (λ postings. Contains self.now.parts.entries
             (record { term = term.now; postings = postings })) }
     {
-        let number = place_of(self.tables.tables().terms.as_slice(), term)?;
+        let number = place_of(&self.tables.tables().terms, term)?;
         Some(self.list_by_places(number as u32))
     }
 
@@ -191,12 +190,22 @@ impl<'a> Index<'a> {
     }
 }
 
-/// The place of a term, or none where no row is of it.
-fn place_of(rows: &[TermRow], term: &str) -> Option<usize>
-    requires { IsAscending (map term_in rows.now) }
-    ensures { MatchOption result (¬ (Contains (map term_in rows.now) term.now))
-        (λ place. slice_get (map term_in rows.now) place ≡ Some term.now) }
+/// The number of a term, or none where there is no such term.
+fn place_of(terms: &Terms, term: &str) -> Option<usize>
+    requires { IsAscending (terms_in terms.now) }
+    ensures { MatchOption result (¬ (Contains (terms_in terms.now) term.now))
+        (λ place. slice_get (terms_in terms.now) place ≡ Some term.now) }
 {
-    rows.binary_search_by(|row| row.term.as_str().cmp(&term))
-        .ok()
+    let wanted = term.as_bytes();
+    let mut low = 0;
+    let mut high = terms.len();
+    while low < high {
+        let middle = low + (high - low) / 2;
+        match terms.text(middle).as_bytes().cmp(wanted) {
+            Ordering::Less => low = middle + 1,
+            Ordering::Equal => return Some(middle),
+            Ordering::Greater => high = middle,
+        }
+    }
+    None
 }

@@ -23,7 +23,7 @@ pub(crate) mod grams;
 pub(crate) mod lists;
 mod pairs;
 pub(crate) mod stop;
-pub(crate) mod texts;
+pub(crate) mod terms;
 
 use crate::OpenError;
 use crate::open::claims::Claims;

@@ -2,10 +2,10 @@
 ghost use Rattle.std.specs.Prelude.{◌≡◌, ◌⊎◌, [], Contains};
 ghost use Rattle.ix_file.specs.declared.tables.LongList.{LongList as SeenList};
 
-use crate::open::dictionary::TermRow;
 use crate::open::documents::Row;
 use crate::open::frame::Version;
 use crate::open::grams::GramRow;
+use crate::open::terms::Terms;
 use ix_text::StopList;
 use ix_vbyte::cursor::Skip;
 
@@ -38,7 +38,7 @@ pub(crate) struct Tables {
     pub(crate) version: Version,
     pub(crate) stop: StopList,
     pub(crate) rows: Vec<Row>,
-    pub(crate) terms: Vec<TermRow>,
+    pub(crate) terms: Terms,
     pub(crate) longs: Vec<LongList>,
     pub(crate) grams: Vec<GramRow>,
 }

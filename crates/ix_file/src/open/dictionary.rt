@@ -5,17 +5,18 @@ ghost use Rattle.ix_vbyte.specs.Texts.{counted};
 ghost use Rattle.ix_text.specs.ByteOrder.{IsAscending};
 ghost use Rattle.ix_text.specs.StopSets.{HasTermSize};
 ghost use Rattle.ix_file.specs.Frames.{version_in};
-ghost use Rattle.ix_file.specs.Listings.{AreLaidOut, AreListings, HasListedCounts, Listing, listing_bytes, listing_in, listings_in, listings_section, sizes_sum, dictionary_term_bytes};
+ghost use Rattle.ix_file.specs.Listings.{AreLaidOut, AreListings, HasListedCounts, Listing, listing_bytes, listing_read, listings_in, listings_section, sizes_sum, dictionary_term_bytes};
 ghost use Rattle.ix_file.specs.Sections.{front_coded};
 ghost use Rattle.ix_file.specs.TermReading.{IsLongestFront, TermMayFollow, last_listed, text_of};
 ghost use Rattle.ix_file.specs.declared.open_error.OpenError.TheVariants.{Memory};
 
 use crate::open::frame::Version;
 use crate::open::front::{number, taken};
+use crate::open::terms::{ListPlace, Terms};
 use crate::{OpenError, Section};
 use ix_text::StopList;
 use ix_vbyte::VbError;
-use std::alloc::Global;
+use std::alloc::{AllocError, Global};
 
 /// How many terms stand in a group of version 2: the first of them whole, the others front coded.
 const GROUP: usize = 4;
@@ -23,12 +24,18 @@ const GROUP: usize = 4;
 /// The most bytes that a term may have.
 const MAX_BYTES: u32 = 255;
 
-/// A term: its text, the number of its documents, and where its list stands in POSTINGS, with how many bytes.
+/// The fewest bytes that the dictionary has of a term: one of its text, and one for each of three numbers.
+const FEWEST_BYTES: usize = 4;
+
+/// How many times as many bytes as DICTIONARY has front coded terms may have together: no term is longer than its own
+/// bytes and those of the terms before it in its group.
+const MOST_SHARED: usize = GROUP;
+
+/// A term as it was read: its text, the number of its documents, and of the bytes of its list.
 #[derive(Debug, PartialEq, Eq, Drop)]
-pub(crate) struct TermRow {
+pub(crate) struct ListedTerm {
     pub(crate) term: String,
     pub(crate) documents: u32,
-    pub(crate) start: usize,
     pub(crate) size: u32,
 }
 
@@ -46,81 +53,106 @@ pub(crate) fn read_dictionary(
     stop: &StopList,
     count: u32,
     postings: usize,
-) -> Result<Vec<TermRow>, OpenError>
-    ensures terms { IfOk result (λ rows. AreListings stop.now (listings_in rows.items)
-        × (section.now ≡ listings_section (version_in version) (listings_in rows.items))) }
-    ensures counts { IfOk result (λ rows. (length rows.items ≡ count)
-        × (sizes_sum (listings_in rows.items) ≡ postings)) }
-    ensures starts { IfOk result (λ rows. AreLaidOut rows.items) }
+) -> Result<Terms, OpenError>
+    ensures terms { IfOk result (λ terms. AreListings stop.now (listings_in terms)
+        × (section.now ≡ listings_section (version_in version) (listings_in terms))) }
+    ensures counts { IfOk result (λ terms. (length terms ≡ count)
+        × (sizes_sum (listings_in terms) ≡ postings)) }
+    ensures starts { IfOk result (λ terms. AreLaidOut terms) }
     ensures refused { IfErr result (λ error. (error ≡ Memory)
         ⊎ ((listings : List Listing) → AreListings stop.now listings → length listings ≡ count →
         sizes_sum listings ≡ postings → section.now ≢ listings_section (version_in version)
         listings)) }
 {
-    let mut rows = Vec::new(alloc);
+    let mut terms = room_for_terms(alloc, version, section, count)?;
+    let mut buffer = Vec::new(alloc);
     let mut start = 0usize;
     let mut left = section;
     while !left.is_empty() {
-        let before = last_text(rows.as_slice());
-        let (row, rest) = read_row(alloc, version, stop, rows.len(), before, start, left)?;
+        let (read, rest) = read_row(buffer, version, stop, terms.len(), last_text(&terms), left)?;
+        let place = ListPlace {
+            start,
+            size: read.size,
+            documents: read.documents,
+        };
+        terms.push(read.term.as_str(), place)?;
         // a sum past the largest number has more terms than `count` can say
-        start = start.saturating_add(row.size as usize);
-        rows.push(row)?;
+        start = start.saturating_add(read.size as usize);
+        buffer = read.term.into_bytes();
         left = rest;
     }
-    if rows.len() != count as usize {
+    if terms.len() != count as usize {
         return Err(OpenError::Counts);
     }
     if start != postings {
         return Err(OpenError::ListLength);
     }
-    Ok(rows)
+    terms.fit();
+    Ok(terms)
 }
 
-/// The last row's term, or the empty text where there is no row.
-fn last_text(rows: &[TermRow]) -> &str
-    ensures { result.now ≡ last_listed (listings_in rows.now) }
+/// No terms, with room for those of DICTIONARY: it is asked for once, and for no more than its bytes can be of.
+fn room_for_terms(
+    alloc: Global,
+    version: Version,
+    section: &[u8],
+    count: u32,
+) -> Result<Terms, AllocError>
+    ensures { IfOk result (λ terms. terms ≡ []) }
 {
-    match rows.last() {
-        Some(row) => row.term.as_str(),
-        None => "",
-    }
+    let bytes = match version {
+        Version::Plain => section.len(),
+        Version::FrontCoded => section.len().saturating_mul(MOST_SHARED),
+    };
+    Terms::with_room(
+        alloc,
+        (count as usize).min(section.len() / FEWEST_BYTES),
+        bytes,
+    )
 }
 
-/// The row that what is left of DICTIONARY begins with at a place, behind the term before, and what follows it. Its
-/// list is to begin at `start`.
+/// The last term, or the empty text where there is none.
+fn last_text(terms: &Terms) -> &str
+    ensures { result.now ≡ last_listed (listings_in terms.now) }
+{
+    let count = terms.len();
+    if count == 0 {
+        return "";
+    }
+    terms.text(count - 1)
+}
+
+/// The term that what is left of DICTIONARY begins with at a place, behind the term before, with its counts, and what
+/// follows them. What the buffer held is lost, and the text takes its place.
 ///
 /// The errors of its term, and then those of its counts.
 fn read_row<'a>(
-    alloc: Global,
+    buffer: Vec<u8>,
     version: Version,
     stop: &StopList,
     place: usize,
     before: &str,
-    start: usize,
     left: &'a [u8],
-) -> Result<(TermRow, &'a [u8]), OpenError>
+) -> Result<(ListedTerm, &'a [u8]), OpenError>
     requires { length before.now ≤ MAX_BYTES }
     ensures term { IfOk result (λ read. TermMayFollow stop.now before.now
-        (listing_in read.0).term) }
-    ensures counts { IfOk result (λ read. HasListedCounts (listing_in read.0)) }
-    ensures start { IfOk result (λ read. read.0.start ≡ start) }
+        (listing_read read.0).term) }
+    ensures counts { IfOk result (λ read. HasListedCounts (listing_read read.0)) }
     ensures found { IfOk result (λ read. left.now ≡ listing_bytes (version_in version) place
-        before.now (listing_in read.0) ++ read.1.now) }
+        before.now (listing_read read.0) ++ read.1.now) }
     ensures refused { IfErr result (λ error. (error ≡ Memory)
         ⊎ ((listing : Listing) (rest : List ℕ) → TermMayFollow stop.now before.now listing.term →
         HasListedCounts listing → left.now ≢ listing_bytes (version_in version) place before.now
         listing ++ rest)) }
 {
-    let (term, behind) = read_term(alloc, version, stop, place, before, left)?;
+    let (term, behind) = read_term(buffer, version, stop, place, before, left)?;
     let (documents, size, rest) = read_counts(behind)?;
-    let row = TermRow {
+    let read = ListedTerm {
         term,
         documents,
-        start,
         size,
     };
-    Ok((row, rest))
+    Ok((read, rest))
 }
 
 /// The number of documents and the length of the list, in bytes, that stand behind a term, and what follows them.
@@ -142,12 +174,13 @@ fn read_counts(left: &[u8]) -> Result<(u32, u32, &[u8]), OpenError>
     Ok((documents, size, rest))
 }
 
-/// The term that what is left of DICTIONARY begins with at a place, behind the term before, and what follows it.
+/// The term that what is left of DICTIONARY begins with at a place, behind the term before, in place of what the buffer
+/// held, and what follows it.
 ///
 /// The errors of `cut_term`; `Text` where it is not UTF-8; `TermOrder` where it does not stand above the term before;
 /// `StopIndexed` where it is a stop term; or `Memory`.
 fn read_term<'a>(
-    alloc: Global,
+    buffer: Vec<u8>,
     version: Version,
     stop: &StopList,
     place: usize,
@@ -163,7 +196,7 @@ fn read_term<'a>(
         left.now ≢ dictionary_term_bytes (version_in version) place before.now term ++ rest)) }
 {
     let cut = cut_term(version, place, before.as_bytes(), left)?;
-    let term = joined(alloc, cut.front, cut.own)?;
+    let term = joined(buffer, cut.front, cut.own)?;
     let is_above = before < term.as_str();
     if !is_above {
         return Err(OpenError::TermOrder);
@@ -174,14 +207,15 @@ fn read_term<'a>(
     Ok((term, cut.rest))
 }
 
-/// Two runs of bytes as one text.
+/// Two runs of bytes as one text, in place of what the buffer held.
 ///
 /// `Text` where they are not UTF-8 together; or `Memory`.
-fn joined(alloc: Global, front: &[u8], own: &[u8]) -> Result<String, OpenError>
+fn joined(buffer: Vec<u8>, front: &[u8], own: &[u8]) -> Result<String, OpenError>
     ensures found { IfOk result (λ text. string_bytes text ≡ front.now ++ own.now) }
     ensures refused { IfErr result (λ error. (error ≡ Memory) ⊎ ¬ (IsUtf8 (front.now ++ own.now))) }
 {
-    let mut bytes = Vec::with_capacity(alloc, front.len() + own.len())?;
+    let mut bytes = buffer;
+    bytes.clear();
     bytes.extend_from_slice(front)?;
     bytes.extend_from_slice(own)?;
     String::from_utf8(bytes).map_err(|_| OpenError::Text)

@@ -1,6 +1,7 @@
 //! The order in which the faults of DICTIONARY are found.
-use super::dictionary::{TermRow, read_dictionary};
+use super::dictionary::read_dictionary;
 use super::frame::Version;
+use super::terms::Terms;
 use crate::{OpenError, Section};
 use ix_text::StopList;
 use ix_vbyte::VbError;
@@ -83,13 +84,17 @@ fn faults_of_the_dictionary(rt: HostRuntime) -> Result<(), Fail> {
     Ok(())
 }
 
-/// The term, the documents, and the place and size of the list of each row.
-fn listed(alloc: Global, rows: &[TermRow]) -> Result<String, Fail> {
+/// Each term, the number of its documents, and the place and size of its list.
+fn listed(alloc: Global, terms: &Terms) -> Result<String, Fail> {
     let mut text = String::new(alloc);
-    for row in rows {
+    for number in 0..terms.len() {
+        let place = terms.list(number);
         let line = format!(in alloc;
             "{} {} {}+{};",
-            row.term, row.documents, row.start, row.size
+            terms.text(number),
+            place.documents,
+            place.start,
+            place.size
         )?;
         text.push_str(&line)?;
     }
@@ -131,8 +136,8 @@ fn rows_of_the_dictionary(rt: HostRuntime) -> Result<(), Fail> {
             "è 1 0+3;é 1 3+3;",
         ),
     ] {
-        let rows = read_dictionary(alloc, version, section, &stop, count, postings)?;
-        assert_eq!(rt; listed(alloc, &rows)?.as_str(), want);
+        let terms = read_dictionary(alloc, version, section, &stop, count, postings)?;
+        assert_eq!(rt; listed(alloc, &terms)?.as_str(), want);
     }
     Ok(())
 }

@@ -1,20 +1,19 @@
 //! The grams of an index text. They are those of the terms where each that is listed is right, and where there are as
 //! many as the terms have: so nothing is put in order again.
-ghost use Rattle.std.specs.Prelude.{◌≡◌, ◌≢◌, ◌⊎◌, ◌↔◌, ℕ, ◌+◌, ◌-◌, ◌^◌, ◌<◌, ◌≤◌, ◌++◌, ◌∷◌, [], List, map, length, All, IsTrue, IfOk, IfErr, OnErr, MatchOption, ⊤};
+ghost use Rattle.std.specs.Prelude.{◌≡◌, ◌≢◌, ◌⊎◌, ◌↔◌, ℕ, ◌+◌, ◌-◌, ◌^◌, ◌<◌, ◌≤◌, ◌++◌, ◌∷◌, [], List, map, length, All, IsUtf8, IsTrue, IfOk, IfErr, OnErr, MatchOption, ⊤};
 ghost use Rattle.ix_text.specs.ByteOrder.{IsAscending};
 ghost use Rattle.ix_text.specs.Parts.{GramEntry};
 ghost use Rattle.ix_file.specs.Grams.{AreGramsOfTerms, IsGramOfTerm};
 ghost use Rattle.ix_file.specs.WindowPairs.{gram_of};
-ghost use Rattle.ix_file.specs.OpenedGrams.{AreNumbersOf, FindsGram, IsGramRow, IsRightEntry, gap_codes, gram_in, grams_in, terms_in};
+ghost use Rattle.ix_file.specs.OpenedGrams.{AreNumbersOf, FindsGram, IsGramRow, IsRightEntry, gap_codes, gram_in, grams_in};
+ghost use Rattle.ix_file.specs.PlacedTerms.{terms_in};
 ghost use Rattle.ix_file.specs.OpenedGrams as opened;
 ghost use Rattle.ix_file.specs.Sections.{grams_section};
-ghost use Rattle.ix_file.specs.TermTexts.{HoldsTexts};
 ghost use Rattle.ix_file.specs.declared.open_error.OpenError.TheVariants.{Memory};
 
-use crate::open::dictionary::TermRow;
 use crate::open::front::{number, text};
 use crate::open::pairs::{GramPair, check_total, has_gram, pair_of};
-use crate::open::texts::TermTexts;
+use crate::open::terms::Terms;
 use crate::{OpenError, Section};
 use std::alloc::Global;
 use std::cmp::Ordering;
@@ -36,9 +35,10 @@ pub(crate) struct GramRow {
 pub(crate) fn read_grams(
     alloc: Global,
     section: &[u8],
-    terms: &[TermRow],
+    terms: &Terms,
 ) -> Result<Vec<GramRow>, OpenError>
-    requires { length terms.now < 2 ^ 32 }
+    requires few { length terms.now < 2 ^ 32 }
+    requires texts { All IsUtf8 (terms_in terms.now) }
     ensures grams { IfOk result (λ rows. AreGramsOfTerms (terms_in terms.now)
         (grams_in section.now rows.items) × (section.now ≡ grams_section
         (grams_in section.now rows.items))) }
@@ -47,12 +47,11 @@ pub(crate) fn read_grams(
         ⊎ ((grams : List GramEntry) → AreGramsOfTerms (terms_in terms.now) grams →
         section.now ≢ grams_section grams)) }
 {
-    let texts = TermTexts::of(alloc, terms)?;
     let mut rows: Vec<GramRow> = Vec::new(alloc);
     let mut total = 0;
     let mut left = section;
     while !left.is_empty() {
-        let (row, rest) = read_gram(section, left, terms, &texts)?;
+        let (row, rest) = read_gram(section, left, terms)?;
         if !is_above(section, row, rows.last()) {
             return Err(OpenError::Grams);
         }
@@ -70,11 +69,10 @@ pub(crate) fn read_grams(
 fn read_gram<'a>(
     section: &[u8],
     left: &'a [u8],
-    terms: &[TermRow],
-    texts: &TermTexts,
+    terms: &Terms,
 ) -> Result<(GramRow, &'a [u8]), OpenError>
     requires few { length terms.now < 2 ^ 32 }
-    requires texts { HoldsTexts texts.now (terms_in terms.now) }
+    requires texts { All IsUtf8 (terms_in terms.now) }
     requires within { (before : List ℕ) × (section.now ≡ before ++ left.now) }
     ensures entry { IfOk result (λ read. IsRightEntry (terms_in terms.now)
         (gram_in section.now read.0)) }
@@ -97,7 +95,7 @@ fn read_gram<'a>(
     if count == 0 {
         return Err(OpenError::Grams);
     }
-    let rest = read_numbers(gaps, count, pair, terms, texts)?;
+    let rest = read_numbers(gaps, count, pair, terms)?;
     let row = GramRow {
         start: section.len() - behind.len() - gram.len(),
         size: gram.len() as u8,
@@ -115,11 +113,9 @@ fn read_numbers<'a>(
     left: &'a [u8],
     count: u32,
     pair: GramPair,
-    terms: &[TermRow],
-    texts: &TermTexts,
+    terms: &Terms,
 ) -> Result<&'a [u8], OpenError>
     requires few { length terms.now < 2 ^ 32 }
-    requires texts { HoldsTexts texts.now (terms_in terms.now) }
     ensures found { IfOk result (λ rest. (numbers : List ℕ) × AreNumbersOf (terms_in terms.now)
         (gram_of pair) numbers × (length numbers ≡ count)
         × (left.now ≡ gap_codes numbers ++ rest.now)) }
@@ -133,7 +129,7 @@ fn read_numbers<'a>(
         let Ok((gap, behind)) = number(Section::Grams, rest) else {
             return Err(OpenError::Grams);
         };
-        if !is_next(next, gap, pair, terms, texts) {
+        if !is_next(next, gap, pair, terms) {
             return Err(OpenError::Grams);
         }
         next += gap;
@@ -145,10 +141,9 @@ fn read_numbers<'a>(
 /// Whether the number that has this gap, where `next` is one above the number before, is that of a term that has the
 /// gram of the pair.
 #[inline]
-fn is_next(next: u32, gap: u32, pair: GramPair, terms: &[TermRow], texts: &TermTexts) -> bool
+fn is_next(next: u32, gap: u32, pair: GramPair, terms: &Terms) -> bool
     requires next { next ≤ length terms.now }
     requires few { length terms.now < 2 ^ 32 }
-    requires texts { HoldsTexts texts.now (terms_in terms.now) }
     ensures { IsTrue result ↔ ((0 < gap) × (next + gap ≤ length (terms_in terms.now))
         × IsGramOfTerm (terms_in terms.now) (gram_of pair) (next + gap - 1)) }
 {
@@ -159,7 +154,7 @@ fn is_next(next: u32, gap: u32, pair: GramPair, terms: &[TermRow], texts: &TermT
     if number >= terms.len() {
         return false;
     }
-    has_gram(texts.text(number), pair)
+    has_gram(terms.text(number), pair)
 }
 
 /// Whether the gram of a row stands above that of the row before it, if there is one.
@@ -210,7 +205,7 @@ fn gram_bytes(section: &[u8], row: GramRow) -> &[u8]
 mod tests {
     use super::{find_gram, read_grams};
     use crate::OpenError;
-    use crate::open::dictionary::TermRow;
+    use crate::open::terms::{ListPlace, Terms};
     use std::alloc::{AllocError, Global};
     use std::process::Abort;
     use std::test::Fail;
@@ -226,18 +221,18 @@ mod tests {
         b'a', 0x81, 0x81,
     ];
 
-    /// Rows of terms without postings.
-    fn rows(alloc: Global, terms: &[&str]) -> Result<Vec<TermRow>, AllocError> {
-        let mut rows = Vec::new(alloc);
-        for term in terms {
-            rows.push(TermRow {
-                term: String::from_str(alloc, term)?,
-                documents: 1,
-                start: 0,
-                size: 0,
-            })?;
+    /// Terms without postings.
+    fn terms_of(alloc: Global, texts: &[&str]) -> Result<Terms, AllocError> {
+        let mut terms = Terms::with_room(alloc, texts.len(), 0)?;
+        let place = ListPlace {
+            start: 0,
+            size: 0,
+            documents: 1,
+        };
+        for text in texts {
+            terms.push(text, place)?;
         }
-        Ok(rows)
+        Ok(terms)
     }
 
     /// Whether the section is refused as no grams of the terms.
@@ -245,7 +240,7 @@ mod tests {
         rt: &impl Abort,
         alloc: Global,
         section: &[u8],
-        terms: &[TermRow],
+        terms: &Terms,
     ) -> Result<bool, OpenError> {
         assert!(rt; terms.len() < 1000);
         match read_grams(alloc, section, terms) {
@@ -258,7 +253,7 @@ mod tests {
     #[test]
     fn grams_are_read_and_found(rt: HostRuntime) -> Result<(), Fail> {
         let alloc = rt.alloc();
-        let terms = rows(alloc, &["x", "y"])?;
+        let terms = terms_of(alloc, &["x", "y"])?;
         assert!(rt; terms.len() < 1000);
         let grams = read_grams(alloc, &TWO, &terms)?;
         assert_eq!(rt; grams.len(), 2);
@@ -266,9 +261,9 @@ mod tests {
         assert_eq!(rt; find_gram(&TWO, &grams, "$y$"), Some(1));
         assert_eq!(rt; find_gram(&TWO, &grams, "$a$"), None);
         assert_eq!(rt; find_gram(&TWO, &grams, "$z$"), None);
-        let repeated = rows(alloc, &["aaaa"])?;
+        let repeated = terms_of(alloc, &["aaaa"])?;
         assert!(rt; !is_refused(&rt, alloc, &REPEATED, &repeated)?);
-        let none = rows(alloc, &[])?;
+        let none = terms_of(alloc, &[])?;
         assert!(rt; !is_refused(&rt, alloc, &[], &none)?);
         Ok(())
     }
@@ -276,7 +271,7 @@ mod tests {
     #[test]
     fn any_other_section_is_refused(rt: HostRuntime) -> Result<(), Fail> {
         let alloc = rt.alloc();
-        let terms = rows(alloc, &["x", "y"])?;
+        let terms = terms_of(alloc, &["x", "y"])?;
         for len in 0..TWO.len() {
             assert!(rt; is_refused(&rt, alloc, &TWO[..len], &terms)?);
         }

@@ -1,5 +1,5 @@
 //! The lists of an index text.
-ghost use Rattle.std.specs.Prelude.{◌≡◌, ◌≢◌, ◌⊎◌, ℕ, ◌+◌, ◌-◌, ◌*◌, ◌^◌, ◌<◌, ◌≤◌, ◌∷◌, ◌++◌, [], List, map, length, All, IfOk, IfErr, IfSome, OnErr, OnOk};
+ghost use Rattle.std.specs.Prelude.{◌≡◌, ◌≢◌, ◌⊎◌, ℕ, ◌+◌, ◌-◌, ◌*◌, ◌^◌, ◌<◌, ◌≤◌, ◌∷◌, ◌++◌, [], List, map, length, slice_range, All, IfOk, IfErr, IfSome, OnErr, OnOk};
 ghost use Rattle.ix_vbyte.specs.Code.{code_of};
 ghost use Rattle.ix_vbyte.specs.Gaps.{Ascends, gaps_of};
 ghost use Rattle.ix_vbyte.specs.Postings.{codes_of, posting_bytes};
@@ -11,11 +11,11 @@ ghost use Rattle.ix_text.specs.TokenTables.{HasTokens};
 ghost use Rattle.ix_file.specs.Claimed.{HasClaimed, HasRoom, HaveClaimed, mark_count};
 ghost use Rattle.ix_file.specs.Listings.{AreLaidOut, HasListedCounts, listings_in, sizes_sum};
 ghost use Rattle.ix_file.specs.LongLists.{IsLongIn};
-ghost use Rattle.ix_file.specs.ReadLists.{AreListedIn, AreListsIn, ArePositionsIn, IsNextPosting, MayClaim, list_in};
+ghost use Rattle.ix_file.specs.ReadLists.{AreListedIn, AreListsIn, ArePositionsIn, IsNextPosting, MayClaim};
 ghost use Rattle.ix_file.specs.declared.open_error.OpenError.TheVariants.{Memory};
 
 use crate::open::claims::Claims;
-use crate::open::dictionary::TermRow;
+use crate::open::terms::{ListPlace, Terms};
 use crate::tables::LongList;
 use crate::{OpenError, Section};
 use ix_text::TokenTable;
@@ -37,7 +37,7 @@ const LONG: usize = 1024;
 pub(crate) fn check_lists(
     alloc: Global,
     section: &[u8],
-    terms: &[TermRow],
+    terms: &Terms,
     tokens: &TokenTable,
     claims: Claims,
 ) -> Result<Vec<LongList>, OpenError>
@@ -57,9 +57,10 @@ pub(crate) fn check_lists(
 {
     let mut claims = claims;
     let mut longs = Vec::new(alloc);
-    for (number, term) in terms.iter().enumerate() {
-        let list = list_of(section, term);
-        let skips = check_list(alloc, list, term.documents, tokens, &mut claims)?;
+    for number in 0..terms.len() {
+        let place = terms.list(number);
+        let list = list_of(section, place);
+        let skips = check_list(alloc, list, place.documents, tokens, &mut claims)?;
         keep_long(&mut longs, number, skips)?;
     }
     if claims.are_doubled() {
@@ -81,13 +82,13 @@ fn keep_long(longs: &mut Vec<LongList>, number: usize, skips: Vec<Skip>) -> Resu
     Ok(())
 }
 
-/// The bytes of a term's list.
+/// The bytes of the list of a place.
 #[inline]
-pub(crate) fn list_of<'a>(section: &'a [u8], term: &TermRow) -> &'a [u8]
-    requires { term.now.start + term.now.size ≤ length section.now }
-    ensures { result.now ≡ list_in section.now term.now }
+pub(crate) fn list_of(section: &[u8], place: ListPlace) -> &[u8]
+    requires { place.start + place.size ≤ length section.now }
+    ensures { result.now ≡ slice_range section.now place.start (place.start + place.size) }
 {
-    &section[term.start..term.start + term.size as usize]
+    &section[place.start..place.start + place.size as usize]
 }
 
 /// Checks the bytes of one list, which has this many documents, and claims its tokens. Answers where it may be entered:

@@ -8,6 +8,7 @@ use Rattle.ix_file.specs.ReadLists.{AreListsIn}
 use Rattle.ix_file.specs.declared.tables.Tables.{Tables}
 use Rattle.ix_file.proofs.TablesFound.{AreRead, sections_found, tables_found}
 use Rattle.ix_file.proofs.TablesRefused.{no_grams, no_listings, no_lists}
+use Rattle.ix_file.proofs.ListingReading.{texts_listed}
 use Rattle.ix_file.proofs.open.read_tables.Goals as goal
 
 pub returns-in_err-terms-clause-refused : goal.returns-in_err-terms-clause-refused
@@ -26,14 +27,14 @@ returns-in_err-longs-clause-refused c =
     let version = version_in c.args.frame.now.version in
     let texts = texts_in c.args.frame.now.sections in
     let rows = rows_in texts.documents c.in_ok-rows.rows.items in
-    let terms = c.in_ok-terms.terms.items in
+    let terms = c.in_ok-terms.terms in
     let has : HasTokens c.in_ok-tokens.tokens rows = rw (← c.deref.ensures.value) (c.in_ok-tokens.ensures texts.documents) in
     let p = err_from_is_err_and c.from_residual-in_err-longs.result c.from_residual-in_err-longs.ensures.1 in
     rw (p.1, p.2)
     (⊎_elim inl
     (λ none. inr (λ parts grams lawful of is.
     no_lists version texts c.args.frame.now.documents c.args.frame.now.terms parts grams lawful of is rows terms c.in_ok-rows.ensures.rows.1 c.in_ok-terms.ensures.terms.1 c.in_ok-terms.ensures.starts c.in_ok-terms.ensures.counts.1
-    (λ lists are. none rows lists has (rw c.deref-3.ensures.value are))))
+    (λ lists are. none rows lists has are)))
     c.in_err-longs.ensures.refused)
 
 pub returns-in_err-grams-clause-refused : goal.returns-in_err-grams-clause-refused
@@ -44,12 +45,15 @@ returns-in_err-grams-clause-refused c =
     rw (p.1, p.2)
     (⊎_elim inl
     (λ none. inr (λ parts grams lawful of is.
-    no_grams version texts c.args.frame.now.documents c.args.frame.now.terms parts grams lawful of is c.in_ok-terms.terms.items c.in_ok-terms.ensures.terms.1
-    (λ more are. none more (rw c.deref-4.ensures.value are))))
+    no_grams version texts c.args.frame.now.documents c.args.frame.now.terms parts grams lawful of is c.in_ok-terms.terms c.in_ok-terms.ensures.terms.1
+    (λ more are. none more are)))
     c.in_err-grams.ensures.refused)
 
-pub read_grams-requires : goal.read_grams-requires
-read_grams-requires c = rw (c.deref-4.ensures.value, c.in_ok-terms.ensures.counts.0) c.requires.terms
+pub read_grams-requires-clause-few : goal.read_grams-requires-clause-few
+read_grams-requires-clause-few c = rw c.in_ok-terms.ensures.counts.0 c.requires.terms
+
+pub read_grams-requires-clause-texts : goal.read_grams-requires-clause-texts
+read_grams-requires-clause-texts c = texts_listed c.in_ok-terms.terms c.in_ok-terms.ensures.terms.0.terms
 
 pub returns : goal.returns
 returns c =
@@ -57,9 +61,9 @@ returns c =
     let texts = texts_in c.args.frame.now.sections in
     let tables : Tables = record { version = c.args.frame.now.version; stop = c.in_ok-stop.stop; rows = c.in_ok-rows.rows; terms = c.in_ok-terms.terms; longs = c.in_ok-longs.longs; grams = c.in_ok-grams.grams } in
     let rows = rows_in texts.documents c.in_ok-rows.rows.items in
-    let terms = c.in_ok-terms.terms.items in
+    let terms = c.in_ok-terms.terms in
     let has : HasTokens c.in_ok-tokens.tokens rows = rw (← c.deref.ensures.value) (c.in_ok-tokens.ensures texts.documents) in
-    let found : (lists : List (List Posting)) × AreListsIn rows texts.postings terms lists = rw (← c.deref-3.ensures.value) (c.in_ok-longs.ensures.found rows has) in
+    let found : (lists : List (List Posting)) × AreListsIn rows texts.postings terms lists = c.in_ok-longs.ensures.found rows has in
     let read : AreRead version texts tables c.args.frame.now.documents c.args.frame.now.terms = record {
       stop_set = c.in_ok-stop.ensures.terms.0;
       stop = c.in_ok-stop.ensures.terms.1;
@@ -75,8 +79,8 @@ returns c =
       laid_out = c.in_ok-terms.ensures.starts;
       lists = found.0;
       listed = found.1;
-      longs = rw (← c.deref-3.ensures.value) c.in_ok-longs.ensures.entered;
-      of_terms = rw (← c.deref-4.ensures.value) c.in_ok-grams.ensures.grams.0;
+      longs = c.in_ok-longs.ensures.entered;
+      of_terms = c.in_ok-grams.ensures.grams.0;
       grams = c.in_ok-grams.ensures.grams.1;
       gaps = c.in_ok-grams.ensures.rows;
     } in

@@ -1,13 +1,10 @@
-use Rattle.std.proofs.Common.{◌<◌, length, Some, sym, ap, ◌∙◌}
-use Rattle.ix_text.specs.Parts.{DictionaryEntry}
-use Rattle.ix_file.specs.Tables.{entry_in, entries_in}
-use Rattle.ix_file.proofs.OpenedLemmas.{told_of}
+use Rattle.std.proofs.Common.{List, ℕ, slice_get, ap, ◌∙◌}
+use Rattle.ix_file.proofs.OpenedLemmas.{terms_in}
 use Rattle.ix_file.proofs.index.Index.term.Goals as goal
 
 pub returns : goal.returns
 returns c =
     let section = c.self.inside.sections.postings.now in
-    let terms = c.tables.result.now.terms.items in
-    let below : c.args.number < length (entries_in section terms) = rw c.tables.ensures (rw (← c.self.view_is) at c.requires) in
+    let terms = c.tables.result.now.terms in
     rw (← c.self.view_is, ← c.tables.ensures)
-    (told_of (λ (entry : DictionaryEntry). entry.term) (entry_in section) terms c.args.number c.index-row.result.now below c.index-row.ensures ∙ ap Some (sym c.as_str.ensures.value))
+    (ap (λ (texts : List (List ℕ)). slice_get texts c.args.number) (terms_in section terms) ∙ c.text.ensures)

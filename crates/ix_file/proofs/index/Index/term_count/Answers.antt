@@ -8,6 +8,6 @@ use Rattle.ix_file.proofs.index.Index.term_count.Goals as goal
 pub overflow_cast-result : goal.overflow_cast-result
 overflow_cast-result c =
     let texts = texts_in c.self.inside.sections in
-    let terms = c.tables.result.now.terms.items in
+    let terms = c.tables.result.now.terms in
     let few : length (parts_in texts c.tables.result.now).entries ≤ 2 ^ 28 = few_terms (parts_in texts c.tables.result.now) (rw c.tables.ensures c.self.invariant.lawful) in
-    omega (arith, few, c.len.ensures, length-map terms (entry_in texts.postings))
+    omega (arith, few, c.len.ensures.count, length-map terms (entry_in texts.postings))

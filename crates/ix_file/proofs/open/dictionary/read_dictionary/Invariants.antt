@@ -6,10 +6,10 @@ use Rattle.ix_file.proofs.open.dictionary.read_dictionary.Given as goal
 
 abbrev pub invariant-loop-left : goal.invariant-loop-left
 invariant-loop-left l = record {
-  lawful : AreListings l.stop (listings_in l.rows.items);
-  read : l.section ≡ listings_section (version_in l.version) (listings_in l.rows.items) ++ l.left;
-  end : l.start ≡ min (sizes_sum (listings_in l.rows.items)) most;
-  lie : LieFrom 0 l.rows.items;
+  lawful : AreListings l.stop (listings_in l.terms);
+  read : l.section ≡ listings_section (version_in l.version) (listings_in l.terms) ++ l.left;
+  end : l.start ≡ min (sizes_sum (listings_in l.terms)) most;
+  lie : LieFrom 0 l.terms;
 }
 
 abbrev pub decreases-loop-left : goal.decreases-loop-left

@@ -3,19 +3,19 @@ use Rattle.ix_file.proofs.GramReading.{no_gram_text, no_gram_pair, no_count, zer
 use Rattle.ix_file.proofs.open.grams.read_gram.Goals as goal
 
 pub returns-in_default-clause-refused : goal.returns-in_default-clause-refused
-returns-in_default-clause-refused c entry other right e = no_gram_text c.args.terms.now entry right c.args.left.now c.in_default.ensures.refused other e
+returns-in_default-clause-refused c entry other right e = no_gram_text c.args.terms.now c.requires.texts entry right c.args.left.now c.in_default.ensures.refused other e
 
 pub returns-in_default-pair_of-clause-refused : goal.returns-in_default-pair_of-clause-refused
 returns-in_default-pair_of-clause-refused c entry other right e =
-    no_gram_pair c.args.terms.now entry right c.args.left.now c.in-Ok.gram.now c.in-Ok.behind.now c.in-Ok.ensures.found.1 c.in_default-pair_of.ensures.none other e
+    no_gram_pair c.args.terms.now c.requires.texts entry right c.args.left.now c.in-Ok.gram.now c.in-Ok.behind.now c.in-Ok.ensures.found.1 c.in_default-pair_of.ensures.none other e
 
 pub returns-in_default-number-clause-refused : goal.returns-in_default-number-clause-refused
 returns-in_default-number-clause-refused c entry other right e =
-    no_count c.args.terms.now entry right c.args.left.now c.in-Ok.gram.now c.in-Ok.behind.now c.requires.few c.in-Ok.ensures.found.1 c.in_default-number.ensures.refused other e
+    no_count c.args.terms.now c.requires.texts entry right c.args.left.now c.in-Ok.gram.now c.in-Ok.behind.now c.requires.few c.in-Ok.ensures.found.1 c.in_default-number.ensures.refused other e
 
 pub returns-then-count-eq0-clause-refused : goal.returns-then-count-eq0-clause-refused
 returns-then-count-eq0-clause-refused c entry other right e =
-    zero_count c.args.terms.now entry right c.args.left.now c.in-Ok.gram.now c.in-Ok.behind.now c.in-Ok-number.gaps.now c.in-Ok-number.count c.in-Ok.ensures.found.1 c.in-Ok-number.ensures.found.1
+    zero_count c.args.terms.now c.requires.texts entry right c.args.left.now c.in-Ok.gram.now c.in-Ok.behind.now c.in-Ok-number.gaps.now c.in-Ok-number.count c.in-Ok.ensures.found.1 c.in-Ok-number.ensures.found.1
     c.if-count-eq0.true other e
 
 pub returns-in_err-rest-clause-refused : goal.returns-in_err-rest-clause-refused
@@ -23,7 +23,7 @@ returns-in_err-rest-clause-refused c =
     let p = err_from_is_err_and c.from_residual.result c.from_residual.ensures.1 in
     rw p.1
     (λ entry other right e.
-    no_numbers c.args.terms.now entry right c.args.left.now c.in-Ok.gram.now c.in-Ok.behind.now c.in-Ok-number.gaps.now c.in-Ok-number.count c.in-Some.pair c.in-Ok.ensures.found.1 c.in-Ok-number.ensures.found.1
+    no_numbers c.args.terms.now c.requires.texts entry right c.args.left.now c.in-Ok.gram.now c.in-Ok.behind.now c.in-Ok-number.gaps.now c.in-Ok-number.count c.in-Some.pair c.in-Ok.ensures.found.1 c.in-Ok-number.ensures.found.1
     c.in-Some.ensures.some c.in_err-rest.ensures.refused other e)
 
 pub returns-clause-entry : goal.returns-clause-entry

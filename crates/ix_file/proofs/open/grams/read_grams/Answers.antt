@@ -1,7 +1,7 @@
 use Rattle.std.proofs.Common.{◌≡◌, ◌<◌, length, inl, inr, ⊎_elim, arith}
 use Rattle.std.proofs.lemmas.Bool.Decides.{nat_tests}
 use Rattle.std.proofs.lemmas.Result.{err_from_is_err_and}
-use Rattle.ix_file.specs.OpenedGrams.{terms_in}
+use Rattle.ix_file.specs.PlacedTerms.{terms_in}
 use Rattle.ix_file.proofs.GramSections.{no_grams, more_grams, no_next_gram, next_above, total_there, whole_grams}
 use Rattle.ix_file.proofs.open.grams.read_grams.Goals as goal
 
@@ -10,7 +10,7 @@ loop-left-init c = rw c.new-rows.ensures.items (no_grams (terms_in c.args.terms.
 
 pub returns-in_err-row-clause-refused : goal.returns-in_err-row-clause-refused
 returns-in_err-row-clause-refused c =
-    let p = err_from_is_err_and c.from_residual-in_err-row.result c.from_residual-in_err-row.ensures.1 in
+    let p = err_from_is_err_and c.from_residual.result c.from_residual.ensures.1 in
     let some : 0 < length c.loop-left.left.now = grind (arith, nat_tests, c.is_empty.ensures, c.loop-left-test.true) in
     rw p.1
     (inr

@@ -1,5 +1,5 @@
 use Rattle.std.proofs.Common.{length}
-use Rattle.ix_file.specs.OpenedGrams.{terms_in}
+use Rattle.ix_file.specs.PlacedTerms.{terms_in}
 use Rattle.ix_file.proofs.GramSections.{AreReadGrams}
 use Rattle.ix_file.proofs.open.grams.read_grams.Given as goal
 

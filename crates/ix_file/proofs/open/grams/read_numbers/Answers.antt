@@ -1,7 +1,7 @@
 use Rattle.std.proofs.Common.{◌<◌, ◌≤◌, ◌^◌, length, refl, arith}
 use Rattle.std.proofs.lemmas.List.{length-map}
 use Rattle.ix_file.specs.WindowPairs.{gram_of}
-use Rattle.ix_file.specs.OpenedGrams.{terms_in}
+use Rattle.ix_file.specs.PlacedTerms.{terms_in}
 use Rattle.ix_file.proofs.GramNumbers.{one_read, next_number, no_next_code, no_next_gap}
 use Rattle.ix_file.proofs.PairCounts.{text_of}
 use Rattle.ix_file.proofs.open.grams.read_numbers.Goals as goal
@@ -10,7 +10,7 @@ pub is_next-requires : goal.is_next-requires
 is_next-requires c =
     let few = c.requires.few in
     let low : c.loop.next ≤ length (terms_in c.args.terms.now) = c.loop.invariant.low in
-    record { next = omega (arith, low, length-map c.args.terms.now text_of); few = few; texts = c.requires.texts }
+    record { next = omega (arith, low, length-map c.args.terms.now text_of); few = few }
 
 pub returns-in_default-clause-refused : goal.returns-in_default-clause-refused
 returns-in_default-clause-refused c numbers other are many is =

@@ -5,11 +5,11 @@ use Rattle.ix_file.proofs.StopReading.{no_stop_term, stop_of_none, stop_more, no
 use Rattle.ix_file.proofs.open.stop.read_stop.Goals as goal
 
 pub loop-left-init : goal.loop-left-init
-loop-left-init c = rw c.new-terms.ensures.items (record { lawful = no_stop_term; read = stop_of_none c.args.section.now })
+loop-left-init c = rw c.in_ok-terms.ensures.items (record { lawful = no_stop_term; read = stop_of_none c.args.section.now })
 
 pub returns-in_err-left-clause-refused : goal.returns-in_err-left-clause-refused
 returns-in_err-left-clause-refused c =
-    let p = err_from_is_err_and c.from_residual.result c.from_residual.ensures.1 in
+    let p = err_from_is_err_and c.from_residual-in_err-left.result c.from_residual-in_err-left.ensures.1 in
     let some : 0 < length c.loop-left.left.now = grind (arith, nat_tests, c.is_empty.ensures, c.loop-left-test.true) in
     rw (p.1, p.2)
     (⊎_elim inl
