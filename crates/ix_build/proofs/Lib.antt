@@ -20,6 +20,7 @@ pub mod ShiftLemmas
 pub mod Sums
 pub mod TakingLemmas
 pub mod TeamLemmas
+pub mod UnreadLemmas
 pub mod WholeBuild
 pub mod WholeOver
 pub mod WorkLemmas

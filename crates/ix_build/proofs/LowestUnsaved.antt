@@ -1,5 +1,5 @@
 -- The lowest place that was refused is the lowest one that no store saved.
-use Rattle.std.proofs.Common.{◌≡◌, ℕ, ◌+◌, ◌<◌, ◌≤◌, cond, nat_eq, List, [], ◌∷◌, map, Contains, refl, sym, ap, subst, ◌∙◌, arith, inl, inr}
+use Rattle.std.proofs.Common.{◌≡◌, ℕ, ◌+◌, ◌<◌, ◌≤◌, cond, nat_eq, List, [], ◌∷◌, map, Contains, refl, sym, ap, ◌∙◌, arith, inl, inr}
 use Rattle.std.specs.Prelude.{Option, Some, None, nat_lt}
 use Rattle.std.specs.List.{count_by}
 use Rattle.std.proofs.lemmas.Bool.Decides.{nat_tests}
@@ -11,7 +11,7 @@ use Rattle.ix_build.specs.declared.maker.Asked.{Asked}
 use Rattle.ix_build.specs.Askings.{IsLowestRefused, asking, asks, times_asked}
 use Rattle.ix_build.specs.SavingMakers.{made_places, with_place}
 use Rattle.ix_build.specs.Shares.{EachOnce, all_of}
-use Rattle.ix_build.specs.Stores.{IsLowestUnsaved, is_place, times_saved}
+use Rattle.ix_build.specs.Stores.{IsLowestUnsaved, is_place}
 use Rattle.ix_build.proofs.SavedPlaces.{flat_made, made_asked}
 
 asked_elsewhere : (k place : ℕ) → (place ≡ k → ⊥) → ◌≡◌ {A = ℕ} (cond (nat_eq place k) 1 0) 0

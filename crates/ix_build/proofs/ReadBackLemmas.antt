@@ -69,7 +69,7 @@ module _ {R : Type 0} (remaining : R → Option (List ℕ)) where
   }
 
   module _ (back : ℕ → List ℕ → Type 0) (headings : List Heading) (readers : List (RunReader R)) (read : AreReadBack remaining back headings readers) where
-    heading_at : (place : ℕ) (reader : RunReader R) → slice_get readers place ≡ Some reader → (heading : Heading) × (slice_get headings place ≡ Some heading)
+    pub heading_at : (place : ℕ) (reader : RunReader R) → slice_get readers place ≡ Some reader → (heading : Heading) × (slice_get headings place ≡ Some heading)
     heading_at place reader at =
         let within = slice_get_within readers place reader at in
         let many = read.as_many in

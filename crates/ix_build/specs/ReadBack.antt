@@ -1,6 +1,8 @@
 -- Runs read back from a store.
-use Rattle.std.specs.Prelude.{◌≡◌, ℕ, ◌<◌, List, [], length, Option, Some, IsSome, slice_get}
+use Rattle.std.specs.Prelude.{◌≡◌, ◌⊎◌, ℕ, ◌<◌, List, [], length, Option, Some, IsSome, slice_get}
+use Rattle.std.specs.Io.KnownBytes.{Keeps}
 use Rattle.ix_text.specs.Parts.{DictionaryEntry}
+use Rattle.ix_run.specs.Faults.{MayFault}
 use Rattle.ix_run.specs.Heads.{Heading, parts_with}
 use Rattle.ix_run.specs.Reading.{HasRead, MayYield}
 use Rattle.ix_run.specs.RunReaders.{heading_read}
@@ -79,3 +81,17 @@ module _ {R : Type 0} (remaining : R → Option (List ℕ)) where
     pub readers : List (RunReader R)
     pub read : AreReadBack back headings readers
     pub written : WritesConcatenation (MayYield remaining) heading_read readers before now
+
+  -- A reader of what came back of the place, of which nothing was asked yet, may answer with an error that is told as its place.
+  pub record MayNotRead (back : ℕ → List ℕ → Type 0) (place : ℕ) : Type 0 where
+    pub reader : RunReader R
+    pub unread : IsUnread HasRead reader
+    pub told : TellBytes → IsOfBytes (back place) reader
+    pub error : RunTextError
+    pub may : MayFault remaining reader error
+    pub spills : told_of_reading place error ≡ Spill place
+
+  -- If a place is told, then before a byte was written, or what came back of it may not be read to its end.
+  abbrev pub TellsUnread : (ℕ → List ℕ → Type 0) → Option (List ℕ) → Option (List ℕ) → BuildError → Type 0
+  TellsUnread back before now (Spill place) = Keeps before now ⊎ MayNotRead back place
+  TellsUnread back before now _ = Unit {0}

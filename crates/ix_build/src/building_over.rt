@@ -5,7 +5,7 @@ ghost use Rattle.ix_file.specs.Endings.{WritesIndexText};
 ghost use Rattle.ix_build.specs.AlikeFronts.{LeavesAlikeFront, WritesAlike};
 ghost use Rattle.ix_build.specs.BuiltOver.{AreBlocksSaved, FailsOver};
 ghost use Rattle.ix_build.specs.GivenBack.{GivesBlocksBack};
-ghost use Rattle.ix_build.specs.ReadBack.{TellBytes};
+ghost use Rattle.ix_build.specs.ReadBack.{TellBytes, TellsUnread};
 
 use crate::blocks::bounds_of;
 use crate::build_error::BuildError;
@@ -66,6 +66,12 @@ pub fn build_over<T: RunStore, W: Write, R: Threads + Wait + Sync>(
     // What an error tells, and what it leaves.
     ensures failed { IfErr result.result (FailsOver T.places T.refusals T.back
         plan.now.cut collection.now stores.items result.stores.items
+        (W.contents out.old) (W.contents out.new)) }
+
+    // A place that is told once bytes were written is one of which the first store gave back what
+    // may not be read to its end.
+    ensures unread { (first : T) → slice_get stores.items 0 ≡ Some first
+        → IfErr result.result (TellsUnread T.Reader.remaining (T.back first)
         (W.contents out.old) (W.contents out.new)) }
     ensures front { OnErr result.result (LeavesAlikeFront (collection_of stop.now collection.now)
         (W.contents out.old) (W.contents out.new)) }

@@ -7,7 +7,7 @@ ghost use Rattle.ix_build.specs.AlikeFronts.{LeavesAlikeFront, WritesAlike};
 ghost use Rattle.ix_build.specs.BuildErrors.{IsBeforeWriting, IsBuildRefusal, IsFolderRefusal};
 ghost use Rattle.ix_build.specs.FolderStores.{IsStoreIn};
 ghost use Rattle.ix_build.specs.GivenBack.{GivesBlocksBack};
-ghost use Rattle.ix_build.specs.ReadBack.{TellBytes};
+ghost use Rattle.ix_build.specs.ReadBack.{TellBytes, TellsUnread};
 ghost use Rattle.ix_build.specs.RunPaths.{run_path};
 
 use crate::blocks::bounds_of;
@@ -64,6 +64,13 @@ pub fn build_with_files<W: Write, F: RunFiles, R: Threads + Wait + Sync>(
     ensures spilled { IfErr result (IsFolderRefusal plan.now collection.now) }
     ensures early { IfErr result (λ error. IsBeforeWriting error
         → Keeps (W.contents out.old) (W.contents out.new)) }
+
+    // A block that is told once bytes were written is one of whose file something came back that
+    // may not be read to its end.
+    ensures unread { (folder : List ℕ) → plan.now.folder ≡ Some folder
+        → IfErr result (TellsUnread F.Reader.remaining
+        (λ place. F.back files.now (run_path folder place))
+        (W.contents out.old) (W.contents out.new)) }
     ensures front { OnErr result (LeavesAlikeFront (collection_of stop.now collection.now)
         (W.contents out.old) (W.contents out.new)) }
 {
@@ -94,6 +101,9 @@ fn build_in_folder<W: Write, F: RunFiles, R: Threads + Wait + Sync>(
     ensures spilled { IfErr result (IsFolderRefusal plan.now collection.now) }
     ensures early { IfErr result (λ error. IsBeforeWriting error
         → Keeps (W.contents out.old) (W.contents out.new)) }
+    ensures unread { IfErr result (TellsUnread F.Reader.remaining
+        (λ place. F.back files.now (run_path folder.now place))
+        (W.contents out.old) (W.contents out.new)) }
     ensures front { OnErr result (LeavesAlikeFront (collection_of stop.now collection.now)
         (W.contents out.old) (W.contents out.new)) }
 {

@@ -2,7 +2,8 @@
 ghost use Rattle.std.specs.Prelude.{◌+◌, [], length, map, IfErr, IfOk, OnErr, OnOk};
 ghost use Rattle.ix_merge.specs.Pieces.{LeavesFront};
 ghost use Rattle.ix_run.specs.Heads.{heading_of};
-ghost use Rattle.ix_build.specs.ReadBack.{AreReadBack, ComesOfMerging, ComesOfReading, IsReadBack, MayBeMerged, WritesReadBack};
+ghost use Rattle.ix_build.specs.ReadBack.{AreReadBack, ComesOfMerging, ComesOfReading, IsReadBack, MayBeMerged};
+ghost use Rattle.ix_build.specs.ReadBack.{TellsUnread, WritesReadBack};
 ghost use Rattle.ix_build.specs.SavingMakers.{HasSaved};
 
 use crate::build_error::BuildError;
@@ -77,6 +78,8 @@ pub(crate) fn merge_saved<T: RunStore, W: Write>(
     ensures written { OnOk result (WritesReadBack T.Reader.remaining (T.back store.old)
         (map heading_of heads.now) (W.contents out.old) (W.contents out.new)) }
     ensures refused { IfErr result (ComesOfMerging (length heads.now)) }
+    ensures unread { IfErr result (TellsUnread T.Reader.remaining (T.back store.old)
+        (W.contents out.old) (W.contents out.new)) }
     ensures front { OnErr result (LeavesFront (map heading_of heads.now)
         (W.contents out.old) (W.contents out.new)) }
     ensures store { HasSaved T.places T.refusals T.back store.old store.new [] }

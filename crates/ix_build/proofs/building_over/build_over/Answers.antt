@@ -8,11 +8,12 @@ use Rattle.ix_text.specs.Collections.{NamedText}
 use Rattle.ix_text.specs.Docs.{named_text}
 use Rattle.ix_build.specs.Blocks.{AreBounds}
 use Rattle.ix_build.specs.BuiltOver.{FailsOver}
-use Rattle.ix_build.specs.ReadBack.{ComesOfMerging}
+use Rattle.ix_build.specs.ReadBack.{ComesOfMerging, TellsUnread}
 use Rattle.ix_build.specs.SavedBlocks.{AreHeadsOf, FailsToSave}
 use Rattle.ix_build.specs.Stores.{AreSaved}
 use Rattle.ix_build.specs.declared.plan.Cut.{Cut}
 use Rattle.ix_build.proofs.SavedWork.{not_begun}
+use Rattle.ix_build.proofs.UnreadLemmas.{told_unwritten, unread_before}
 use Rattle.ix_build.proofs.WholeBuild.{some_bound}
 use Rattle.ix_build.proofs.WholeOver.{as_many_heads, blocks_saved, fails_merging, fails_saving, few_tokens, gives_as_before, keeps_itself, over_alike, over_exact, over_left, over_merge}
 use Rattle.ix_build.proofs.building_over.build_over.Goals as goal
@@ -169,3 +170,27 @@ returns-clause-front g c =
     let of_blocks = heads_found (map named_text c.docs-docs.result.now) texts stop bounds c.in-Ok-result.heads.items heads c.docs-docs.ensures.documents c.as_slice.ensures.value saved_heads in
     let now = g.W.Write.contents c.merge_saved-result.new.out in
     on_err_weaker c.merge_saved-result.result (over_left cut texts bounds are count c.block_count-count.ensures stop heads of_blocks before now) c.merge_saved-result.ensures.front
+
+pub returns-in-Err-clause-unread : goal.returns-in-Err-clause-unread
+returns-in-Err-clause-unread g c = λ first is_first.
+    let before = g.W.Write.contents c.args.out.now in
+    told_unwritten g.T.Reader.Read.remaining (g.T.RunStore.back first) before before c.in-Err.error (keeps_itself before)
+
+pub returns-clause-unread : goal.returns-clause-unread
+returns-clause-unread g c = λ first is_first.
+    let remaining = g.T.Reader.Read.remaining in
+    let places = g.T.RunStore.places in
+    let refusals = g.T.RunStore.refusals in
+    let back = g.T.RunStore.back in
+    let stores = c.args.stores.items in
+    let after = c.save_blocks-stores.result.stores.items in
+    let store = c.index_mut.result.now in
+    let count = c.block_count-count.result in
+    let before = g.W.Write.contents c.args.out.now in
+    let now = g.W.Write.contents c.merge_saved-result.new.out in
+    let saved = IfOk-at_ok (λ kept. AreSaved places refusals back stores count after) c.in-Ok-result.is c.save_blocks-stores.ensures.saved in
+    let many = saved.came_back.as_many in
+    let at : slice_get after 0 ≡ Some store = slice_get_read after _ 0 store refl (omega (arith, many, c.args.stores.ok.0, c.requires, c.workers-workers.ensures.workers, c.workers-workers.ensures.few.0)) c.index_mut.ensures.value in
+    IfErr-weaker c.merge_saved-result.result (TellsUnread remaining (back store) before now) (TellsUnread remaining (back first) before now)
+    (λ error told. unread_before remaining (back first) (back store) before now error (λ place bytes. ((saved.came_back.each 0 first store is_first at).keeps place bytes).0) told)
+    c.merge_saved-result.ensures.unread

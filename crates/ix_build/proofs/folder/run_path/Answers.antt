@@ -1,9 +1,9 @@
 -- The name that the format writes is the one of the place.
-use Rattle.std.proofs.Common.{◌≡◌, ℕ, List, ◌++◌, ap, codes, cond, subst, ◌∙◌, rules}
+use Rattle.std.proofs.Common.{◌≡◌, ℕ, List, ◌++◌, ap, codes, subst, ◌∙◌}
 use Rattle.std.specs.Prelude.{IfOk, string_bytes}
 use Rattle.std.specs.Fmt.{styled_decimal}
-use Rattle.std.specs.Path.{path_buf_bytes, path_bytes, path_join}
-use Rattle.ix_build.specs.RunPaths.{run_path, ten_digits}
+use Rattle.std.specs.Path.{path_buf_bytes, path_join}
+use Rattle.ix_build.specs.RunPaths.{ten_digits}
 use Rattle.ix_build.proofs.RunPathLemmas.{ten_digits_written}
 use Rattle.ix_build.proofs.folder.run_path.Goals as goal
 

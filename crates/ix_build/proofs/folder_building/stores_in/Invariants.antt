@@ -1,4 +1,4 @@
-use Rattle.std.proofs.Common.{◌≡◌, ◌≤◌, ◌+◌, All, vec_len, length}
+use Rattle.std.proofs.Common.{◌≡◌, ◌≤◌, All, vec_len}
 use Rattle.std.specs.Vec.{vec_capacity}
 use Rattle.ix_build.specs.FolderStores.{IsStoreIn}
 use Rattle.ix_build.proofs.folder_building.stores_in.Given as goal

@@ -3,9 +3,11 @@ use Rattle.std.proofs.lemmas.List.{length-map}
 use Rattle.ix_merge.specs.Pieces.{LeavesFront}
 use Rattle.ix_merge.specs.Refusals.{IsRefusal}
 use Rattle.ix_run.specs.Heads.{Heading, heading_of}
-use Rattle.ix_build.specs.ReadBack.{ComesOfMerging, told_of_read_merge}
+use Rattle.ix_build.specs.ReadBack.{ComesOfMerging, TellsUnread, told_of_read_merge}
 use Rattle.ix_build.specs.declared.build_error.BuildError.{BuildError}
 use Rattle.ix_build.proofs.ReadBackLemmas.{all_unread, headings_read, merge_told}
+use Rattle.ix_build.proofs.UnreadLemmas.{told_of_merge_fault, unwritten_up}
+use Rattle.ix_build.proofs.WholeOver.{keeps_itself}
 use Rattle.ix_build.proofs.reading.merge_saved.Goals as goal
 
 pub merge-requires : goal.merge-requires
@@ -38,3 +40,17 @@ returns-in-Err-clause-front g c =
     let readers = c.in_ok-readers.readers.items in
     let same = headings_read g.T.Reader.Read.remaining back (map heading_of c.args.heads.now) readers c.in_ok-readers.ensures.read in
     subst (λ (hs : List Heading). LeavesFront hs (g.W.Write.contents c.args.out.now) (g.W.Write.contents c.merge.new.out)) same c.in-Err.ensures.front
+
+pub returns-in_err-readers-clause-unread : goal.returns-in_err-readers-clause-unread
+returns-in_err-readers-clause-unread g c =
+    let before = g.W.Write.contents c.args.out.now in
+    unwritten_up g.T.Reader.Read.remaining (g.T.RunStore.back c.args.store.now) before before c.from_residual.result (keeps_itself before)
+
+pub returns-in-Err-clause-unread : goal.returns-in-Err-clause-unread
+returns-in-Err-clause-unread g c =
+    let remaining = g.T.Reader.Read.remaining in
+    let back = g.T.RunStore.back c.args.store.now in
+    let before = g.W.Write.contents c.args.out.now in
+    let now = g.W.Write.contents c.merge.new.out in
+    subst (TellsUnread remaining back before now) (sym c.of_read_merge.ensures)
+    (told_of_merge_fault remaining back (map heading_of c.args.heads.now) c.in_ok-readers.readers.items c.in_ok-readers.ensures.read before now c.in-Err.error c.in-Err.ensures.fault)
