@@ -45,7 +45,7 @@ def by_read(program, case, got):
 
 def by_memory(program, case, got):
     """A call that is refused for want of memory: a reader of run texts tells it as a read that was refused."""
-    wanted = case.reads if b"Source" in got.errors else case.memory
+    wanted = case.reads if re.search(rb"Source|Spill", got.errors) else case.memory
     return case.refusal_faults(program, got, wanted)
 
 
