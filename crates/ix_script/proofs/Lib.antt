@@ -1,3 +1,5 @@
+pub mod Answering
+pub mod FoundNames
 pub mod GroupLemmas
 pub mod LineLemmas
 pub mod Reading

@@ -1,11 +1,11 @@
 -- Lines of a script, read one after another.
-use Rattle.std.proofs.Common.{◌≡◌, ℕ, ◌+◌, ◌≤◌, ◌⊎◌, inl, inr, Bool, true, false, List, [], ◌∷◌, ◌++◌, All, Contains, length, filter, map, refl, sym, ap, subst, ◌∙◌, arith, append_assoc, length-append}
+use Rattle.std.proofs.Common.{◌≡◌, ℕ, ◌+◌, ◌≤◌, ◌⊎◌, inl, inr, true, List, [], ◌∷◌, ◌++◌, All, Contains, length, filter, map, refl, sym, ap, subst, ◌∙◌, arith, append_assoc, length-append}
 use Rattle.std.proofs.lemmas.List.{append-nil, map-append}
 use Rattle.std.proofs.lemmas.List.Elements.{All-append, All-nil, All-push, filter-append}
 use Rattle.ix_text.specs.StopText.{IsCutAtLineFeeds, joined_lines}
 use Rattle.ix_text.proofs.StopTextLemmas.{IsUnbroken, cut_at_line_feeds, ended, lines_of}
 use Rattle.ix_script.specs.ScriptFaults.{IsLineFault, IsScriptFault, IsScriptLine}
-use Rattle.ix_script.specs.Steps.{AddsLine, IsLawful, IsLineOf, IsScript, Step, Text, is_filled, line_of}
+use Rattle.ix_script.specs.Steps.{AddsLine, IsLawful, IsScript, Step, Text, is_filled, line_of}
 use Rattle.ix_script.specs.declared.error.ScriptError.{ScriptError}
 use Rattle.ix_script.specs.declared.error.ScriptError.TheVariants.{Memory}
 use Rattle.ix_script.proofs.LineLemmas.{line_filled}

@@ -1,5 +1,5 @@
 -- A text has one list of steps or one fault, and never both.
-use Rattle.std.proofs.Common.{◌≡◌, ◌≢◌, ℕ, zero, suc, ◌+◌, ◌^◌, ◌<◌, ◌≤◌, ◌↔◌, ◌⊎◌, inl, inr, Bool, true, false, List, [], ◌∷◌, ◌++◌, All, length, filter, map, get_or, Ok, Err, refl, sym, ap, ap₂, subst, ◌∙◌, arith, length-append}
+use Rattle.std.proofs.Common.{◌≡◌, ◌≢◌, ℕ, suc, ◌+◌, ◌<◌, ◌↔◌, inl, inr, List, [], ◌∷◌, ◌++◌, All, length, filter, map, get_or, Ok, refl, sym, ap, ap₂, subst, ◌∙◌, arith, length-append}
 use Rattle.std.specs.Prelude.{codes, decimal}
 use Rattle.std.proofs.lemmas.Fmt.{decimal_injective}
 use Rattle.std.proofs.lemmas.List.Elements.{All-head, All-tail, All-nil, All-cons}
@@ -8,11 +8,10 @@ use Rattle.ix_query.specs.Grammar.{Reads}
 use Rattle.ix_query.specs.Machine.{query_of}
 use Rattle.ix_text.specs.StopText.{IsCutAtLineFeeds}
 use Rattle.ix_text.proofs.StopTextLemmas.{cut_is, lines_of, lines_of-nil}
-use Rattle.ix_script.specs.ScriptFaults.{IsLineFault, IsNoLine, IsScriptFault, IsScriptLine}
+use Rattle.ix_script.specs.ScriptFaults.{IsLineFault, IsScriptFault, IsScriptLine}
 use Rattle.ix_script.specs.Steps.{Add, Ask, IsLawful, IsLineOf, IsScript, Publish, Remove, Step, Text, is_filled, line_of}
 use Rattle.ix_script.specs.declared.error.ScriptError.{ScriptError}
 use Rattle.ix_script.specs.declared.error.ScriptError.TheVariants as fault
-use Rattle.ix_script.proofs.LineLemmas.{line_filled}
 
 -- a text reads as one tree
 abbrev pub OneTree : Type 0

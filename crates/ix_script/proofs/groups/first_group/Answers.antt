@@ -1,9 +1,9 @@
 -- Up to the first step that publishes none does.
-use Rattle.std.proofs.Common.{◌≡◌, ◌∙◌, ◌++◌, ◌∷◌, ◌+◌, ◌-◌, ◌≤◌, List, ap, arith, drop, length, length-drop, length-take, map, refl, subst, sym, take, add-one}
+use Rattle.std.proofs.Common.{◌∙◌, ◌+◌, ◌-◌, ap, arith, drop, length, length-drop, length-take, refl, sym, add-one}
 use Rattle.std.proofs.lemmas.List.{take_all}
 use Rattle.ix_script.specs.Groups.{is_publish}
-use Rattle.ix_script.specs.Steps.{Publish, Step, step_of}
-use Rattle.ix_script.proofs.GroupLemmas.{NonePublish, cut_here, one_more}
+use Rattle.ix_script.specs.Steps.{step_of}
+use Rattle.ix_script.proofs.GroupLemmas.{cut_here, one_more}
 use Rattle.ix_script.proofs.groups.first_group.Goals as goal
 
 pub returns-then-is_publish-clause-cut : goal.returns-then-is_publish-clause-cut

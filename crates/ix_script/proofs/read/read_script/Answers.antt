@@ -1,5 +1,5 @@
 -- Lines are read one after another, each up to the next LF.
-use Rattle.std.proofs.Common.{◌∙◌, ap, lit<, map}
+use Rattle.std.proofs.Common.{ap, lit<, map}
 use Rattle.std.proofs.lemmas.Result.{err_from_is_err_and}
 use Rattle.ix_text.proofs.CollectionLemmas.{cut_texts}
 use Rattle.ix_text.proofs.StopTextLemmas.{line_before_feed, no_feed_left}
