@@ -98,7 +98,7 @@ class Parts:
         for found in self.spread(sizes.work, sizes.tasks()):
             for name, size, taken, answer, wrong in found:
                 self.wrong += wrong
-                row = (name, answer, size, taken, f"{taken / size:.1f}{' (wider)' * (name in sizes.WIDER)}")
+                row = (name, answer, size, taken, f"{taken / size:.1f}")
                 worst[name] = max(row, worst.get(name, row), key=lambda it: it[3] / it[2])
         self.table(("forged file", "answer", "bytes", "memory for opening", "times the file, at most"), worst.values())
 

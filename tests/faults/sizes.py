@@ -6,9 +6,6 @@ from oracle import Refused, open_index
 # The sizes of the files that grow: between two powers of 2, since memory that grows by doubling is at its worst behind one.
 SIZES = (1 << 15, 350_000, 410_000, 470_000, 530_000, 2_200_000)
 FACTOR, MORE = 12, 1 << 20  # opening a file of n bytes is to take FACTOR * n + MORE at most
-# Files that take more: the tables of stop terms and of terms have a text of its own in each row. docs/faults.md tells of them.
-WIDER = {"stop-terms-of-3": 18, "small-stop-terms": 15, "small-stop-terms-and-a-gram": 15, "terms-without-lists-1": 20,
-         "terms-without-lists-2": 23, "terms-of-3-doubled": 15}
 
 
 def tasks():
@@ -43,6 +40,6 @@ def opened(program, name, text, wanted):
     program.remove("forged.ix")
     taken = got.peak - base.peak
     wrong = [] if got.told() == wanted else [f"{name}, {len(text)} bytes: {wanted}, and not {got}"]
-    if taken > WIDER.get(name, FACTOR) * len(text) + MORE:
+    if taken > FACTOR * len(text) + MORE:
         wrong.append(f"{name}, {len(text)} bytes: {taken} bytes of memory")
     return name, len(text), taken, wanted[2].decode().strip() or "accepted", wrong

@@ -14,6 +14,9 @@ use std::alloc::Global;
 /// The most tokens that all documents together may have.
 const MAX_TOKENS: u32 = 1 << 28;
 
+/// The fewest bytes that DOCS has of a document: one of its name, and one for each of two numbers.
+const FEWEST_BYTES: usize = 3;
+
 /// A document: where its name stands in DOCS, how many bytes the name has, and how many tokens the document.
 #[derive(Clone, Copy, Debug, PartialEq, Eq)]
 pub(crate) struct Row {
@@ -41,7 +44,7 @@ pub(crate) fn read_documents(
         ⊎ ((rows : List DocumentRow) → AreRows rows → length rows ≡ count →
         section.now ≢ documents_section rows)) }
 {
-    let mut rows = Vec::new(alloc);
+    let mut rows = Vec::with_capacity(alloc, (count as usize).min(section.len() / FEWEST_BYTES))?;
     let mut tokens = 0;
     let mut left = section;
     while !left.is_empty() {

@@ -8,11 +8,11 @@ use Rattle.ix_file.proofs.RowReading.{no_rows, rows_of_none, rows_more, rows_pus
 use Rattle.ix_file.proofs.open.documents.read_documents.Goals as goal
 
 pub loop-left-init : goal.loop-left-init
-loop-left-init c = rw c.new-rows.ensures.items (record { lawful = no_rows; sum = refl; placed = All-nil (IsNameRow c.args.section.now); small = omega arith; read = rows_of_none c.args.section.now })
+loop-left-init c = rw c.in_ok-rows.ensures.items (record { lawful = no_rows; sum = refl; placed = All-nil (IsNameRow c.args.section.now); small = omega arith; read = rows_of_none c.args.section.now })
 
 pub returns-in_err-row-clause-refused : goal.returns-in_err-row-clause-refused
 returns-in_err-row-clause-refused c =
-    let p = err_from_is_err_and c.from_residual.result c.from_residual.ensures.1 in
+    let p = err_from_is_err_and c.from_residual-in_err-row.result c.from_residual-in_err-row.ensures.1 in
     let some : 0 < length c.loop-left.left.now = grind (arith, nat_tests, c.is_empty.ensures, c.loop-left-test.true) in
     rw p.1
     (inr
