@@ -24,16 +24,32 @@
 **   - malloc, realloc and free are those of one allocator.
 **   - No call is made from a signal handler, nor in the forked child of a process with threads.
 **
+**
+** THE HANDLE
+**   An `ix_index` holds an opened index. All zero bits: closed, as in `ix_index index = {0};`. ix_index_open opens it,
+**   which is paid once; then it is asked any number of times, and closed. Asking a closed handle is answered with
+**   IX_CLOSED, closing it once more does nothing. What rests on the caller besides:
+**   - A HANDLE IS ALL ZERO BITS BEFORE ITS FIRST CALL, and only the calls below write it.
+**   - A HANDLE IS USED BY ONE THREAD AT A TIME: searching writes it too. Many handles may be opened on one text, and
+**     used side by side by as many threads.
+**   - It is not copied: of two copies of an open handle, closing one leaves the other dangling. To move it, copy its
+**     bytes and set the old ones to zero.
+**   - It overlaps no text, nor `out` and `found`.
+**   - An open handle that is written over or forgotten is never freed.
+**
 ** THREADS
-**   A call starts no thread, and two calls share nothing but the texts that they read. Any number may run side by
-**   side, each with its own `out` and `found`.
+**   A call starts no thread, and two calls share nothing but the texts that they read and a handle that both are
+**   given. Any number may run side by side, each with its own `out`, `found` and handle.
 **
 ** MEMORY
-**   What a call takes it gives back before it returns. The caller owns every buffer; there is nothing to be freed.
+**   What a call takes it gives back before it returns, but what an open handle holds: a copy of the index text with its
+**   tables, until ix_index_close or the next ix_index_open. The caller owns every buffer; there is nothing else to be
+**   freed.
 */
 #ifndef IX_H
 #define IX_H
 
+#include <stdbool.h>
 #include <stddef.h>
 #include <stdint.h>
 
@@ -43,9 +59,10 @@ extern "C" {
 
 /* What a call answers: nothing but these. */
 enum {
-  IX_DONE = 0,    /* done, and `found` tells of what; that nothing was found is no refusal */
-  IX_REFUSED = 1, /* refused: `found->area` and `found->number` tell why, and `out` has the line that says it */
-  IX_NOT_UTF8 = 2 /* a text that is to be UTF-8 is not: `found->area` tells which; `out` is as it was */
+  IX_DONE = 0,     /* done, and `found` tells of what; that nothing was found is no refusal */
+  IX_REFUSED = 1,  /* refused: `found->area` and `found->number` tell why, and `out` has the line that says it */
+  IX_NOT_UTF8 = 2, /* a text that is to be UTF-8 is not: `found->area` tells which; `out` is as it was */
+  IX_CLOSED = 3    /* the handle is closed; `out` is as it was, and `found` is all zero */
 };
 
 /* What a refusal is about, in `found->area`. Its place in the area's list of errors is in `found->number`, from 1. */
@@ -68,6 +85,12 @@ typedef struct ix_found {
   uint32_t area;   /* IX_COLLECTION .. IX_MEMORY after a refusal or IX_NOT_UTF8; else 0 */
   uint32_t number; /* the error's number after a refusal; else 0 */
 } ix_found;
+
+/* The handle of an opened index. Its fields are the library's. */
+typedef struct ix_index {
+  bool is_open; /* whether it holds an index */
+  void *held;   /* the index, where it does */
+} ix_index;
 
 /*
 ** ix_ask: asks a collection text.
@@ -117,8 +140,33 @@ uint32_t ix_search(const uint8_t *index, size_t index_size, const uint8_t *query
 uint32_t ix_terms(const uint8_t *index, size_t index_size, const uint8_t *pattern, size_t pattern_size,
                   uint8_t *out, size_t out_size, ix_found *found);
 
+/*
+** ix_index_open: opens an index text once, to be asked often.
+**
+** The handle stands from then on for the collection of this index text, of which it keeps a copy: the caller may write
+** over the text. What is no index text of a collection is refused. What the handle held before is closed, also where
+** the call is refused. After IX_DONE `out` is as it was, and `found` is all zero.
+**
+** Refuses with IX_INDEX and IX_MEMORY; the handle is closed then.
+*/
+uint32_t ix_index_open(ix_index *index, const uint8_t *text, size_t text_size, uint8_t *out, size_t out_size,
+                       ix_found *found);
+
+/* ix_index_close: gives back what the handle holds. On a closed handle it does nothing. */
+void ix_index_close(ix_index *index);
+
+/*
+** ix_index_search and ix_index_terms: what ix_search and ix_terms give and refuse of the index text on which the handle
+** was opened, without opening it again. The handle stands for the same index afterwards. IX_CLOSED where it is closed.
+*/
+uint32_t ix_index_search(ix_index *index, const uint8_t *query, size_t query_size, uint8_t *out, size_t out_size,
+                         ix_found *found);
+uint32_t ix_index_terms(ix_index *index, const uint8_t *pattern, size_t pattern_size, uint8_t *out, size_t out_size,
+                        ix_found *found);
+
 #if defined(__cplusplus)
 static_assert(sizeof(ix_found) == 2 * sizeof(size_t) + 8, "ix_found");
+static_assert(sizeof(ix_index) == 2 * sizeof(void *), "ix_index");
 static_assert(sizeof(size_t) == 8, "ix is for machines of 64 bits");
 }
 #elif defined(__STDC_VERSION__) && __STDC_VERSION__ >= 201112L
@@ -126,6 +174,8 @@ _Static_assert(sizeof(ix_found) == 2 * sizeof(size_t) + 8, "ix_found");
 _Static_assert(offsetof(ix_found, size) == sizeof(size_t), "ix_found.size");
 _Static_assert(offsetof(ix_found, area) == 2 * sizeof(size_t), "ix_found.area");
 _Static_assert(offsetof(ix_found, number) == 2 * sizeof(size_t) + 4, "ix_found.number");
+_Static_assert(sizeof(ix_index) == 2 * sizeof(void *), "ix_index");
+_Static_assert(offsetof(ix_index, held) == sizeof(void *), "ix_index.held");
 _Static_assert(sizeof(size_t) == 8, "ix is for machines of 64 bits");
 #endif
 

@@ -12,7 +12,8 @@ refuses comes as an exception by what it is about, with the number of the error 
 Traceback (most recent call last):
 ix.QueryError: query 2: Unexpected(4)
 
-Calls share nothing, so threads may search one index side by side; the engine runs without Python's lock.
+An index is opened once and asked often, by one thread at a time; threads that ask side by side open one each, on the
+same text (`Index(index.text)`). The engine runs without Python's lock.
 """
 
 from __future__ import annotations
@@ -21,6 +22,8 @@ import ctypes
 import ctypes.util
 import os
 import tempfile
+import threading
+import weakref
 from collections.abc import Iterable, Iterator, Mapping
 from pathlib import Path
 from typing import NamedTuple, Union
@@ -73,6 +76,7 @@ _AREAS: dict[int, type[Error]] = {
 }
 
 _DONE = 0
+_CLOSED = 3
 
 
 class _Found(ctypes.Structure):
@@ -84,6 +88,10 @@ class _Found(ctypes.Structure):
     ]
 
 
+class _Handle(ctypes.Structure):
+    _fields_ = [("is_open", ctypes.c_bool), ("held", ctypes.c_void_p)]
+
+
 def _load() -> ctypes.CDLL:
     """The library named by IX_LIBRARY, or the one that `make lib` made beside this file, or the installed one."""
     beside = Path(__file__).resolve().parent.parent / "build" / "libix.so"
@@ -92,29 +100,43 @@ def _load() -> ctypes.CDLL:
     if path is None:
         raise ImportError(f"there is no {beside}: run `make lib`, or name the library in IX_LIBRARY")
     library = ctypes.CDLL(path)
-    for name, texts in (("ix_ask", 3), ("ix_build", 2), ("ix_search", 2), ("ix_terms", 2)):
+    handle = [ctypes.POINTER(_Handle)]
+    for name, first, texts in (
+        ("ix_ask", [], 3),
+        ("ix_build", [], 2),
+        ("ix_index_open", handle, 1),
+        ("ix_index_search", handle, 1),
+        ("ix_index_terms", handle, 1),
+    ):
         call = getattr(library, name)
-        call.argtypes = [ctypes.c_char_p, ctypes.c_size_t] * (texts + 1) + [ctypes.POINTER(_Found)]
+        call.argtypes = first + [ctypes.c_char_p, ctypes.c_size_t] * (texts + 1) + [ctypes.POINTER(_Found)]
         call.restype = ctypes.c_uint32
+    library.ix_index_close.argtypes = handle
+    library.ix_index_close.restype = None
     return library
 
 
 _LIBRARY = _load()
 
 
-def _call(name: str, texts: tuple[bytes, ...], room: int) -> tuple[bytes, int]:
-    """The bytes that a call gives for these texts, and the count that it tells. `room` is a guess of how many bytes."""
+def _call(name: str, texts: tuple[bytes, ...], room: int, *first: object) -> tuple[bytes, int]:
+    """The bytes that a call gives for these texts, behind what stands first, and the count that it tells.
+
+    `room` is a guess of how many bytes there are.
+    """
     sized = [part for text in texts for part in (text, len(text))]
     while True:
         out = ctypes.create_string_buffer(max(room, 1))
         found = _Found()
-        status = getattr(_LIBRARY, name)(*sized, out, len(out), ctypes.byref(found))
+        status = getattr(_LIBRARY, name)(*first, *sized, out, len(out), ctypes.byref(found))
         if found.size <= len(out):
             break
         room = found.size
     given = ctypes.string_at(out, found.size)
     if status == _DONE:
         return given, found.count
+    if status == _CLOSED:
+        raise ValueError("the index is closed")
     raise _AREAS.get(found.area, Error)(given.decode(), found.number)
 
 
@@ -154,18 +176,47 @@ class Term(NamedTuple):
 
 
 class Index:
-    """The index of a collection: its index text, which each question looks at afresh.
+    """The index of a collection, opened once: its index text, and a handle that each question is put to.
 
     >>> Index(b"no index")
     Traceback (most recent call last):
     ix.IndexTextError: index 1: Short
+
+    Questions of several threads wait for one another. What the handle holds is given back by `close`, at the end of a
+    `with` statement, or when nothing refers to the index any more:
+
+    >>> with build({"a": "fox"}) as index:
+    ...     index.search("fox")
+    ['a']
+    >>> index.search("fox")
+    Traceback (most recent call last):
+    ValueError: the index is closed
     """
 
     def __init__(self, text: bytes) -> None:
-        """The index of an index text; raises `IndexTextError` where it is none."""
+        """Opens an index text; raises `IndexTextError` where it is none."""
         self._text = bytes(text)
-        # The text is opened, to see that it is one; no term has a character that is not assigned.
-        _call("ix_terms", (self._text, "*\u0378".encode()), 1 << 8)
+        self._handle = _Handle()
+        # The library's rule for a handle is one thread at a time.
+        self._lock = threading.Lock()
+        self._close = weakref.finalize(self, _LIBRARY.ix_index_close, self._handle)
+        self._ask("ix_index_open", self._text, 1 << 8)
+
+    def _ask(self, name: str, text: bytes, room: int) -> bytes:
+        """The bytes that a call of the handle gives for a text."""
+        with self._lock:
+            return _call(name, (text,), room, self._handle)[0]
+
+    def close(self) -> None:
+        """Closes the index. A closed one stays closed; its text can still be read and saved."""
+        with self._lock:
+            self._close()
+
+    def __enter__(self) -> Index:
+        return self
+
+    def __exit__(self, *raised: object) -> None:
+        self.close()
 
     def search(self, query: str) -> list[str]:
         """The names of exactly the documents that satisfy the query, in the order in which they were indexed.
@@ -173,8 +224,7 @@ class Index:
         >>> build([("a", "x y"), ("b", "y"), ("c", "")]).search("NOT x")
         ['b', 'c']
         """
-        names, _ = _call("ix_search", (self._text, query.encode()), 1 << 16)
-        return _lines(names)
+        return _lines(self._ask("ix_index_search", query.encode(), 1 << 16))
 
     def terms(self, pattern: str) -> Iterator[Term]:
         """Exactly the terms that match the pattern, in the order of their bytes, and in how many documents each is.
@@ -182,8 +232,7 @@ class Index:
         >>> list(build({"a": "red rod", "b": "Red"}).terms("r*d"))
         [Term(term='red', documents=2), Term(term='rod', documents=1)]
         """
-        rows, _ = _call("ix_terms", (self._text, pattern.encode()), 1 << 16)
-        for row in _lines(rows):
+        for row in _lines(self._ask("ix_index_terms", pattern.encode(), 1 << 16)):
             term, documents = row.rsplit("\t", 1)
             yield Term(term, int(documents))
 

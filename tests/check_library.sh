@@ -24,11 +24,14 @@ echo "the header in C++, and what the shared library shows and wants .."
 printf '#include <ix.h>\nint main() { return IX_DONE; }\n' > "$work/header.cc"
 g++ -std=c++11 -Wall -Wextra -Werror -Ibuild/include "$work/header.cc" -o "$work/header"
 "$work/header"
-test "$(nm -D --defined-only build/libix.so | awk '{print $3}' | sort | tr '\n' ' ')" = "ix_ask ix_build ix_search ix_terms "
+test "$(nm -D --defined-only build/libix.so | awk '{print $3}' | sort | tr '\n' ' ')" = \
+    "ix_ask ix_build ix_index_close ix_index_open ix_index_search ix_index_terms ix_search ix_terms "
 
-echo "two threads on one index .."
+echo "threads on one index text, each with a handle and without .."
 gcc -g -O1 $warn tests/library_threads.c build/libix.a -lpthread -o "$work/threads"
 "$work/threads"
+gcc -g -O1 -fsanitize=thread $warn tests/library_threads.c build/libix.a -lpthread -o "$work/raced"
+"$work/raced"
 
 echo "examples/library .."
 examples/library/check.sh

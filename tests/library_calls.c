@@ -26,7 +26,10 @@ static uint8_t *copy(const void *bytes, size_t size) {
   return made;
 }
 
-enum call { ASK, BUILD, SEARCH, TERMS };
+enum call { ASK, BUILD, SEARCH, TERMS, HANDLE_SEARCH, HANDLE_TERMS };
+
+/* What the calls by handle ask. */
+static ix_index handle;
 
 /* Makes a call over copies of the texts, with a buffer of exactly this size. */
 static uint32_t make(enum call call, const void *one, size_t one_size, const char *two, size_t two_size, const char *three,
@@ -38,6 +41,8 @@ static uint32_t make(enum call call, const void *one, size_t one_size, const cha
   case BUILD: status = ix_build(a, one_size, b, two_size, out, out_size, found); break;
   case SEARCH: status = ix_search(a, one_size, c, three_size, out, out_size, found); break;
   case TERMS: status = ix_terms(a, one_size, c, three_size, out, out_size, found); break;
+  case HANDLE_SEARCH: status = ix_index_search(&handle, c, three_size, out, out_size, found); break;
+  case HANDLE_TERMS: status = ix_index_terms(&handle, c, three_size, out, out_size, found); break;
   }
   free(a), free(b), free(c);
   return status;
@@ -61,6 +66,51 @@ static void expect(enum call call, const void *one, size_t one_size, const char 
 }
 #define EXPECT(call, one, size, stop, text, status, count, area, number, wanted)                                            \
   expect(call, one, size, stop, text, status, count, area, number, wanted, strlen(wanted), __LINE__)
+
+/* Opens the handle on a copy of a text, which is gone afterwards, and looks at what is told. */
+static void open_on(const void *text, size_t size, uint32_t status, const char *wanted, int line) {
+  uint8_t *held = copy(text, size), out[64];
+  memset(out, 7, sizeof out);
+  ix_found found = {99, 99, 99, 99};
+  uint32_t got = ix_index_open(&handle, held, size, out, sizeof out, &found);
+  size_t length = strlen(wanted);
+  see(got == status && found.size == length && found.count == 0 && handle.is_open == (status == IX_DONE), "opened", line);
+  see(memcmp(out, wanted, length) == 0 && out[length] == 7, "told", line);
+  free(held);
+}
+
+/* The handle, opened and asked as often as it pleases, closed twice, asked when it is closed. */
+static void by_handle(const uint8_t *index, size_t size) {
+  static const ix_index closed;
+  EXPECT(HANDLE_SEARCH, "", 0, "", "y", IX_CLOSED, 0, 0, 0, "");
+  ix_index_close(&handle);
+  SEE(memcmp(&handle, &closed, sizeof handle) == 0);
+  open_on(index, size, IX_DONE, "", __LINE__);
+  for (int round = 0; round < 3; round++) {
+    EXPECT(HANDLE_SEARCH, "", 0, "", "\"y x\"", IX_DONE, 1, 0, 0, "d\n");
+    EXPECT(HANDLE_SEARCH, "", 0, "", "NOT y", IX_DONE, 2, 0, 0, "c\ne\n");
+    EXPECT(HANDLE_SEARCH, "", 0, "", "(", IX_REFUSED, 0, IX_QUERY, 3, "query 3: End");
+    EXPECT(HANDLE_SEARCH, "", 0, "", "\xff", IX_NOT_UTF8, 0, IX_QUERY, 0, "");
+    EXPECT(HANDLE_TERMS, "", 0, "", "*x", IX_DONE, 1, 0, 0, "x\t3\n");
+    EXPECT(HANDLE_TERMS, "", 0, "", "x", IX_REFUSED, 0, IX_PATTERN, 1, "pattern 1: NoStar");
+    EXPECT(HANDLE_TERMS, "", 0, "", "\xff", IX_NOT_UTF8, 0, IX_PATTERN, 0, "");
+  }
+  open_on(index, size, IX_DONE, "", __LINE__);
+  EXPECT(HANDLE_SEARCH, "", 0, "", "y", IX_DONE, 3, 0, 0, "a\nb\nd\n");
+  open_on(index, size - 1, IX_REFUSED, "index 3: Trailer", __LINE__);
+  EXPECT(HANDLE_TERMS, "", 0, "", "x*", IX_CLOSED, 0, 0, 0, "");
+  open_on("", 0, IX_REFUSED, "index 1: Short", __LINE__);
+  open_on(index, size, IX_DONE, "", __LINE__);
+  ix_index moved = handle;
+  handle = closed;
+  EXPECT(HANDLE_SEARCH, "", 0, "", "y", IX_CLOSED, 0, 0, 0, "");
+  handle = moved;
+  EXPECT(HANDLE_SEARCH, "", 0, "", "y", IX_DONE, 3, 0, 0, "a\nb\nd\n");
+  ix_index_close(&handle);
+  ix_index_close(&handle);
+  EXPECT(HANDLE_SEARCH, "", 0, "", "y", IX_CLOSED, 0, 0, 0, "");
+  EXPECT(HANDLE_TERMS, "", 0, "", "*x", IX_CLOSED, 0, 0, 0, "");
+}
 
 int main(void) {
   size_t size = strlen(five);
@@ -100,6 +150,8 @@ int main(void) {
   EXPECT(TERMS, index, room, "", "**", IX_REFUSED, 0, IX_PATTERN, 2, "pattern 2: BareStar");
   EXPECT(TERMS, index, room, "", "\xff", IX_NOT_UTF8, 0, IX_PATTERN, 0, "");
   EXPECT(TERMS, "", 0, "", "x*", IX_REFUSED, 0, IX_INDEX, 1, "index 1: Short");
+
+  by_handle(index, room);
 
   /* An index text with one byte changed, wherever: it is refused, or it is another index text. */
   for (size_t place = 0; place < room; place++) {

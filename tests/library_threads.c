@@ -1,5 +1,6 @@
 /*
-** Several threads ask one index text at once, each with a buffer of its own, and each answer is that of one thread.
+** Several threads ask one index text at once, each with a buffer of its own, every second one through a handle of its
+** own, and each answer is that of one thread.
 */
 #include <ix.h>
 #include <pthread.h>
@@ -17,16 +18,30 @@ static const struct {
   const char *query, *names;
 } rows[] = {{"y", "a\nb\nd\n"}, {"\"y x\"", "d\n"}, {"NOT y", "c\ne\n"}, {"x* AND NOT y", "e\n"}, {"z", ""}};
 
-static void *ask(void *faults) {
+struct asker {
+  bool by_handle;
+  int faults;
+};
+
+static void *ask(void *given) {
+  struct asker *asker = given;
+  ix_index index = {0};
+  uint8_t line[32];
+  ix_found opened;
+  if (asker->by_handle && ix_index_open(&index, index_text, index_size, line, sizeof line, &opened) != IX_DONE)
+    asker->faults++;
   for (int round = 0; round < ROUNDS; round++)
     for (size_t i = 0; i < sizeof rows / sizeof *rows; i++) {
       uint8_t out[32];
       ix_found found;
-      uint32_t status = ix_search(index_text, index_size, (const uint8_t *)rows[i].query, strlen(rows[i].query), out,
-                                  sizeof out, &found);
-      size_t size = strlen(rows[i].names);
-      if (status != IX_DONE || found.size != size || memcmp(out, rows[i].names, size)) ++*(int *)faults;
+      const uint8_t *query = (const uint8_t *)rows[i].query;
+      size_t query_size = strlen(rows[i].query), size = strlen(rows[i].names);
+      uint32_t status =
+          asker->by_handle ? ix_index_search(&index, query, query_size, out, sizeof out, &found)
+                           : ix_search(index_text, index_size, query, query_size, out, sizeof out, &found);
+      if (status != IX_DONE || found.size != size || memcmp(out, rows[i].names, size)) asker->faults++;
     }
+  ix_index_close(&index);
   return NULL;
 }
 
@@ -38,12 +53,15 @@ int main(void) {
     return 1;
   index_size = found.size;
   pthread_t threads[THREADS];
-  int faults[THREADS] = {0}, all = 0;
-  for (int i = 0; i < THREADS; i++)
-    if (pthread_create(&threads[i], NULL, ask, &faults[i])) return 1;
+  struct asker askers[THREADS] = {{0}};
+  int all = 0;
+  for (int i = 0; i < THREADS; i++) {
+    askers[i].by_handle = i % 2;
+    if (pthread_create(&threads[i], NULL, ask, &askers[i])) return 1;
+  }
   for (int i = 0; i < THREADS; i++) {
     pthread_join(threads[i], NULL);
-    all += faults[i];
+    all += askers[i].faults;
   }
   printf("threads: %s\n", all ? "FAULTS" : "each answer is that of one thread");
   return all != 0;

@@ -17,6 +17,14 @@ status=0; ./search_files 'red fox' one two 2> err || status=$?
 test $status = 2 && test "$(cat err)" = "query 2: Unexpected(4)"
 cd - > /dev/null
 
+gcc -O2 -std=c11 -Wall -Wextra -Werror -Ibuild/include examples/library/search_index.c build/libix.a -o "$work/search_index"
+PYTHONDONTWRITEBYTECODE=1 PYTHONPATH=python python3 -c \
+    'import sys, ix; ix.build({"one": "The red fox runs.", "two": "A blue fox."}, sys.argv[1])' "$work/foxes"
+printf 'fox\n"fox runs"\nbear\nred fox\n' | "$work/search_index" "$work/foxes" > "$work/out"
+printf 'fox: one two \n"fox runs": one \nbear: \nred fox: query 2: Unexpected(4)\n' | cmp - "$work/out"
+status=0; "$work/search_index" "$work/one" < /dev/null 2> "$work/err" || status=$?
+test $status = 2 && test "$(cat "$work/err")" = "index 1: Short"
+
 cat > "$work/mail" << 'END'
 From ada@example.org Mon Nov 23 09:00:00 2026
 From: Ada <ada@example.org>

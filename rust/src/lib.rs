@@ -4,7 +4,7 @@
 //! use ix::{Collection, Index};
 //!
 //! let documents: Collection = [("one", "A red fox."), ("two", "The blue fox\nand a hound.")].into_iter().collect();
-//! let index = Index::build(&documents)?;
+//! let mut index = Index::build(&documents)?;
 //! let names = index.search("fox AND NOT red")?;
 //! assert_eq!(names.iter().collect::<Vec<_>>(), ["two"]);
 //! assert_eq!(index.search("red fox").unwrap_err().to_string(), "query 2: Unexpected(4)");
@@ -16,10 +16,11 @@
 mod calls;
 mod error;
 
-use calls::{call, Call};
+use calls::{call, Call, Handle};
 pub use error::{Area, Error};
 use std::fmt;
 use std::iter::FusedIterator;
+use std::sync::Arc;
 
 /// Documents: names and texts, in order. A name may come more than once.
 #[derive(Clone, Debug, Default, PartialEq, Eq)]
@@ -81,10 +82,13 @@ impl<'a> FromIterator<(&'a str, &'a str)> for Collection {
     }
 }
 
-/// The index of a collection: its index text, which each question looks at afresh. Threads may share it.
-#[derive(Clone, PartialEq, Eq)]
+/// The index of a collection, opened once: its index text, and what is asked of it.
+///
+/// One thread asks it at a time, so that to ask is `&mut`. Threads that ask side by side open one each on one text, as
+/// [`Index::again`] does.
 pub struct Index {
-    text: Vec<u8>,
+    text: Arc<[u8]>,
+    handle: Handle,
 }
 
 impl Index {
@@ -98,7 +102,7 @@ impl Index {
         let stop = stop_text(stop);
         let room = 2 * documents.text.len() + (1 << 12);
         let (text, _) = call(Call::Build(documents.text.as_bytes(), stop.as_bytes()), room)?;
-        Ok(Index { text })
+        Index::open(text)
     }
 
     /// The index of an index text, as [`Index::as_bytes`] or the program's `ix build` gives it. What is none is refused,
@@ -107,10 +111,25 @@ impl Index {
     /// ```
     /// assert_eq!(ix::Index::open(b"no index".to_vec()).unwrap_err().area(), ix::Area::Index);
     /// ```
-    pub fn open(text: Vec<u8>) -> Result<Index, Error> {
-        // The text is opened, to see that it is one; no term has a character that is not assigned.
-        call(Call::Terms(&text, "*\u{378}".as_bytes()), 1 << 8)?;
-        Ok(Index { text })
+    pub fn open(text: impl Into<Arc<[u8]>>) -> Result<Index, Error> {
+        let text = text.into();
+        let handle = Handle::open(&text)?;
+        Ok(Index { text, handle })
+    }
+
+    /// The same index opened once more, for another thread. The index text is shared.
+    ///
+    /// ```
+    /// let documents: ix::Collection = [("a", "fox"), ("b", "dog")].into_iter().collect();
+    /// let mut index = ix::Index::build(&documents)?;
+    /// let mut other = index.again()?;
+    /// let found = std::thread::spawn(move || other.search("fox"));
+    /// assert_eq!(index.search("dog")?.to_string(), "b\n");
+    /// assert_eq!(found.join().unwrap()?.to_string(), "a\n");
+    /// # Ok::<(), ix::Error>(())
+    /// ```
+    pub fn again(&self) -> Result<Index, Error> {
+        Index::open(Arc::clone(&self.text))
     }
 
     /// The index text.
@@ -119,8 +138,8 @@ impl Index {
     }
 
     /// The names of exactly the documents that satisfy the query, in the order in which they were indexed.
-    pub fn search(&self, query: &str) -> Result<Names, Error> {
-        let (names, count) = call(Call::Search(&self.text, query.as_bytes()), 1 << 16)?;
+    pub fn search(&mut self, query: &str) -> Result<Names, Error> {
+        let (names, count) = call(Call::Search(&mut self.handle, query.as_bytes()), 1 << 16)?;
         Ok(Names { text: lines(names), count })
     }
 
@@ -132,8 +151,8 @@ impl Index {
     /// assert_eq!(terms.iter().collect::<Vec<_>>(), [("red", 2), ("rod", 1)]);
     /// # Ok::<(), ix::Error>(())
     /// ```
-    pub fn terms(&self, pattern: &str) -> Result<Terms, Error> {
-        let (rows, count) = call(Call::Terms(&self.text, pattern.as_bytes()), 1 << 16)?;
+    pub fn terms(&mut self, pattern: &str) -> Result<Terms, Error> {
+        let (rows, count) = call(Call::Terms(&mut self.handle, pattern.as_bytes()), 1 << 16)?;
         Ok(Terms { text: lines(rows), count })
     }
 }

@@ -1,5 +1,7 @@
 pub mod Asking
 pub mod Filling
+pub mod Held
 pub mod Indexing
+pub mod Opening
 pub mod Searching
 pub mod Telling

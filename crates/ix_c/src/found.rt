@@ -16,6 +16,9 @@ const REFUSED: u32 = 1;
 /// A text that is to be UTF-8 is not.
 const NOT_UTF8: u32 = 2;
 
+/// The handle is closed.
+const CLOSED: u32 = 3;
+
 /// The line of want of memory, which takes none.
 const OUT_OF_MEMORY: &str = "memory 1: Memory";
 
@@ -32,6 +35,14 @@ pub struct Found {
     /// The number of a refusal in its area; else 0.
     pub number: u32,
 }
+
+/// What is told where there is nothing to tell.
+const NOTHING: Found = Found {
+    count: 0,
+    size: 0,
+    area: 0,
+    number: 0,
+};
 
 /// Puts the bytes at the front of a buffer, as many as it has room for.
 pub(crate) fn fill(out: &mut [u8], bytes: &[u8])
@@ -105,4 +116,20 @@ pub(crate) fn tell_not_utf8(area: Area, found: &mut Found) -> u32
         number: 0,
     };
     NOT_UTF8
+}
+
+/// Tells that what was asked for is done, and that nothing is put out.
+pub(crate) fn tell_done(found: &mut Found) -> u32
+    ensures { result ≡ 0 }
+{
+    *found = NOTHING;
+    DONE
+}
+
+/// Tells that the handle is closed.
+pub(crate) fn tell_closed(found: &mut Found) -> u32
+    ensures { result ≡ 3 }
+{
+    *found = NOTHING;
+    CLOSED
 }

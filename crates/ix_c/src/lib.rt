@@ -1,15 +1,21 @@
 //! The engine for programs in other languages: calls in C's form over those of the libraries, as `include/ix.h` has
-//! them. A call starts no thread and keeps nothing for the next one.
+//! them. A call starts no thread, and keeps nothing for the next one but what a handle holds.
 #![tactic(auto)]
 
 mod asking;
 mod found;
+mod handle;
+mod held;
 mod indexing;
+mod loose;
+mod opened;
 mod searching;
 #[cfg(test)]
 mod tests;
 
 pub use asking::ix_ask;
 pub use found::Found;
+pub use handle::Handle;
 pub use indexing::ix_build;
+pub use opened::{ix_index_close, ix_index_open, ix_index_search, ix_index_terms};
 pub use searching::{ix_search, ix_terms};

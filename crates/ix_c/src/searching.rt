@@ -56,7 +56,7 @@ fn search_in(alloc: Global, index: &[u8], query: &str) -> Result<Lines, EngineRe
 }
 
 /// What an opened index finds for a query.
-fn find_in(alloc: Global, index: &Index<'_>, query: &str) -> Result<Lines, EngineRefusal>
+pub(crate) fn find_in(alloc: Global, index: &Index<'_>, query: &str) -> Result<Lines, EngineRefusal>
     ensures found { IfOk result (λ names. (version : Version) (collection : Collection)
         → IsIndexOf index.now version collection
         → IsFound collection query.now names.bytes.items names.count) }
@@ -112,7 +112,11 @@ fn list_in(alloc: Global, index: &[u8], pattern: &str) -> Result<Lines, EngineRe
 }
 
 /// The lines of the terms of an opened index that match a pattern.
-fn match_in(alloc: Global, index: &Index<'_>, pattern: &str) -> Result<Lines, EngineRefusal>
+pub(crate) fn match_in(
+    alloc: Global,
+    index: &Index<'_>,
+    pattern: &str,
+) -> Result<Lines, EngineRefusal>
     ensures listed { IfOk result (λ rows. (version : Version) (collection : Collection)
         → IsIndexOf index.now version collection
         → IsListedOf collection pattern.now rows.bytes.items rows.count) }

@@ -1,6 +1,10 @@
 //! Each call once where it answers and once where it is refused, and a buffer that is too short.
 
-use crate::{Found, ix_ask, ix_build, ix_search, ix_terms};
+use crate::handle::Handle;
+use crate::{
+    Found, ix_ask, ix_build, ix_index_close, ix_index_open, ix_index_search, ix_index_terms,
+    ix_search, ix_terms,
+};
 use std::alloc::Global;
 use std::process::Abort;
 use std::test::Fail;
@@ -109,5 +113,39 @@ fn an_index_is_built_and_asked(rt: HostRuntime) -> Result<(), Fail> {
         &out,
         &Row(1, 0, b"collection 3: NoTab(1)"),
     );
+    Ok(())
+}
+
+#[test]
+fn an_index_is_opened_once_and_asked_often(rt: HostRuntime) -> Result<(), Fail> {
+    let mut text = [0; 1000];
+    let mut out = [0; 40];
+    let mut found = NOTHING;
+    let status = ix_build(rt.alloc(), FIVE, b"", &mut text, &mut found);
+    assert_eq!(rt; status, 0);
+    assert!(rt; found.size <= text.len());
+    let text = &mut text[..found.size];
+    let mut index = Handle::closed(rt.alloc());
+    let status = ix_index_search(rt.alloc(), &mut index, b"y", &mut out, &mut found);
+    expect(&rt, status, &found, &out, &Row(3, 0, b""));
+    let status = ix_index_open(rt.alloc(), &mut index, text, &mut out, &mut found);
+    expect(&rt, status, &found, &out, &Row(0, 0, b""));
+    text.fill(0);
+    for _ in 0..2 {
+        let status = ix_index_search(rt.alloc(), &mut index, b"\"y x\"", &mut out, &mut found);
+        expect(&rt, status, &found, &out, &Row(0, 1, b"d\n"));
+        let status = ix_index_terms(rt.alloc(), &mut index, b"x*", &mut out, &mut found);
+        expect(&rt, status, &found, &out, &Row(0, 1, b"x\t3\n"));
+        let status = ix_index_search(rt.alloc(), &mut index, b"(", &mut out, &mut found);
+        expect(&rt, status, &found, &out, &Row(1, 0, b"query 3: End"));
+        let status = ix_index_terms(rt.alloc(), &mut index, b"\xff", &mut out, &mut found);
+        assert_eq!(rt; (status, found.area), (2, 4));
+    }
+    let status = ix_index_open(rt.alloc(), &mut index, FIVE, &mut out, &mut found);
+    expect(&rt, status, &found, &out, &Row(1, 0, b"index 1: Short"));
+    let status = ix_index_terms(rt.alloc(), &mut index, b"x*", &mut out, &mut found);
+    expect(&rt, status, &found, &out, &Row(3, 0, b""));
+    ix_index_close(rt.alloc(), &mut index);
+    assert!(rt; !index.is_open);
     Ok(())
 }
