@@ -2,5 +2,8 @@ pub mod Answering
 pub mod FoundNames
 pub mod GroupLemmas
 pub mod LineLemmas
+pub mod PrintingLemmas
 pub mod Reading
+pub mod RunLemmas
+pub mod StepLemmas
 pub mod Uniqueness

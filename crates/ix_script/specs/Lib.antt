@@ -1,8 +1,11 @@
 pub mod Answers
 pub mod Groups
 pub mod Jobs
+pub mod PrintedAnswers
+pub mod Runs
 pub mod ScriptErrors
 pub mod ScriptFaults
 pub mod ScriptLaws
 pub mod Steps
+pub mod Stops
 pub mod Teams

@@ -1,5 +1,5 @@
 //! Teams: the searchers of a live index, which answer queries side by side.
-ghost use Rattle.std.specs.Prelude.{◌≡◌, ◌<◌, All, IfOk, map, vec_len};
+ghost use Rattle.std.specs.Prelude.{◌≡◌, ◌<◌, All, IfOk, Some, map, vec_len};
 ghost use Rattle.ix_script.specs.Answers.{AreAnswers};
 ghost use Rattle.ix_script.specs.Jobs.{names_in};
 ghost use Rattle.ix_script.specs.Teams.{IsOfIndex};
@@ -8,10 +8,10 @@ use crate::jobs::{do_jobs, gather, give_out};
 use ix_live::{News, Searcher};
 use ix_query::Query;
 use ix_text::{Memory, StopList};
-use std::alloc::Global;
+use std::alloc::{AllocError, Global};
 use std::marker::Model;
 use std::snapshot::Snapshot;
-use std::thread::{Threads, join};
+use std::thread::{Threads, join_mut};
 
 /// The searchers of a live index, one or more, and the news that they are to know. Contracts see the stop set, and the
 /// history of the news.
@@ -95,26 +95,32 @@ impl Team {
         Ok((team, answers))
     }
 
-    /// The answers to these queries as for `answer`, beside something else, which is done on this thread.
-    pub fn answer_beside<R: Threads + Sync, T, F: FnOnce() -> T>(
+    /// The answers to these queries as for `answer`, beside something else, which is done on this thread, once.
+    pub fn answer_beside<R: Threads + Sync, T, F: FnMut() -> T>(
         self,
         rt: &R,
         alloc: Global,
         queries: &[&Query],
-        beside: F,
+        beside: &mut F,
     ) -> (Result<(Team, Vec<Vec<String>>), Memory>, T)
-        requires { F.pre beside }
-        ensures beside { F.post beside result.1 }
+        requires { F.pre beside.old }
+        ensures beside { F.step beside.old result.1 beside.new }
         ensures team { IfOk result.0 (λ r. r.0 ≡ self) }
         ensures answers { IfOk result.0 (λ r. AreAnswers self.stop self.history.operations
             (map (λ query. query.now) queries.now) (map names_in r.1.items)) }
     {
-        let asks = move || -> Result<(Team, Vec<Vec<String>>), Memory>
-            ensures team { IfOk result (λ r. r.0 ≡ self) }
-            ensures answers { IfOk result (λ r. AreAnswers self.stop self.history.operations
+        let mut team = Some(self);
+        let mut asks = || -> Result<(Team, Vec<Vec<String>>), Memory>
+            ensures team { IfOk result (λ r. team.entry ≡ Some r.0) }
+            ensures answers { IfOk result (λ r. AreAnswers r.0.stop r.0.history.operations
                 (map (λ query. query.now) queries.entry.now) (map names_in r.1.items)) }
-        { self.answer(rt, alloc, queries) };
-        join(rt, asks, beside)
+        {
+            match team.take() {
+                Some(team) => team.answer(rt, alloc, queries),
+                None => Err(AllocError),
+            }
+        };
+        join_mut(rt, &mut asks, beside)
     }
 }
 

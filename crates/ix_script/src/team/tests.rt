@@ -63,7 +63,7 @@ fn ask_twice<R: Threads + Wait + Sync>(
     }
     let news = publish(rt, alloc, indexer, "1\tred fox\n")?;
     let team = Team::new(searchers, news, stop);
-    let (asked, other) = team.answer_beside(rt, alloc, &queries, || 7);
+    let (asked, other) = team.answer_beside(rt, alloc, &queries, &mut || 7);
     let (mut team, first) = asked?;
     let news = publish(rt, alloc, indexer, "2\tfox\n")?;
     team.learn(news);

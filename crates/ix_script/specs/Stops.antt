@@ -1,0 +1,90 @@
+-- Why steps of a script were refused, and what is left then.
+use Rattle.std.specs.Prelude.{◌≡◌, ℕ, ◌⊎◌, ◌^◌, ◌<◌, List, ◌∷◌, ◌++◌, length, Option}
+use Rattle.std.specs.Io.KnownBytes.{Keeps}
+use Rattle.ix_text.specs.CollectionFaults.{IsCollectionFault}
+use Rattle.ix_text.specs.Collections.{NamedText}
+use Rattle.ix_text.specs.Sinks.{AppendsFront}
+use Rattle.ix_text.specs.declared.collection.CollectionError.TheVariants as collection
+use Rattle.ix_live.specs.Growing.{documents_under}
+use Rattle.ix_live.specs.Indexers.{IndexerValue}
+use Rattle.ix_live.specs.LiveErrors.{RefusesAddition, RefusesRemoval}
+use Rattle.ix_script.specs.Runs.{Changes, HoldsDocuments, Progress, documents_in}
+use Rattle.ix_script.specs.Steps.{Add, Ask, Publish, Remove, Step, Text}
+use Rattle.ix_script.specs.Teams.{TeamValue}
+use Rattle.ix_script.specs.declared.collection_files.FileFault.{FileFault}
+use Rattle.ix_script.specs.declared.collection_files.FileFault.TheVariants as file
+use Rattle.ix_script.specs.declared.run_error.RunError.{RunError}
+use Rattle.ix_script.specs.declared.run_error.RunError.TheVariants.{Collection, Live, Memory, Unread, Write}
+
+-- how far the live index of an indexer has come
+abbrev pub progress_of : IndexerValue → Progress
+progress_of indexer = record { published = indexer.published; pending = indexer.pending }
+
+-- the team is of the live index of the indexer, and knows of all that is published
+abbrev pub IsTeamOf : IndexerValue → TeamValue → Type 0
+IsTeamOf indexer team = (team.stop ≡ indexer.stop) × (team.history.book ≡ indexer.book) × (team.history.operations ≡ indexer.published)
+
+-- ---- why a step was refused
+
+-- why a file was not read: it is too large only where it has more bytes than a collection text may have
+abbrev pub IsFileFault : (Text → Type 0) → FileFault → Type 0
+IsFileFault Holds file.Refused = Unit {0}
+IsFileFault Holds file.TooLarge = (text : Text) × Holds text × (2 ^ 28 < length text)
+IsFileFault Holds file.Memory = Unit {0}
+
+-- why there are no bytes of a file of this path
+abbrev pub IsUnread : (Text → Type 0) → Text → RunError → Type 0
+IsUnread Holds path (Unread named) = named.now ≡ path
+IsUnread Holds path (Collection error) = (error ≡ collection.TooLarge) × (text : Text) × Holds text × (2 ^ 28 < length text)
+IsUnread Holds path Memory = Unit {0}
+IsUnread Holds path _ = ⊥
+
+-- why there are no documents of a text: it is no collection text, or memory was refused
+abbrev pub IsNoCollection : Text → RunError → Type 0
+IsNoCollection text (Collection error) = (error ≡ collection.Memory) ⊎ IsCollectionFault text error
+IsNoCollection text _ = ⊥
+
+-- Why the documents of a file were not added by so many workers: it cannot be read, or holds no collection text, or a live
+-- index that has come so far does not take its documents.
+abbrev pub RefusesFile : (Text → Text → Type 0) → ℕ → List Text → Text → Progress → RunError → Type 0
+RefusesFile holds workers stop path before (Unread named) = named.now ≡ path
+RefusesFile holds workers stop path before (Collection error) = (text : Text) × holds path text × ((error ≡ collection.Memory) ⊎ IsCollectionFault text error)
+RefusesFile holds workers stop path before (Live error) =
+    (documents : List NamedText) × HoldsDocuments holds path documents × RefusesAddition workers (before.published ++ before.pending) (documents_under stop documents) error
+RefusesFile holds workers stop path before Write = ⊥
+RefusesFile holds workers stop path before Memory = Unit {0}
+
+-- why a document was not removed
+abbrev pub RefusesNumber : ℕ → Progress → RunError → Type 0
+RefusesNumber number before (Live error) = RefusesRemoval (length (documents_in before)) number error
+RefusesNumber number before _ = ⊥
+
+-- why an addition or a removal was refused by a live index that has come so far
+abbrev pub RefusesStep : (Text → Text → Type 0) → ℕ → List Text → Step → Progress → RunError → Type 0
+RefusesStep holds workers stop (Add path) before error = RefusesFile holds workers stop path before error
+RefusesStep holds workers stop Publish before error = ⊥
+RefusesStep holds workers stop (Ask query tree) before error = ⊥
+RefusesStep holds workers stop (Remove number) before error = RefusesNumber number before error
+
+-- One of these steps was refused, once all additions and removals before it were carried out.
+pub record RefusesChanges (holds : Text → Text → Type 0) (workers : ℕ) (stop : List Text) (steps : List Step) (before : Progress) (error : RunError) : Type 0 where
+  pub earlier : List Step
+  pub step : Step
+  pub later : List Step
+  pub now : Progress
+  pub cut : steps ≡ earlier ++ step ∷ later
+  pub changed : Changes holds stop earlier before now
+  pub refused : RefusesStep holds workers stop step now error
+
+-- why a group was refused: the first addition or removal that was, or memory
+abbrev pub RefusesGroup : (Text → Text → Type 0) → ℕ → List Text → List Step → Progress → RunError → Type 0
+RefusesGroup holds workers stop steps before error = (error ≡ Memory) ⊎ RefusesChanges holds workers stop steps before error
+
+-- ---- what is left
+
+-- why the lines of a group were not printed: the output refused them, and gained a beginning; or memory was refused, and it
+-- gained none
+abbrev pub IsUnprinted : Text → Option Text → Option Text → RunError → Type 0
+IsUnprinted lines old new Write = AppendsFront old new lines
+IsUnprinted lines old new Memory = Keeps old new
+IsUnprinted lines old new _ = ⊥

@@ -1,0 +1,137 @@
+//! The additions and removals of a script.
+ghost use Rattle.std.specs.Prelude.{◌≡◌, ◌<◌, [], ◌∷◌, false, IfErr, IfOk, OnOk, length, map};
+ghost use Rattle.ix_text.specs.CollectionText.{IsCollectionText};
+ghost use Rattle.ix_script.specs.Groups.{IsGroup, is_publish};
+ghost use Rattle.ix_script.specs.Runs.{Changes};
+ghost use Rattle.ix_script.specs.Steps.{Add, step_of};
+ghost use Rattle.ix_script.specs.Stops.{IsNoCollection, IsUnread, RefusesChanges, RefusesStep};
+ghost use Rattle.ix_script.specs.Stops.{progress_of};
+
+use crate::collection_files::{CollectionFiles, FileFault};
+use crate::run_error::RunError;
+use crate::step::Step;
+use ix_build::Plan;
+use ix_live::Indexer;
+use ix_text::{Collection, CollectionError};
+use std::alloc::Global;
+use std::sync::Wait;
+use std::thread::Threads;
+
+/// Why the additions and removals among steps were not all carried out: the step at this place was refused.
+#[derive(Drop)]
+pub struct Stopped<'t> {
+    /// The place of the step, from 0.
+    pub place: usize,
+    /// Why it was refused.
+    pub error: RunError<'t>,
+}
+
+/// Carries out the additions and removals of a group, up to the first that is refused; what they make waits to be
+/// published.
+pub fn change_all<'t, R: Threads + Wait + Sync, F: CollectionFiles>(
+    rt: &R,
+    alloc: Global,
+    files: &F,
+    plan: &Plan,
+    indexer: &mut Indexer,
+    group: &[Step<'t>],
+) -> Result<(), Stopped<'t>>
+    requires { IsGroup (map step_of group.now) }
+    ensures same { (indexer.new.stop ≡ indexer.old.stop)
+        × (indexer.new.book ≡ indexer.old.book)
+        × (indexer.new.published ≡ indexer.old.published) }
+    ensures changed { OnOk result (Changes (F.holds files.now) indexer.old.stop
+        (map step_of group.now) (progress_of indexer.old) (progress_of indexer.new)) }
+    ensures place { IfErr result (λ stopped. stopped.place < length group.now) }
+    ensures refused { IfErr result (λ stopped. RefusesChanges (F.holds files.now)
+        plan.now.workers indexer.old.stop (map step_of group.now) (progress_of indexer.old)
+        stopped.error) }
+{
+    let mut place = 0;
+    while place < group.len() {
+        match change(rt, alloc, files, plan, indexer, &group[place]) {
+            Ok(()) => place += 1,
+            Err(error) => return Err(Stopped { place, error }),
+        }
+    }
+    Ok(())
+}
+
+/// Carries out an addition or a removal; an ask is left out.
+fn change<'t, R: Threads + Wait + Sync, F: CollectionFiles>(
+    rt: &R,
+    alloc: Global,
+    files: &F,
+    plan: &Plan,
+    indexer: &mut Indexer,
+    step: &Step<'t>,
+) -> Result<(), RunError<'t>>
+    requires { is_publish (step_of step.now) ≡ false }
+    ensures same { (indexer.new.stop ≡ indexer.old.stop)
+        × (indexer.new.book ≡ indexer.old.book)
+        × (indexer.new.published ≡ indexer.old.published) }
+    ensures changed { OnOk result (Changes (F.holds files.now) indexer.old.stop
+        (step_of step.now ∷ []) (progress_of indexer.old) (progress_of indexer.new)) }
+    ensures refused { IfErr result (RefusesStep (F.holds files.now) plan.now.workers
+        indexer.old.stop (step_of step.now) (progress_of indexer.old)) }
+{
+    match step {
+        Step::Add(path) => add(rt, alloc, files, plan, indexer, path),
+        Step::Remove(number) => match indexer.remove(*number) {
+            Ok(()) => Ok(()),
+            Err(error) => Err(RunError::Live(error)),
+        },
+        Step::Ask(_, _) => Ok(()),
+        Step::Publish => unreachable!(),
+    }
+}
+
+/// Adds the documents of a collection file.
+fn add<'t, R: Threads + Wait + Sync, F: CollectionFiles>(
+    rt: &R,
+    alloc: Global,
+    files: &F,
+    plan: &Plan,
+    indexer: &mut Indexer,
+    path: &'t str,
+) -> Result<(), RunError<'t>>
+    ensures same { (indexer.new.stop ≡ indexer.old.stop)
+        × (indexer.new.book ≡ indexer.old.book)
+        × (indexer.new.published ≡ indexer.old.published) }
+    ensures changed { OnOk result (Changes (F.holds files.now) indexer.old.stop
+        (Add path.entry.now ∷ []) (progress_of indexer.old) (progress_of indexer.new)) }
+    ensures refused { IfErr result (RefusesStep (F.holds files.now) plan.now.workers
+        indexer.old.stop (Add path.entry.now) (progress_of indexer.old)) }
+{
+    let text = read(files, path)?;
+    let documents = documents_of(alloc, &text)?;
+    match indexer.add(rt, &documents, plan) {
+        Ok(()) => Ok(()),
+        Err(error) => Err(RunError::Live(error)),
+    }
+}
+
+/// The bytes of a collection file.
+fn read<'t, F: CollectionFiles>(files: &F, path: &'t str) -> Result<Vec<u8>, RunError<'t>>
+    ensures held { IfOk result (λ bytes. F.holds files.now path.entry.now bytes.items) }
+    ensures refused { IfErr result
+        (IsUnread (F.holds files.now path.entry.now) path.entry.now) }
+{
+    match files.read(path) {
+        Ok(bytes) => Ok(bytes),
+        Err(FileFault::Refused) => Err(RunError::Unread(path)),
+        Err(FileFault::TooLarge) => Err(RunError::Collection(CollectionError::TooLarge)),
+        Err(FileFault::Memory) => Err(RunError::Memory),
+    }
+}
+
+/// The documents of a collection text.
+fn documents_of<'t, 'e>(alloc: Global, text: &'t [u8]) -> Result<Collection<'t>, RunError<'e>>
+    ensures read { IfOk result (IsCollectionText text.now) }
+    ensures refused { IfErr result (IsNoCollection text.now) }
+{
+    match Collection::read(alloc, text) {
+        Ok(documents) => Ok(documents),
+        Err(error) => Err(RunError::Collection(error)),
+    }
+}

@@ -1,0 +1,134 @@
+//! A group of a script: its asks are answered while its additions and removals are carried out.
+ghost use Rattle.std.specs.Prelude.{◌≡◌, ◌<◌, ◌⊎◌, Ok, IfErr, IfOk, IsErrAnd, OnOk, length, map};
+ghost use Rattle.ix_script.specs.Answers.{AreAnswers};
+ghost use Rattle.ix_script.specs.Groups.{IsGroup};
+ghost use Rattle.ix_script.specs.Jobs.{names_in};
+ghost use Rattle.ix_script.specs.PrintedAnswers.{answered_with, asked_in};
+ghost use Rattle.ix_script.specs.Runs.{Changes, Runs};
+ghost use Rattle.ix_script.specs.Steps.{step_of};
+ghost use Rattle.ix_script.specs.Stops.{IsTeamOf, RefusesChanges, RefusesGroup, progress_of};
+ghost use Rattle.ix_script.specs.declared.run_error.RunError.TheVariants.{Memory};
+
+use crate::changing::{Stopped, change_all};
+use crate::collection_files::CollectionFiles;
+use crate::printing::queries_of;
+use crate::run_error::RunError;
+use crate::step::Step;
+use crate::team::Team;
+use ix_build::Plan;
+use ix_live::Indexer;
+use ix_text::Memory as MemoryRefused;
+use std::alloc::{AllocError, Global};
+use std::sync::Wait;
+use std::thread::Threads;
+
+/// Carries out a group: its additions and removals, and beside them its asks, which are answered after just what is
+/// published. The answers are lists of names, one for each ask, in order.
+///
+/// Where steps are refused, the error is that of the first of them.
+pub fn run_group<'t, R: Threads + Wait + Sync, F: CollectionFiles>(
+    rt: &R,
+    alloc: Global,
+    files: &F,
+    plan: &Plan,
+    indexer: &mut Indexer,
+    team: Team,
+    group: &[Step<'t>],
+) -> Result<(Team, Vec<Vec<String>>), RunError<'t>>
+    requires group { IsGroup (map step_of group.now) }
+    requires team { IsTeamOf indexer.old team }
+    ensures same { (indexer.new.stop ≡ indexer.old.stop)
+        × (indexer.new.book ≡ indexer.old.book)
+        × (indexer.new.published ≡ indexer.old.published) }
+    ensures team { IfOk result (λ r. r.0 ≡ team) }
+    ensures ran { IfOk result (λ r. Runs (F.holds files.now) indexer.old.stop
+        (map step_of group.now) (progress_of indexer.old) (progress_of indexer.new)
+        (answered_with (map step_of group.now) (map names_in r.1.items))) }
+    ensures count { IfOk result (λ r. length (map names_in r.1.items)
+        ≡ length (asked_in (map step_of group.now))) }
+    ensures refused { IfErr result (RefusesGroup (F.holds files.now) plan.now.workers
+        indexer.old.stop (map step_of group.now) (progress_of indexer.old)) }
+{
+    answer_and_change(rt, alloc, files, plan, indexer, team, group)
+}
+
+/// Carries out the additions and removals of a group, and beside it answers its asks after just what is published.
+fn answer_and_change<'t, R: Threads + Wait + Sync, F: CollectionFiles>(
+    rt: &R,
+    alloc: Global,
+    files: &F,
+    plan: &Plan,
+    indexer: &mut Indexer,
+    team: Team,
+    group: &[Step<'t>],
+) -> Result<(Team, Vec<Vec<String>>), RunError<'t>>
+    requires group { IsGroup (map step_of group.now) }
+    requires team { IsTeamOf indexer.old team }
+    ensures same { (indexer.new.stop ≡ indexer.old.stop)
+        × (indexer.new.book ≡ indexer.old.book)
+        × (indexer.new.published ≡ indexer.old.published) }
+    ensures team { IfOk result (λ r. r.0 ≡ team) }
+    ensures changed { IfOk result (λ r. Changes (F.holds files.now) indexer.old.stop
+        (map step_of group.now) (progress_of indexer.old) (progress_of indexer.new)) }
+    ensures answers { IfOk result (λ r. AreAnswers indexer.old.stop indexer.old.published
+        (asked_in (map step_of group.now)) (map names_in r.1.items)) }
+    ensures refused { IfErr result (RefusesGroup (F.holds files.now) plan.now.workers
+        indexer.old.stop (map step_of group.now) (progress_of indexer.old)) }
+{
+    let queries = match queries_of(alloc, group) {
+        Ok(queries) => queries,
+        Err(AllocError) => return Err(RunError::Memory),
+    };
+    let mut changes = || -> Result<(), Stopped<'_>>
+        requires { IsGroup (map step_of group.now) }
+        ensures same { (indexer.exit.now.stop ≡ indexer.entry.now.stop)
+            × (indexer.exit.now.book ≡ indexer.entry.now.book)
+            × (indexer.exit.now.published ≡ indexer.entry.now.published) }
+        ensures changed { OnOk result (Changes (F.holds files.entry.now) indexer.entry.now.stop
+            (map step_of group.entry.now) (progress_of indexer.entry.now)
+            (progress_of indexer.exit.now)) }
+        ensures place { IfErr result (λ stopped. stopped.place < length group.entry.now) }
+        ensures refused { IfErr result (λ stopped. RefusesChanges (F.holds files.entry.now)
+            plan.entry.now.workers indexer.entry.now.stop (map step_of group.entry.now)
+            (progress_of indexer.entry.now) stopped.error) }
+    { change_all(rt, alloc, files, plan, indexer, group) };
+    let (asked, changed) = team.answer_beside(rt, alloc, &queries, &mut changes);
+    both(group, asked, changed)
+}
+
+/// What a group comes to, of what its asks and what its additions and removals came to.
+fn both<'t>(
+    group: &[Step<'t>],
+    asked: Result<(Team, Vec<Vec<String>>), MemoryRefused>,
+    changed: Result<(), Stopped<'t>>,
+) -> Result<(Team, Vec<Vec<String>>), RunError<'t>>
+    requires { IfErr changed (λ stopped. stopped.place < length group.now) }
+    ensures asked { IfOk result (λ r. asked ≡ Ok r) }
+    ensures changed { IfOk result (λ r. changed.entry ≡ Ok tt) }
+    ensures refused { IfErr result (λ error. (error ≡ Memory)
+        ⊎ IsErrAnd changed.entry (λ stopped. error ≡ stopped.error)) }
+{
+    match (asked, changed) {
+        (Ok(answers), Ok(())) => Ok(answers),
+        (Err(AllocError), Ok(())) => Err(RunError::Memory),
+        (Ok(_), Err(stopped)) => Err(stopped.error),
+        (Err(AllocError), Err(stopped)) => {
+            // An ask was refused too, and memory is what it lacked.
+            if asks(&group[..stopped.place]) {
+                Err(RunError::Memory)
+            } else {
+                Err(stopped.error)
+            }
+        }
+    }
+}
+
+/// Whether one of these steps asks.
+fn asks(steps: &[Step<'_>]) -> bool {
+    for step in steps {
+        if matches!(step, Step::Ask(_, _)) {
+            return true;
+        }
+    }
+    false
+}

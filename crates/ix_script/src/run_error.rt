@@ -1,0 +1,21 @@
+//! Why a script was not carried out to its end.
+
+ghost use Rattle.std.specs.Prelude.{◌≡◌};
+
+use ix_live::LiveError;
+use ix_text::CollectionError;
+
+/// Why a script was not carried out to its end.
+#[derive(Clone, Copy, Debug, PartialEq, Eq)]
+pub enum RunError<'t> {
+    /// The file of this path, which the script names, cannot be read.
+    Unread(&'t str),
+    /// The file that the script names is no collection text.
+    Collection(CollectionError),
+    /// The live index refused an addition, a removal or a publish.
+    Live(LiveError),
+    /// The output refused the answers.
+    Write,
+    /// Memory was refused.
+    Memory,
+}

@@ -1,0 +1,46 @@
+//! Writing the answers of a group.
+ghost use Rattle.std.specs.Prelude.{◌≡◌, IfErr, IfOk, length, map};
+ghost use Rattle.std.specs.Io.KnownBytes.{Appends};
+ghost use Rattle.ix_script.specs.Jobs.{names_in};
+ghost use Rattle.ix_script.specs.PrintedAnswers.{answered_with, asked_in, lines_of};
+ghost use Rattle.ix_script.specs.Runs.{some_found};
+ghost use Rattle.ix_script.specs.Steps.{step_of};
+ghost use Rattle.ix_script.specs.Stops.{IsUnprinted};
+
+use crate::printing::lines_of;
+use crate::run_error::RunError;
+use crate::step::Step;
+use ix_text::{flush, put_all};
+use std::alloc::{AllocError, Global};
+use std::io::Write;
+
+/// Writes the answers to the asks of a group, flushes, and answers whether a name is among them. The answers are lists of
+/// names, one for each ask, in order.
+///
+/// After `Write` a beginning of them may be out, and after `Memory` nothing is.
+pub fn write_answers<'e, W: Write>(
+    alloc: Global,
+    group: &[Step<'_>],
+    answers: &[Vec<String>],
+    out: &mut W,
+) -> Result<bool, RunError<'e>>
+    requires { length answers.now ≡ length (asked_in (map step_of group.now)) }
+    ensures printed { IfOk result (λ found. Appends (W.contents out.old) (W.contents out.new)
+        (lines_of (answered_with (map step_of group.now) (map names_in answers.now)))) }
+    ensures found { IfOk result (λ found. found
+        ≡ some_found (answered_with (map step_of group.now) (map names_in answers.now))) }
+    ensures refused { IfErr result (IsUnprinted
+        (lines_of (answered_with (map step_of group.now) (map names_in answers.now)))
+        (W.contents out.old) (W.contents out.new)) }
+{
+    match lines_of(alloc, group, answers) {
+        Ok((lines, found)) => {
+            if put_all(out, lines.as_bytes()).is_ok() && flush(out).is_ok() {
+                Ok(found)
+            } else {
+                Err(RunError::Write)
+            }
+        }
+        Err(AllocError) => Err(RunError::Memory),
+    }
+}
