@@ -8,7 +8,8 @@
 **   A stop text is UTF-8, one word a line: words that are left out of the documents. Size 0: no stop words.
 **   A query is UTF-8: words, "phrases", AND, OR, NOT, NEAR/n, brackets, and patterns with stars.
 **   A pattern is UTF-8: a piece of a term, with a star where anything may stand.
-**   An index text is what ix_build gives, or the program's `ix build`, `ix merge` or `ix upgrade`; version 1 or 2.
+**   An index text is what ix_build and ix_merge give, or the program's `ix build`, `ix merge` or `ix upgrade`; version 1 or 2.
+**   A run text is what ix_run gives, or the program's `ix run`: a part of a collection, to be merged with the others.
 **   None of them ends with a NUL: each is handed over by its first byte and its size in bytes.
 **
 ** THE BUFFER
@@ -62,7 +63,8 @@ enum {
   IX_DONE = 0,     /* done, and `found` tells of what; that nothing was found is no refusal */
   IX_REFUSED = 1,  /* refused: `found->area` and `found->number` tell why, and `out` has the line that says it */
   IX_NOT_UTF8 = 2, /* a text that is to be UTF-8 is not: `found->area` tells which; `out` is as it was */
-  IX_CLOSED = 3    /* the handle is closed; `out` is as it was, and `found` is all zero */
+  IX_CLOSED = 3,   /* the handle is closed; `out` is as it was, and `found` is all zero */
+  IX_SIZES = 4     /* the sizes do not sum to that of the bytes; `out` is as it was, and `found` is all zero */
 };
 
 /* What a refusal is about, in `found->area`. Its place in the area's list of errors is in `found->number`, from 1. */
@@ -72,15 +74,15 @@ enum {
   IX_QUERY = 3,      /* the query does */
   IX_PATTERN = 4,    /* the pattern does */
   IX_INDEX = 5,      /* the bytes are no index text */
-  IX_RUN = 6,        /* (of the program) */
-  IX_MERGE = 7,      /* (of the program) */
+  IX_RUN = 6,        /* no run holds so many documents or tokens, counted from that number on; or memory ran out */
+  IX_MERGE = 7,      /* the run texts are not merged */
   IX_BUILD = 8,      /* (of the program) */
   IX_MEMORY = 9      /* memory ran out, where no other area tells it */
 };
 
 /* What a call tells beside its answer. */
 typedef struct ix_found {
-  size_t count;    /* how many names or terms were found; 0 after a refusal, and for ix_build */
+  size_t count;    /* how many names or terms were found; 0 after a refusal, and for index and run texts */
   size_t size;     /* how many bytes there are for `out`, whether it has room for them or not; 0 after IX_NOT_UTF8 */
   uint32_t area;   /* IX_COLLECTION .. IX_MEMORY after a refusal or IX_NOT_UTF8; else 0 */
   uint32_t number; /* the error's number after a refusal; else 0 */
@@ -116,6 +118,32 @@ uint32_t ix_ask(const uint8_t *collection, size_t collection_size, const uint8_t
 */
 uint32_t ix_build(const uint8_t *collection, size_t collection_size, const uint8_t *stop, size_t stop_size,
                   uint8_t *out, size_t out_size, ix_found *found);
+
+/*
+** ix_run: inverts a part of a collection.
+**
+** Gives the one run text of the documents without the stop words, which are counted from `first` on: the same bytes as
+** `ix run --first`. A part begins at the number of documents before it.
+**
+** Refuses with IX_STOP, IX_COLLECTION, IX_RUN and IX_MEMORY. IX_NOT_UTF8 with IX_STOP.
+*/
+uint32_t ix_run(const uint8_t *collection, size_t collection_size, const uint8_t *stop, size_t stop_size, uint32_t first,
+                uint8_t *out, size_t out_size, ix_found *found);
+
+/*
+** ix_merge: merges the runs of all parts of a collection.
+**
+** The run texts stand one behind another in `runs`, in any order of the parts; `sizes` has the size of each, and `count`
+** is how many there are. Gives the one index text, of version 2, of the whole collection: the same bytes as ix_build of
+** all documents in one, by the same stop words. `sizes` is not null either, also where `count` is 0.
+**
+** IX_SIZES where the sizes do not sum to `runs_size`. Refuses with IX_MERGE and IX_MEMORY. The line says what the program
+** prints: `merge 1: Gap(2)` where no run has document 2 and one has a document behind it, `merge 2: Overlap(2)` where two
+** have it, `merge 3: StopDiffers`, `merge 4: Source(1, Magic)` where the bytes at place 1 of the list, from 0, are no run
+** text, with their error, `merge 5: TooLarge`, and `merge 6: Write` or `merge 7: Memory` where memory ran out.
+*/
+uint32_t ix_merge(const uint8_t *runs, size_t runs_size, const size_t *sizes, size_t count, uint8_t *out,
+                  size_t out_size, ix_found *found);
 
 /*
 ** ix_search: asks an index text.
@@ -163,6 +191,15 @@ uint32_t ix_index_search(ix_index *index, const uint8_t *query, size_t query_siz
                          ix_found *found);
 uint32_t ix_index_terms(ix_index *index, const uint8_t *pattern, size_t pattern_size, uint8_t *out, size_t out_size,
                         ix_found *found);
+
+/*
+** ix_index_names: lists the documents of an opened index.
+**
+** Gives the names of exactly all documents of the index that the handle stands for, each with LF, in their order;
+** `found->count` is how many. The handle stands for the same index afterwards. Refuses with IX_MEMORY. IX_CLOSED where
+** it is closed.
+*/
+uint32_t ix_index_names(ix_index *index, uint8_t *out, size_t out_size, ix_found *found);
 
 #if defined(__cplusplus)
 static_assert(sizeof(ix_found) == 2 * sizeof(size_t) + 8, "ix_found");

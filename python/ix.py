@@ -61,6 +61,14 @@ class IndexTextError(Error):
     """The bytes are the index text of no collection."""
 
 
+class RunError(Error):
+    """The documents make no run: counted from their first number on, they are more than a run holds."""
+
+
+class MergeError(Error):
+    """The bytes are not the run texts of the parts of one collection, each part once, under the same stop words."""
+
+
 class OutOfMemory(Error, MemoryError):
     """Memory ran out."""
 
@@ -72,6 +80,8 @@ _AREAS: dict[int, type[Error]] = {
     3: QueryError,
     4: PatternError,
     5: IndexTextError,
+    6: RunError,
+    7: MergeError,
     9: OutOfMemory,
 }
 
@@ -101,15 +111,19 @@ def _load() -> ctypes.CDLL:
         raise ImportError(f"there is no {beside}: run `make lib`, or name the library in IX_LIBRARY")
     library = ctypes.CDLL(path)
     handle = [ctypes.POINTER(_Handle)]
-    for name, first, texts in (
-        ("ix_ask", [], 3),
-        ("ix_build", [], 2),
-        ("ix_index_open", handle, 1),
-        ("ix_index_search", handle, 1),
-        ("ix_index_terms", handle, 1),
+    text = [ctypes.c_char_p, ctypes.c_size_t]
+    for name, given in (
+        ("ix_ask", text * 3),
+        ("ix_build", text * 2),
+        ("ix_run", [*text, *text, ctypes.c_uint32]),
+        ("ix_merge", [*text, ctypes.POINTER(ctypes.c_size_t), ctypes.c_size_t]),
+        ("ix_index_open", handle + text),
+        ("ix_index_search", handle + text),
+        ("ix_index_terms", handle + text),
+        ("ix_index_names", handle),
     ):
         call = getattr(library, name)
-        call.argtypes = first + [ctypes.c_char_p, ctypes.c_size_t] * (texts + 1) + [ctypes.POINTER(_Found)]
+        call.argtypes = [*given, *text, ctypes.POINTER(_Found)]
         call.restype = ctypes.c_uint32
     library.ix_index_close.argtypes = handle
     library.ix_index_close.restype = None
@@ -119,16 +133,16 @@ def _load() -> ctypes.CDLL:
 _LIBRARY = _load()
 
 
-def _call(name: str, texts: tuple[bytes, ...], room: int, *first: object) -> tuple[bytes, int]:
-    """The bytes that a call gives for these texts, behind what stands first, and the count that it tells.
+def _call(name: str, room: int, *given: object) -> tuple[bytes, int]:
+    """The bytes that a call gives, and the count that it tells. A text of those given goes with its size.
 
     `room` is a guess of how many bytes there are.
     """
-    sized = [part for text in texts for part in (text, len(text))]
+    sized = [part for one in given for part in ((one, len(one)) if isinstance(one, bytes) else (one,))]
     while True:
         out = ctypes.create_string_buffer(max(room, 1))
         found = _Found()
-        status = getattr(_LIBRARY, name)(*first, *sized, out, len(out), ctypes.byref(found))
+        status = getattr(_LIBRARY, name)(*sized, out, len(out), ctypes.byref(found))
         if found.size <= len(out):
             break
         room = found.size
@@ -200,12 +214,12 @@ class Index:
         # The library's rule for a handle is one thread at a time.
         self._lock = threading.Lock()
         self._close = weakref.finalize(self, _LIBRARY.ix_index_close, self._handle)
-        self._ask("ix_index_open", self._text, 1 << 8)
+        self._ask("ix_index_open", 1 << 8, self._text)
 
-    def _ask(self, name: str, text: bytes, room: int) -> bytes:
-        """The bytes that a call of the handle gives for a text."""
+    def _ask(self, name: str, room: int, *texts: bytes) -> bytes:
+        """The bytes that a call of the handle gives for these texts."""
         with self._lock:
-            return _call(name, (text,), room, self._handle)[0]
+            return _call(name, room, self._handle, *texts)[0]
 
     def close(self) -> None:
         """Closes the index. A closed one stays closed; its text can still be read and saved."""
@@ -224,7 +238,7 @@ class Index:
         >>> build([("a", "x y"), ("b", "y"), ("c", "")]).search("NOT x")
         ['b', 'c']
         """
-        return _lines(self._ask("ix_index_search", query.encode(), 1 << 16))
+        return _lines(self._ask("ix_index_search", 1 << 16, query.encode()))
 
     def terms(self, pattern: str) -> Iterator[Term]:
         """Exactly the terms that match the pattern, in the order of their bytes, and in how many documents each is.
@@ -232,9 +246,17 @@ class Index:
         >>> list(build({"a": "red rod", "b": "Red"}).terms("r*d"))
         [Term(term='red', documents=2), Term(term='rod', documents=1)]
         """
-        for row in _lines(self._ask("ix_index_terms", pattern.encode(), 1 << 16)):
+        for row in _lines(self._ask("ix_index_terms", 1 << 16, pattern.encode())):
             term, documents = row.rsplit("\t", 1)
             yield Term(term, int(documents))
+
+    def names(self) -> list[str]:
+        """The names of all documents, in the order in which they were indexed.
+
+        >>> build([("b", "x"), ("a", ""), ("b", "y")]).names()
+        ['b', 'a', 'b']
+        """
+        return _lines(self._ask("ix_index_names", 1 << 16))
 
     def save(self, path: Union[str, os.PathLike[str]]) -> None:
         """Saves the index text under a path: whole, or not at all."""
@@ -270,11 +292,42 @@ def build(
     ix.QueryError: query 7: OnlyStopWords
     """
     collection = _collection(documents)
-    text, _ = _call("ix_build", (collection, _stop(stop)), 2 * len(collection) + (1 << 12))
+    text, _ = _call("ix_build", 2 * len(collection) + (1 << 12), collection, _stop(stop))
     index = Index(text)
     if path is not None:
         index.save(path)
     return index
+
+
+def run(documents: Documents, first: int = 0, *, stop: Iterable[str] = ()) -> bytes:
+    """The run text of a part of a collection, its documents counted from `first` on: what `merge` takes.
+
+    `first` is how many documents stand before the part.
+    """
+    if not 0 <= first < 1 << 32:
+        raise ValueError(f"no number of a document: {first}")
+    collection = _collection(documents)
+    text, _ = _call("ix_run", 2 * len(collection) + (1 << 12), collection, _stop(stop), first)
+    return text
+
+
+def merge(runs: Iterable[bytes]) -> Index:
+    """The index of a collection from the run texts of its parts, each part once, in any order.
+
+    >>> parts = run({"a": "fox"}), run({"b": "dog", "c": "fox"}, 1)
+    >>> merge(reversed(parts)).search("fox")
+    ['a', 'c']
+    >>> merge(parts).text == build({"a": "fox", "b": "dog", "c": "fox"}).text
+    True
+    >>> merge(parts[1:])
+    Traceback (most recent call last):
+    ix.MergeError: merge 1: Gap(0)
+    """
+    runs = list(runs)
+    sizes = (ctypes.c_size_t * max(len(runs), 1))(*map(len, runs))
+    whole = b"".join(runs)
+    text, _ = _call("ix_merge", 2 * len(whole) + (1 << 12), whole, sizes, len(runs))
+    return Index(text)
 
 
 def open(path: Union[str, os.PathLike[str]]) -> Index:  # pylint: disable=redefined-builtin
@@ -295,5 +348,5 @@ def ask(documents: Documents, query: str, *, stop: Iterable[str] = ()) -> list[s
     >>> ask([("a", "x y"), ("b", "y z")], "y AND NOT x")
     ['b']
     """
-    names, _ = _call("ix_ask", (_collection(documents), _stop(stop), query.encode()), 1 << 16)
+    names, _ = _call("ix_ask", 1 << 16, _collection(documents), _stop(stop), query.encode())
     return _lines(names)

@@ -4,7 +4,7 @@
     tests/check_library.py [COUNT] [SEED]
 
 Makes COUNT collections (10,000 without one) of ASCII words, each with stop words and queries of every kind, asks each in
-three ways (`ask`, a built index, its saved file opened), and lists terms. Prints the seed, so that a run can be made again.
+three ways (`ask`, a built index, its saved file opened), merges the runs of two parts, and lists names and terms. Prints the seed, so that a run can be made again.
 """
 
 import itertools
@@ -117,6 +117,10 @@ def check(rng, folder):
     built = ix.build(texts, f"{folder}/index", stop=stop)
     opened = ix.open(f"{folder}/index")
     assert opened.text == built.text
+    cut = rng.randint(0, len(texts))
+    parts = [ix.run(texts[:cut], stop=stop), ix.run(texts[cut:], cut, stop=stop)]
+    assert ix.merge(rng.sample(parts, 2)).text == built.text, (texts, stop, cut)
+    assert opened.names() == [name for name, _ in texts], texts
     for _ in range(4):
         text, asks = query(rng, stop, 2)
         wanted = [name for name, held in lists if asks(held)]

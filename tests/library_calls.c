@@ -26,7 +26,7 @@ static uint8_t *copy(const void *bytes, size_t size) {
   return made;
 }
 
-enum call { ASK, BUILD, SEARCH, TERMS, HANDLE_SEARCH, HANDLE_TERMS };
+enum call { ASK, BUILD, SEARCH, TERMS, HANDLE_SEARCH, HANDLE_TERMS, HANDLE_NAMES };
 
 /* What the calls by handle ask. */
 static ix_index handle;
@@ -43,6 +43,7 @@ static uint32_t make(enum call call, const void *one, size_t one_size, const cha
   case TERMS: status = ix_terms(a, one_size, c, three_size, out, out_size, found); break;
   case HANDLE_SEARCH: status = ix_index_search(&handle, c, three_size, out, out_size, found); break;
   case HANDLE_TERMS: status = ix_index_terms(&handle, c, three_size, out, out_size, found); break;
+  case HANDLE_NAMES: status = ix_index_names(&handle, out, out_size, found); break;
   }
   free(a), free(b), free(c);
   return status;
@@ -94,6 +95,7 @@ static void by_handle(const uint8_t *index, size_t size) {
     EXPECT(HANDLE_TERMS, "", 0, "", "*x", IX_DONE, 1, 0, 0, "x\t3\n");
     EXPECT(HANDLE_TERMS, "", 0, "", "x", IX_REFUSED, 0, IX_PATTERN, 1, "pattern 1: NoStar");
     EXPECT(HANDLE_TERMS, "", 0, "", "\xff", IX_NOT_UTF8, 0, IX_PATTERN, 0, "");
+    EXPECT(HANDLE_NAMES, "", 0, "", "", IX_DONE, 5, 0, 0, "a\nb\nc\nd\ne\n");
   }
   open_on(index, size, IX_DONE, "", __LINE__);
   EXPECT(HANDLE_SEARCH, "", 0, "", "y", IX_DONE, 3, 0, 0, "a\nb\nd\n");
@@ -110,6 +112,75 @@ static void by_handle(const uint8_t *index, size_t size) {
   ix_index_close(&handle);
   EXPECT(HANDLE_SEARCH, "", 0, "", "y", IX_CLOSED, 0, 0, 0, "");
   EXPECT(HANDLE_TERMS, "", 0, "", "*x", IX_CLOSED, 0, 0, 0, "");
+  EXPECT(HANDLE_NAMES, "", 0, "", "", IX_CLOSED, 0, 0, 0, "");
+}
+
+/* Merges run texts that lie one behind another, with every size of buffer up to beyond what is wanted. */
+static void merge(const uint8_t *runs, size_t runs_size, const size_t *sizes, size_t count, uint32_t status, uint32_t number,
+                  const void *wanted, size_t size, int line) {
+  uint8_t *held = copy(runs, runs_size);
+  size_t *held_sizes = (size_t *)copy(sizes, count * sizeof *sizes);
+  for (size_t room = 0; room <= size + 2; room++) {
+    uint8_t *out = malloc(room ? room : 1);
+    memset(out, 7, room);
+    ix_found found = {99, 99, 99, 99};
+    uint32_t got = ix_merge(held, runs_size, held_sizes, count, out, room, &found);
+    size_t front = size < room ? size : room, behind = front;
+    while (behind < room && out[behind] == 7) behind++;
+    see(got == status && found.count == 0 && found.size == size && found.number == number, "told", line);
+    see(found.area == (status == IX_REFUSED ? IX_MERGE : 0), "area", line);
+    see(memcmp(out, wanted, front) == 0 && behind == room, "put out", line);
+    free(out);
+  }
+  free(held), free(held_sizes);
+}
+#define MERGE(runs, sizes, count, status, number, wanted)                                                                   \
+  merge(runs, sizes[0] + (count > 1 ? sizes[1] : 0), sizes, count, status, number, wanted, strlen(wanted), __LINE__)
+
+/* The run text of a part of `five`, behind what stands in the buffer already; answers its size. */
+static size_t run_part(size_t begin, size_t end, uint32_t first, const char *stop, uint8_t *out, size_t room) {
+  uint8_t *part = copy(five + begin, end - begin), *words = copy(stop, strlen(stop)), none[1];
+  ix_found sized, found;
+  SEE(ix_run(part, end - begin, words, strlen(stop), first, none, 0, &sized) == IX_DONE);
+  SEE(sized.size <= room && sized.count == 0);
+  SEE(ix_run(part, end - begin, words, strlen(stop), first, out, sized.size, &found) == IX_DONE);
+  SEE(found.size == sized.size && found.area == 0 && found.number == 0);
+  free(part), free(words);
+  return found.size;
+}
+
+/* Parts of the collection inverted by themselves, and merged in the other order, are the index of the whole. */
+static void in_parts(const uint8_t *index, size_t size) {
+  uint8_t runs[1000], out[64];
+  size_t sizes[2], all = strlen(five), cut = 10;
+  ix_found found;
+  sizes[0] = run_part(cut, all, 2, "", runs, sizeof runs);
+  sizes[1] = run_part(0, cut, 0, "", runs + sizes[0], sizeof runs - sizes[0]);
+  merge(runs, sizes[0] + sizes[1], sizes, 2, IX_DONE, 0, index, size, __LINE__);
+  MERGE(runs, sizes, 1, IX_REFUSED, 1, "merge 1: Gap(0)");
+  size_t off[2] = {sizes[0], sizes[1] + 1};
+  merge(runs, sizes[0] + sizes[1], off, 2, IX_SIZES, 0, "", 0, __LINE__);
+  off[1] = sizes[1] - 1;
+  merge(runs, sizes[0] + sizes[1], off, 2, IX_SIZES, 0, "", 0, __LINE__);
+  off[0] = SIZE_MAX;
+  merge(runs, sizes[0] + sizes[1], off, 2, IX_SIZES, 0, "", 0, __LINE__);
+  merge(runs, sizes[0] + sizes[1], sizes, 0, IX_SIZES, 0, "", 0, __LINE__);
+  sizes[0] = run_part(0, cut, 0, "", runs, sizeof runs);
+  sizes[1] = run_part(cut, all, 3, "", runs + sizes[0], sizeof runs - sizes[0]);
+  MERGE(runs, sizes, 2, IX_REFUSED, 1, "merge 1: Gap(2)");
+  size_t one[2] = {sizes[0], sizes[0]};
+  memcpy(runs + sizes[0], runs, sizes[0]);
+  MERGE(runs, one, 2, IX_REFUSED, 2, "merge 2: Overlap(0)");
+  sizes[1] = run_part(cut, all, 2, "x", runs + sizes[0], sizeof runs - sizes[0]);
+  MERGE(runs, sizes, 2, IX_REFUSED, 3, "merge 3: StopDiffers");
+  runs[sizes[0]] ^= 1;
+  MERGE(runs, sizes, 2, IX_REFUSED, 4, "merge 4: Source(1, Magic)");
+  SEE(ix_run((const uint8_t *)five, all, runs, 0, UINT32_MAX, out, sizeof out, &found) == IX_REFUSED);
+  SEE(found.area == IX_RUN && found.number == 1 && found.size == 15 && memcmp(out, "run 1: TooLarge", 15) == 0);
+  SEE(ix_run((const uint8_t *)five, all - 1, runs, 0, 0, out, sizeof out, &found) == IX_REFUSED);
+  SEE(found.area == IX_COLLECTION && found.number == 5);
+  SEE(ix_run((const uint8_t *)five, all, (const uint8_t *)"\xff", 1, 0, out, sizeof out, &found) == IX_NOT_UTF8);
+  SEE(found.area == IX_STOP && found.number == 0 && found.size == 0);
 }
 
 int main(void) {
@@ -152,6 +223,7 @@ int main(void) {
   EXPECT(TERMS, "", 0, "", "x*", IX_REFUSED, 0, IX_INDEX, 1, "index 1: Short");
 
   by_handle(index, room);
+  in_parts(index, room);
 
   /* An index text with one byte changed, wherever: it is refused, or it is another index text. */
   for (size_t place = 0; place < room; place++) {

@@ -61,6 +61,25 @@ extern "C" {
         out_size: usize,
         found: *mut Found,
     ) -> u32;
+    fn ix_run(
+        collection: *const u8,
+        collection_size: usize,
+        stop: *const u8,
+        stop_size: usize,
+        first: u32,
+        out: *mut u8,
+        out_size: usize,
+        found: *mut Found,
+    ) -> u32;
+    fn ix_merge(
+        runs: *const u8,
+        runs_size: usize,
+        sizes: *const usize,
+        count: usize,
+        out: *mut u8,
+        out_size: usize,
+        found: *mut Found,
+    ) -> u32;
     fn ix_index_open(
         index: *mut Handle,
         text: *const u8,
@@ -86,15 +105,19 @@ extern "C" {
         out_size: usize,
         found: *mut Found,
     ) -> u32;
+    fn ix_index_names(index: *mut Handle, out: *mut u8, out_size: usize, found: *mut Found) -> u32;
 }
 
 /// A call, with its texts.
 pub(crate) enum Call<'a> {
     Ask(&'a [u8], &'a [u8], &'a [u8]),
     Build(&'a [u8], &'a [u8]),
+    Run(&'a [u8], &'a [u8], u32),
+    Merge(&'a [u8], &'a [usize]),
     Open(&'a mut Handle, &'a [u8]),
     Search(&'a mut Handle, &'a [u8]),
     Terms(&'a mut Handle, &'a [u8]),
+    Names(&'a mut Handle),
 }
 
 impl Call<'_> {
@@ -119,6 +142,12 @@ impl Call<'_> {
                 Call::Build(text, stop) => {
                     ix_build(text.as_ptr(), text.len(), stop.as_ptr(), stop.len(), to, room, found)
                 }
+                Call::Run(text, stop, first) => {
+                    ix_run(text.as_ptr(), text.len(), stop.as_ptr(), stop.len(), *first, to, room, found)
+                }
+                Call::Merge(runs, sizes) => {
+                    ix_merge(runs.as_ptr(), runs.len(), sizes.as_ptr(), sizes.len(), to, room, found)
+                }
                 Call::Open(index, text) => {
                     ix_index_open(*index, text.as_ptr(), text.len(), to, room, found)
                 }
@@ -128,6 +157,7 @@ impl Call<'_> {
                 Call::Terms(index, pattern) => {
                     ix_index_terms(*index, pattern.as_ptr(), pattern.len(), to, room, found)
                 }
+                Call::Names(index) => ix_index_names(*index, to, room, found),
             }
         }
     }

@@ -16,6 +16,10 @@ pub enum Area {
     Pattern,
     /// The bytes are no index text.
     Index,
+    /// The documents make no run: counted from their first number on, they are more than a run holds.
+    Run,
+    /// The bytes are not the run texts of the parts of one collection, each part once, under the same stop words.
+    Merge,
     /// Memory ran out.
     Memory,
 }
@@ -28,6 +32,8 @@ impl Area {
             3 => Area::Query,
             4 => Area::Pattern,
             5 => Area::Index,
+            6 => Area::Run,
+            7 => Area::Merge,
             9 => Area::Memory,
             _ => unreachable!("no call of this crate is refused with area {number}"),
         }

@@ -66,6 +66,16 @@ impl Collection {
     }
 }
 
+impl Collection {
+    /// The run text of these documents as a part of a collection, for [`Index::merge`]. They are counted from `first`
+    /// on, which is how many documents stand before the part.
+    pub fn run(&self, first: u32, stop: &[&str]) -> Result<Vec<u8>, Error> {
+        let stop = stop_text(stop);
+        let room = 2 * self.text.len() + (1 << 12);
+        Ok(call(Call::Run(self.text.as_bytes(), stop.as_bytes(), first), room)?.0)
+    }
+}
+
 impl<'a> Extend<(&'a str, &'a str)> for Collection {
     fn extend<I: IntoIterator<Item = (&'a str, &'a str)>>(&mut self, documents: I) {
         for (name, text) in documents {
@@ -105,6 +115,23 @@ impl Index {
         Index::open(text)
     }
 
+    /// The index of a collection from the run texts of its parts, as [`Collection::run`] or the program's `ix run` gives
+    /// them: each part once, in any order. What are none is refused, with [`Area::Merge`].
+    ///
+    /// ```
+    /// let part = |rows: &[(&'static str, &'static str)]| rows.iter().copied().collect::<ix::Collection>();
+    /// let runs = [part(&[("b", "dog"), ("c", "fox")]).run(1, &[])?, part(&[("a", "fox")]).run(0, &[])?];
+    /// assert_eq!(ix::Index::merge(&runs)?.search("fox")?.to_string(), "a\nc\n");
+    /// assert_eq!(ix::Index::merge(&runs[..1]).unwrap_err().to_string(), "merge 1: Gap(0)");
+    /// # Ok::<(), ix::Error>(())
+    /// ```
+    pub fn merge<R: AsRef<[u8]>>(runs: &[R]) -> Result<Index, Error> {
+        let sizes: Vec<usize> = runs.iter().map(|run| run.as_ref().len()).collect();
+        let whole: Vec<u8> = runs.iter().flat_map(|run| run.as_ref()).copied().collect();
+        let (text, _) = call(Call::Merge(&whole, &sizes), 2 * whole.len() + (1 << 12))?;
+        Index::open(text)
+    }
+
     /// The index of an index text, as [`Index::as_bytes`] or the program's `ix build` gives it. What is none is refused,
     /// with [`Area::Index`].
     ///
@@ -140,6 +167,18 @@ impl Index {
     /// The names of exactly the documents that satisfy the query, in the order in which they were indexed.
     pub fn search(&mut self, query: &str) -> Result<Names, Error> {
         let (names, count) = call(Call::Search(&mut self.handle, query.as_bytes()), 1 << 16)?;
+        Ok(Names { text: lines(names), count })
+    }
+
+    /// The names of all documents, in the order in which they were indexed.
+    ///
+    /// ```
+    /// let documents: ix::Collection = [("b", "x"), ("a", ""), ("b", "y")].into_iter().collect();
+    /// assert_eq!(ix::Index::build(&documents)?.names()?.iter().collect::<Vec<_>>(), ["b", "a", "b"]);
+    /// # Ok::<(), ix::Error>(())
+    /// ```
+    pub fn names(&mut self) -> Result<Names, Error> {
+        let (names, count) = call(Call::Names(&mut self.handle), 1 << 16)?;
         Ok(Names { text: lines(names), count })
     }
 

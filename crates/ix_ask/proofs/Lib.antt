@@ -2,5 +2,6 @@ pub mod AloneLemmas
 pub mod AskLemmas
 pub mod HeadlineLemmas
 pub mod ListingLemmas
+pub mod MergingLemmas
 pub mod NameLemmas
 pub mod OneTextLemmas

@@ -2,6 +2,8 @@ pub mod Alone
 pub mod Asking
 pub mod EngineRefusals
 pub mod Headline
+pub mod Inverting
 pub mod Listing
+pub mod Merging
 pub mod NameLines
 pub mod Searching

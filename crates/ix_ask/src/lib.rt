@@ -4,8 +4,10 @@
 
 mod alone;
 mod asking;
+mod inverting;
 mod laws;
 mod listing;
+mod merging;
 mod names;
 mod output;
 mod refusal;
@@ -13,8 +15,11 @@ mod searching;
 
 pub use alone::{ask_alone, index_alone};
 pub use asking::{AskError, ask};
+pub use inverting::run_alone;
 pub use laws::what_is_built_opens_and_answers;
 pub use listing::{ListingError, find_terms, list_terms};
+pub use merging::merge_alone;
+pub use names::list_names;
 pub use output::Lines;
 pub use refusal::{Area, EngineRefusal};
 pub use searching::{SearchError, find_names, search};

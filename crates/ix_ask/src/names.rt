@@ -1,9 +1,12 @@
 //! The names of documents, as they are printed.
 ghost use Rattle.std.specs.Prelude.{◌≡◌, ◌<◌, ◌++◌, All, length, map, Some, IfOk, OnOk};
-ghost use Rattle.ix_file.specs.Opened.{names_of};
+ghost use Rattle.ix_file.specs.Opened.{IsIndexOf, names_of};
+ghost use Rattle.ix_file.specs.Sections.{Version};
+ghost use Rattle.ix_text.specs.Collections.{Collection};
 ghost use Rattle.ix_text.specs.Docs.{named_text};
-ghost use Rattle.ix_ask.specs.NameLines.{name_line, name_lines, names_read};
+ghost use Rattle.ix_ask.specs.NameLines.{AreAllNames, name_line, name_lines, names_read};
 
+use crate::output::Lines;
 use ix_file::Index;
 use ix_text::Doc;
 use std::alloc::{AllocError, Global};
@@ -40,6 +43,23 @@ pub fn name_lines_in(
         push_name_line(&mut lines, index.name(number))?;
     }
     Ok(lines)
+}
+
+/// The names of all documents of an index, each with LF, in the order of the documents.
+pub fn list_names(alloc: Global, index: &Index<'_>) -> Result<Lines, AllocError>
+    ensures { IfOk result (λ names. (version : Version) (collection : Collection)
+        → IsIndexOf index.now version collection
+        → AreAllNames collection.documents names.bytes.items names.count) }
+{
+    let count = index.doc_count();
+    let mut bytes = Vec::new(alloc);
+    for number in 0..count {
+        push_name_line(&mut bytes, index.name(number))?;
+    }
+    Ok(Lines {
+        bytes,
+        count: count as usize,
+    })
 }
 
 /// Adds the line of a name.

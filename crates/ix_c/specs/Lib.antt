@@ -2,6 +2,9 @@ pub mod Asking
 pub mod Filling
 pub mod Held
 pub mod Indexing
+pub mod Merging
+pub mod Naming
 pub mod Opening
+pub mod Running
 pub mod Searching
 pub mod Telling

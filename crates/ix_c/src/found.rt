@@ -19,6 +19,9 @@ const NOT_UTF8: u32 = 2;
 /// The handle is closed.
 const CLOSED: u32 = 3;
 
+/// The sizes do not sum to that of the bytes.
+const SIZES: u32 = 4;
+
 /// The line of want of memory, which takes none.
 const OUT_OF_MEMORY: &str = "memory 1: Memory";
 
@@ -132,4 +135,12 @@ pub(crate) fn tell_closed(found: &mut Found) -> u32
 {
     *found = NOTHING;
     CLOSED
+}
+
+/// Tells that the sizes do not sum to that of the bytes.
+pub(crate) fn tell_sizes(found: &mut Found) -> u32
+    ensures { result ≡ 4 }
+{
+    *found = NOTHING;
+    SIZES
 }

@@ -2,8 +2,8 @@
 
 use crate::handle::Handle;
 use crate::{
-    Found, ix_ask, ix_build, ix_index_close, ix_index_open, ix_index_search, ix_index_terms,
-    ix_search, ix_terms,
+    Found, ix_ask, ix_build, ix_index_close, ix_index_names, ix_index_open, ix_index_search,
+    ix_index_terms, ix_merge, ix_run, ix_search, ix_terms,
 };
 use std::alloc::Global;
 use std::process::Abort;
@@ -117,6 +117,38 @@ fn an_index_is_built_and_asked(rt: HostRuntime) -> Result<(), Fail> {
 }
 
 #[test]
+fn a_run_is_made_and_merged(rt: HostRuntime) -> Result<(), Fail> {
+    let mut run = [0; 1000];
+    let mut out = [0; 40];
+    let mut found = NOTHING;
+    let status = ix_run(rt.alloc(), b"a", b"", 0, &mut out, &mut found);
+    expect(
+        &rt,
+        status,
+        &found,
+        &out,
+        &Row(1, 0, b"collection 3: NoTab(1)"),
+    );
+    let status = ix_run(rt.alloc(), FIVE, b"", 0, &mut run, &mut found);
+    assert_eq!(rt; (status, found.count), (0, 0));
+    assert!(rt; found.size <= run.len());
+    let run = &run[..found.size];
+    let status = ix_merge(rt.alloc(), run, &[run.len()], &mut out, &mut found);
+    assert_eq!(rt; (status, found.count), (0, 0));
+    let status = ix_merge(rt.alloc(), run, &[1], &mut out, &mut found);
+    expect(&rt, status, &found, &out, &Row(4, 0, b""));
+    let status = ix_merge(rt.alloc(), FIVE, &[FIVE.len()], &mut out, &mut found);
+    expect(
+        &rt,
+        status,
+        &found,
+        &out,
+        &Row(1, 0, b"merge 4: Source(0, Magic)"),
+    );
+    Ok(())
+}
+
+#[test]
 fn an_index_is_opened_once_and_asked_often(rt: HostRuntime) -> Result<(), Fail> {
     let mut text = [0; 1000];
     let mut out = [0; 40];
@@ -140,6 +172,8 @@ fn an_index_is_opened_once_and_asked_often(rt: HostRuntime) -> Result<(), Fail> 
         expect(&rt, status, &found, &out, &Row(1, 0, b"query 3: End"));
         let status = ix_index_terms(rt.alloc(), &mut index, b"\xff", &mut out, &mut found);
         assert_eq!(rt; (status, found.area), (2, 4));
+        let status = ix_index_names(rt.alloc(), &mut index, &mut out, &mut found);
+        expect(&rt, status, &found, &out, &Row(0, 5, b"a\nb\nc\nd\ne\n"));
     }
     let status = ix_index_open(rt.alloc(), &mut index, FIVE, &mut out, &mut found);
     expect(&rt, status, &found, &out, &Row(1, 0, b"index 1: Short"));
