@@ -29,9 +29,15 @@ impl<P> Model for Board<P> {
 
     ghost Value = { BoardView };
 
-    ghost view = { λ b. record { table = b.table.shared.table_id; count = b.table.shared.key.count; workers = b.table.shared.key.workers } };
+    ghost view = { λ b. record {
+      table = b.table.shared.table_id;
+      count = b.table.shared.key.count;
+      workers = b.table.shared.key.workers;
+    } };
 
-    ghost invariant = { λ b. (b.table.shared.table_id.words ≡ b.table.shared.key.count + 1) × (b.table.shared.table_id.slots ≡ b.table.shared.key.count) × (0 < b.table.shared.key.workers) };
+    ghost invariant = { λ b. (b.table.shared.table_id.words ≡ b.table.shared.key.count + 1)
+        × (b.table.shared.table_id.slots ≡ b.table.shared.key.count)
+        × (0 < b.table.shared.key.workers) };
 }
 
 impl<P> Board<P> {

@@ -66,5 +66,6 @@ pub trait Maker: Drop + Send {
     ghost follows_itself: { (maker : Self) → follows maker maker };
 
     // What follows a maker that follows another follows that one.
-    ghost follows_on: { (first second third : Self) → follows first second → follows second third → follows first third };
+    ghost follows_on: { (first second third : Self) → follows first second
+        → follows second third → follows first third };
 }

@@ -15,5 +15,6 @@ pub(crate) struct Begun<M: Maker> {
 impl<M: Maker> Promise<(M, Desk<M::Piece>, Report)> for Begun<M> {
     ghost use Rattle.ix_build.specs.Working.{WholeStint};
 
-    ghost kept_by = { λ begun back. WholeStint M.askings M.gives M.follows begun.maker.value begun.desk.value back.0 back.1 back.2.lowest back.2.stopped };
+    ghost kept_by = { λ begun back. WholeStint M.askings M.gives M.follows
+        begun.maker.value begun.desk.value back.0 back.1 back.2.lowest back.2.stopped };
 }

@@ -23,7 +23,8 @@ impl Model for Held {
     ghost use Rattle.ix_file.specs.contracts.volume.Volume.{the_row};
     ghost use Rattle.ix_c.specs.Held.{owned_at};
 
-    ghost also_owns = { λ h. owned_at (box_owns (ghosts.dealloc_token h.alloc) the_row h.at) h.value };
+    ghost also_owns = { λ h.
+        owned_at (box_owns (ghosts.dealloc_token h.alloc) the_row h.at) h.value };
 }
 
 impl Held {

@@ -24,7 +24,8 @@ impl Model for Pattern {
 
     ghost Value = { List (List ℕ) };
 
-    ghost view = { λ p. string_bytes p.first ∷ (map string_bytes p.inner.items ++ string_bytes p.last ∷ []) };
+    ghost view = { λ p. string_bytes p.first
+        ∷ (map string_bytes p.inner.items ++ string_bytes p.last ∷ []) };
 }
 
 impl Pattern {

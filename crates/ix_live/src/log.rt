@@ -68,7 +68,8 @@ impl<'a> Plain<Addition<'a>, LogEntry, u64> for Appending {
     ghost use Rattle.ix_text.specs.Collections.{collection_of};
     ghost use Rattle.ix_live.specs.Operations.{Add};
 
-    ghost ask = { λ addition. Add (collection_of addition.stop.now addition.documents.now).documents };
+    ghost ask = { λ addition.
+        Add (collection_of addition.stop.now addition.documents.now).documents };
 
     ghost state = { λ addition. None };
 }

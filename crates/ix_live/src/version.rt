@@ -55,9 +55,15 @@ impl Model for Version {
 
     ghost Value = { VersionValue };
 
-    ghost view = { λ version. record { stop = arc_value version.stop; history = version.front; pieces = pieces_in version.segments.items } };
+    ghost view = { λ version. record {
+      stop = arc_value version.stop;
+      history = version.front;
+      pieces = pieces_in version.segments.items;
+    } };
 
-    ghost invariant = { λ version. IsStored (arc_value version.stop) version.segments.items version.entries.items version.removed.items version.count version.tokens version.front.operations };
+    ghost invariant = { λ version. IsStored (arc_value version.stop) version.segments.items
+        version.entries.items version.removed.items version.count version.tokens
+        version.front.operations };
 }
 
 impl Version {

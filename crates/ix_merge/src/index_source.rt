@@ -34,9 +34,19 @@ impl<'a> Model for IndexSource<'a> {
 
     ghost Value = { SourceValue };
 
-    ghost view = { λ source. record { heading = heading_of source.head; terms = map coded (drop source.number source.index.now.parts.entries); term = option_copied source.term; postings = source.postings } };
+    ghost view = { λ source. record {
+      heading = heading_of source.head;
+      terms = map coded (drop source.number source.index.now.parts.entries);
+      term = option_copied source.term;
+      postings = source.postings;
+    } };
 
-    ghost invariant = { λ source. IsAtPlace (record { heading = heading_of source.head; terms = map coded (drop source.number source.index.now.parts.entries); term = option_copied source.term; postings = source.postings }) × AreLawful source.index.now.parts };
+    ghost invariant = { λ source. IsAtPlace (record {
+      heading = heading_of source.head;
+      terms = map coded (drop source.number source.index.now.parts.entries);
+      term = option_copied source.term;
+      postings = source.postings;
+    }) × AreLawful source.index.now.parts };
 }
 
 impl<'a> IndexSource<'a> {
@@ -105,8 +115,10 @@ impl<'a> Source for IndexSource<'a> {
     fn next_term(&mut self) -> Result<bool, Memory>
         ensures heading { self.new.heading ≡ self.old.heading }
         ensures begun { IfOk result (λ more. MatchBool more
-            ((term : List ℕ) × (self.new.term ≡ Some term) × BeginsTerm HasLeft HasGiven IsAtEndOfTerm self.old self.new term)
-            ((self.new.term ≡ None) × IsAtEnd self.new × EndsTerms HasLeft HasGiven IsAtEndOfTerm self.old self.new)) }
+            ((term : List ℕ) × (self.new.term ≡ Some term)
+            × BeginsTerm HasLeft HasGiven IsAtEndOfTerm self.old self.new term)
+            ((self.new.term ≡ None) × IsAtEnd self.new
+            × EndsTerms HasLeft HasGiven IsAtEndOfTerm self.old self.new)) }
         ensures ended { IsAtEnd self.old → (result ≡ Ok false) × IsAtEnd self.new }
         ensures fault { IfErr result (MayLackMemory self.old) }
         ensures no_more_faults { OnOk result (KeepsFaults MayLackMemory self.old self.new) }
@@ -138,7 +150,8 @@ impl<'a> Source for IndexSource<'a> {
         ensures current { self.new.term ≡ self.old.term }
         ensures given { IfOk result (λ found. MatchOption found
             (IsAtEndOfTerm self.new × EndsPostings HasLeft HasGiven self.old self.new)
-            (λ document. GivesPosting HasLeft HasGiven self.old self.new (document, positions.new.items))) }
+            (λ document. GivesPosting HasLeft HasGiven self.old self.new
+            (document, positions.new.items))) }
         ensures drained { IsAtEndOfTerm self.old → result ≡ Ok None }
         ensures fault { IfErr result (MayLackMemory self.old) }
         ensures no_more_faults { OnOk result (KeepsFaults MayLackMemory self.old self.new) }
@@ -198,5 +211,6 @@ impl<'a> Source for IndexSource<'a> {
 
     ghost given_of_term = { λ source finished at_hand given. given.of_term };
 
-    ghost yielded_lawfully = { λ source finished at_hand postings entries given left. given.completed postings entries left };
+    ghost yielded_lawfully = { λ source finished at_hand postings entries given left.
+        given.completed postings entries left };
 }

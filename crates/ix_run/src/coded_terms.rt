@@ -47,7 +47,8 @@ impl Model for CodedTerms {
 
     ghost Value = { List TermValue };
 
-    ghost view = { λ terms. terms_in (string_bytes terms.texts) terms.lists.items terms.rows.items };
+    ghost view = { λ terms.
+        terms_in (string_bytes terms.texts) terms.lists.items terms.rows.items };
 
     ghost invariant = { λ terms. HoldTerms (string_bytes terms.texts) terms.lists.items terms.rows.items
         (terms_in (string_bytes terms.texts) terms.lists.items terms.rows.items) };

@@ -30,7 +30,8 @@ pub(crate) fn rows<R: Read>(
     ensures all { IfOk result (λ docs. length docs.items ≡ count) }
     ensures refused { IfErr result (λ error. (rows : List DocumentRow) (rest : List ℕ)
         → length rows ≡ count → EachFits RowFits rows
-        → known_left R.remaining input.old ≡ Some (flat_map row_bytes rows ++ rest) → IsRefusal error) }
+        → known_left R.remaining input.old ≡ Some (flat_map row_bytes rows ++ rest)
+        → IsRefusal error) }
 {
     let mut docs = Vec::new(alloc);
     let mut tokens = 0;

@@ -379,7 +379,8 @@ impl<R: Read + Drop> Source for RunReader<R> {
 
     ghost given_of_term = { λ reader finished at_hand read. read.of_term };
 
-    ghost yielded_lawfully = { λ reader finished at_hand postings entries read may. may.whole finished at_hand read };
+    ghost yielded_lawfully = { λ reader finished at_hand postings entries read may.
+        may.whole finished at_hand read };
 }
 
 #[cfg(test)]

@@ -211,5 +211,6 @@ impl<'a> Source for RunSource<'a> {
 
     ghost given_of_term = { λ source finished at_hand given. given.of_term };
 
-    ghost yielded_lawfully = { λ source finished at_hand postings entries given left. given.completed postings entries left };
+    ghost yielded_lawfully = { λ source finished at_hand postings entries given left.
+        given.completed postings entries left };
 }

@@ -55,7 +55,8 @@ fn stop_terms<R: Read>(
     ensures all { IfOk result (λ terms. length terms.items ≡ count) }
     ensures refused { IfErr result (λ error. (terms : List (List ℕ)) (rest : List ℕ)
         → length terms ≡ count → EachFits StopTermFits terms
-        → known_left R.remaining input.old ≡ Some (flat_map counted terms ++ rest) → IsRefusal error) }
+        → known_left R.remaining input.old ≡ Some (flat_map counted terms ++ rest)
+        → IsRefusal error) }
 {
     let mut terms = Vec::new(alloc);
     for _ in 0..count {

@@ -26,7 +26,8 @@ impl<'a> Model for Positions<'a> {
 
     ghost view = { λ positions. positions_told positions.next positions.bytes.now };
 
-    ghost invariant = { λ positions. ArePositionsFrom positions.next positions.count positions.bytes.now };
+    ghost invariant = { λ positions.
+        ArePositionsFrom positions.next positions.count positions.bytes.now };
 }
 
 impl<'a> Positions<'a> {
