@@ -26,4 +26,5 @@ pub mod SoundLemmas
 pub mod Stars
 pub mod StreamLemmas
 pub mod Strips
+pub mod Swapping
 pub mod TreeLemmas

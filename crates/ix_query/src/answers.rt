@@ -19,6 +19,7 @@ mod matches;
 mod meet;
 mod near;
 mod numbers;
+mod order;
 mod phrase;
 mod reader;
 mod start;

@@ -16,6 +16,7 @@ use crate::answers::listed::Listed;
 use crate::answers::marks::Marks;
 use crate::answers::matches::find_matches;
 use crate::answers::meet::Meet;
+use crate::answers::order::fewest;
 use crate::answers::terms::{
     every_document, find_near, find_phrase, nothing, only_term, postings_of,
 };
@@ -166,6 +167,16 @@ fn meet_of<'a>(index: &'a Index<'_>, present: Vec<Leaf<'a>>, absent: Vec<Leaf<'a
         × ¬ (HasOne HasNumber absent.entry.items n)) }
 {
     let mut others = present;
+    let count = others.len();
+    if count == 0 {
+        return Meet {
+            first: every_document(index),
+            others,
+            absent,
+        };
+    }
+    let lead = fewest(others.as_slice());
+    others.swap(lead, count - 1);
     let Some(first) = others.pop() else {
         return Meet {
             first: every_document(index),

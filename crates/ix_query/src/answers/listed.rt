@@ -35,6 +35,11 @@ impl Listed {
     {
         Listed { numbers, next: 0 }
     }
+
+    /// How many numbers are left.
+    pub(crate) fn len(&self) -> usize {
+        self.numbers.len().saturating_sub(self.next)
+    }
 }
 
 impl Numbers for Listed {
@@ -76,6 +81,13 @@ fn place_from(numbers: &[u32], start: usize, low: u32) -> usize
 pub(crate) struct Span {
     pub(crate) next: u32,
     pub(crate) end: u32,
+}
+
+impl Span {
+    /// How many numbers are left.
+    pub(crate) fn len(&self) -> usize {
+        self.end.saturating_sub(self.next) as usize
+    }
 }
 
 impl Numbers for Span {

@@ -43,6 +43,15 @@ impl<'a> Reader<'a> {
         Reader { current, rest }
     }
 
+    /// How many postings are left.
+    #[inline]
+    pub(crate) fn len(&self) -> usize {
+        match &self.current {
+            Some(_) => self.rest.len().saturating_add(1),
+            None => 0,
+        }
+    }
+
     /// The first document that is left.
     #[inline]
     fn document(&self) -> Option<u32>

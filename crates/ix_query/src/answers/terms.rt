@@ -1,6 +1,6 @@
 //! What terms, phrases and NEARs find in an index.
 
-ghost use Rattle.std.specs.Prelude.{◌≡◌, ◌∷◌, [], ℕ, List, Option, Some, length, IfOk, IfSome, MatchOption};
+ghost use Rattle.std.specs.Prelude.{◌≡◌, ◌∷◌, [], ℕ, List, Option, Some, ◌↔◌, length, IfOk, IfSome, MatchOption};
 ghost use Rattle.ix_query.specs.declared.tree.Tree.TheVariants as asks;
 ghost use Rattle.ix_query.specs.Finding.{AreFound, AreOfTerm, ArePlaced, AreEvery, AnswersNothing, IsBeyond, IsNowhere};
 ghost use Rattle.ix_query.specs.Leaves.{HasNumber};
@@ -10,6 +10,7 @@ ghost use Rattle.ix_query.specs.Streams.{Have};
 use crate::answers::leaf::Leaf;
 use crate::answers::listed::Span;
 use crate::answers::near::Near;
+use crate::answers::order::fewest;
 use crate::answers::phrase::Phrase;
 use crate::answers::reader::Reader;
 use crate::answers::start::Start;
@@ -70,11 +71,27 @@ pub(crate) fn find_near<'a>(
     let Some(second) = postings_of(index, second) else {
         return None;
     };
-    Some(Near {
-        first: Reader::new(first),
-        second: Reader::new(second),
-        distance,
-    })
+    Some(order_near(Reader::new(first), Reader::new(second), distance))
+}
+
+/// The documents in which two terms are near: those of the rarer one are asked for first.
+fn order_near<'a>(first: Reader<'a>, second: Reader<'a>, distance: u32) -> Near<'a>
+    ensures { (n : ℕ) → HasNear result.first result.second result.distance n
+        ↔ HasNear first.entry second.entry distance n }
+{
+    if second.len() < first.len() {
+        Near {
+            first: second,
+            second: first,
+            distance,
+        }
+    } else {
+        Near {
+            first,
+            second,
+            distance,
+        }
+    }
 }
 
 /// The documents of a term.
@@ -196,6 +213,13 @@ fn join_terms<'a>(index: &'a Index<'_>, placed: Placed<'a>) -> Leaf<'a>
         mut starts,
     } = placed;
     let _room = starts.pop();
+    let count = lists.len();
+    if count == 0 {
+        return every_document(index);
+    }
+    let lead = fewest(lists.as_slice());
+    lists.swap(lead, count - 1);
+    places.swap(lead, count - 1);
     let Some(first) = lists.pop() else {
         return every_document(index);
     };

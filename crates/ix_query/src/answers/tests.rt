@@ -1,5 +1,6 @@
 //! Answers from small indexes, beside what the plain program finds in their collections.
 mod generated;
+mod seeking;
 mod text;
 
 use super::answer;

@@ -42,6 +42,12 @@ impl<'a> Word<'a> {
             rest: postings,
         }
     }
+
+    /// How many documents are left behind the one at hand.
+    #[inline]
+    pub(crate) fn len(&self) -> usize {
+        self.rest.len()
+    }
 }
 
 impl<'a> Numbers for Word<'a> {

@@ -86,13 +86,13 @@ fn answers_are_scans_of_generated_collections(rt: HostRuntime) -> Result<(), Fai
     let alloc = rt.alloc();
     let stop = StopList::read(alloc, "to\n")?;
     let mut numbers = Random { state: 2024 };
-    for round in 0..20u32 {
+    for round in 0..50u32 {
         let text = collection_text(alloc, &mut numbers)?;
         let collection = Collection::read(alloc, text.as_str().as_bytes())?;
         let version = if round % 2 == 0 { b'1' } else { b'2' };
         let bytes = index_text(alloc, collection.docs(), &stop, version)?;
         let index = Index::open(alloc, &bytes)?;
-        for _ in 0..15 {
+        for _ in 0..40 {
             let query = query_text(alloc, &mut numbers)?;
             compare(&rt, alloc, &collection, &index, &query)?;
         }
