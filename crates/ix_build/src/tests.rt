@@ -13,6 +13,7 @@ mod building;
 mod building_over;
 mod by_makers;
 mod folders;
+mod overwritten;
 
 const FIVE_DOCUMENTS: &[u8] = b"a\tx y\nb\ty\nc\t\nd\ty x y\ne\tx\n";
 

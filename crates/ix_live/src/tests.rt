@@ -3,6 +3,8 @@ ghost use Rattle.std.specs.Prelude.{◌≡◌};
 ghost use Rattle.ix_live.specs.Logs.{head_of};
 
 mod beside;
+mod refusals;
+mod removing;
 mod searching;
 
 use crate::front::Front;

@@ -23,7 +23,7 @@ pub const RUNS: [&[u8]; 3] = [
 
 /// A store that takes the runs of `RUNS` and no others, and gives back the bytes that it was made with.
 #[derive(Drop)]
-struct Shelf<'a> {
+pub struct Shelf<'a> {
     alloc: Global,
     // What comes back for each place.
     given: &'a [&'a [u8]],
@@ -98,7 +98,7 @@ impl<'a> RunStore for Shelf<'a> {
     }
 }
 
-fn shelves<'a>(
+pub fn shelves<'a>(
     alloc: Global,
     count: usize,
     given: &'a [&'a [u8]],
@@ -122,7 +122,7 @@ fn shelves<'a>(
 }
 
 /// Builds the five documents in blocks of two, a worker for each store. What it comes to, and what was written.
-fn built<'a>(
+pub fn built<'a>(
     rt: &(impl Abort + Threads + Wait + Sync),
     alloc: Global,
     stores: Vec<Shelf<'a>>,

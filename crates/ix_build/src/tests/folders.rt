@@ -20,14 +20,14 @@ use std::{env, fs, process};
 const NAMES: [&str; 3] = ["run-0000000000", "run-0000000001", "run-0000000002"];
 
 /// The path of a folder that no other test and no other process has.
-fn new_path<R: Env + AllocGlobal>(rt: &R, process: u32, name: &str) -> Result<String, Fail> {
+pub fn new_path<R: Env + AllocGlobal>(rt: &R, process: u32, name: &str) -> Result<String, Fail> {
     let above = env::temp_dir(rt)?;
     let path = format!(in rt.alloc(); "{}/ix-build-{process}-{name}", above.as_path().display())?;
     Ok(path)
 }
 
 /// Builds the five documents with runs in this folder, and answers what was written.
-fn built_in<F: RunFiles, R: AllocGlobal + Abort + Threads + Wait + Sync, W: Write>(
+pub fn built_in<F: RunFiles, R: AllocGlobal + Abort + Threads + Wait + Sync, W: Write>(
     rt: &R,
     files: &F,
     folder: &str,

@@ -68,6 +68,43 @@ fn beside(rt: HostRuntime) -> Result<(), Fail> {
     done
 }
 
+/// Asks ten times, and is gone then. Says whether all was answered.
+fn ask_and_leave(mut searcher: Searcher, query: &Query) -> bool {
+    for _ in 0..10 {
+        if searcher.answer(query).is_err() {
+            return false;
+        }
+    }
+    true
+}
+
+/// Searchers leave their threads while documents are added; the one that stays knows of all.
+fn leave_beside<R: Threads + Wait + Sync>(
+    rt: &R,
+    alloc: Global,
+    indexer: &mut Indexer,
+    mut searchers: Vec<Searcher>,
+) -> Result<(), Fail> {
+    let query = Query::parse(alloc, "fox", &StopList::empty(alloc))?;
+    let mut stays = searchers.pop().ok_or("a searcher")?;
+    let asks = || map_vec(rt, searchers, &|searcher| ask_and_leave(searcher, &query));
+    let (asked, added) = join(rt, asks, || publish_often(rt, alloc, indexer));
+    added?;
+    if !asked?.iter().all(|is_right| *is_right) || stays.answer(&query)?.len() != 40 {
+        return Err("an answer")?;
+    }
+    Ok(())
+}
+
+#[test]
+fn searchers_leave(rt: HostRuntime) -> Result<(), Fail> {
+    let alloc = rt.alloc();
+    let (mut indexer, searchers) = live(&rt, alloc, StopList::empty(alloc), 4)?;
+    let done = leave_beside(&rt, alloc, &mut indexer, searchers);
+    indexer.close(&rt);
+    done
+}
+
 /// All find what is published last, also once some of them are gone.
 fn ask_all<R: Threads + Wait + Sync>(
     rt: &R,

@@ -18,24 +18,26 @@ pub const FOX: &str = "2\tfox\n";
 
 /// What is done to a live index.
 #[derive(Clone, Copy)]
-enum Act<'a> {
+pub enum Act<'a> {
     Add(&'a str),
     Remove(u32),
+    /// The removal of a number that no document has.
+    Refuse(u32),
     Publish,
     Ask(&'a str),
 }
 
-use Act::{Add, Ask, Publish, Remove};
+use Act::{Add, Ask, Publish, Refuse, Remove};
 
 /// An indexer, and a searcher that learns what it publishes.
-struct Pair {
-    indexer: Indexer,
-    searcher: Searcher,
+pub struct Pair {
+    pub indexer: Indexer,
+    pub searcher: Searcher,
     ghost one: { searcher.history.book ≡ indexer.book },
 }
 
 impl Pair {
-    fn open<R: Wait>(rt: &R, alloc: Global) -> Result<Pair, Fail> {
+    pub fn open<R: Wait>(rt: &R, alloc: Global) -> Result<Pair, Fail> {
         let (indexer, mut searchers) = live(rt, alloc, StopList::empty(alloc), 1)?;
         let Some(searcher) = searchers.pop() else {
             unreachable!()
@@ -43,9 +45,17 @@ impl Pair {
         Ok(Pair { indexer, searcher })
     }
 
-    fn publish<R: Wait>(&mut self, rt: &R) -> Result<(), Fail> {
+    pub fn publish<R: Wait>(&mut self, rt: &R) -> Result<(), Fail> {
         let news = self.indexer.publish(rt).map_err(|_| "publish")?;
         self.searcher.learn(&news);
+        Ok(())
+    }
+
+    /// Asks for the removal of a number that no document has.
+    fn refuse(&mut self, number: u32) -> Result<(), Fail> {
+        if self.indexer.remove(number) != Err(LiveError::Number(number)) {
+            return Err("a number")?;
+        }
         Ok(())
     }
 
@@ -76,7 +86,7 @@ impl Pair {
         Ok(lines)
     }
 
-    fn close<R: Wait>(self, rt: &R) {
+    pub fn close<R: Wait>(self, rt: &R) {
         let Pair {
             indexer,
             searcher: _searcher,
@@ -94,6 +104,7 @@ impl Pair {
         match act {
             Add(text) => add(rt, alloc, &mut self.indexer, text),
             Remove(number) => Ok(self.indexer.remove(number).map_err(|_| "remove")?),
+            Refuse(number) => self.refuse(number),
             Publish => self.publish(rt),
             Ask(query) => self.ask(alloc, query, lines),
         }
@@ -116,7 +127,7 @@ pub fn add<R: Threads + Wait + Sync>(
 }
 
 /// The lines that the asks among these print.
-fn lines_of<R: Threads + Wait + Sync>(
+pub fn lines_of<R: Threads + Wait + Sync>(
     rt: &R,
     alloc: Global,
     acts: &[Act<'_>],
