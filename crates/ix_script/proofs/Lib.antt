@@ -5,5 +5,6 @@ pub mod LineLemmas
 pub mod PrintingLemmas
 pub mod Reading
 pub mod RunLemmas
+pub mod ScriptLemmas
 pub mod StepLemmas
 pub mod Uniqueness

@@ -6,6 +6,8 @@ pub mod Runs
 pub mod ScriptErrors
 pub mod ScriptFaults
 pub mod ScriptLaws
+pub mod Scripts
 pub mod Steps
 pub mod Stops
+pub mod Stretches
 pub mod Teams

@@ -1,0 +1,235 @@
+//! Carrying out the steps of a script, group by group.
+ghost use Rattle.std.specs.Prelude.{◌≡◌, ◌<◌, ◌≤◌, ◌⊎◌, All, IfErr, IfOk, OnOk, length, map, take, vec_len};
+ghost use Rattle.ix_live.specs.declared.live_error.LiveError.TheVariants as live_error;
+ghost use Rattle.ix_script.specs.Groups.{IsGroup};
+ghost use Rattle.ix_script.specs.Runs.{published};
+ghost use Rattle.ix_script.specs.Scripts.{ArePublished, IsCarriedOut, IsStopped, nothing_yet};
+ghost use Rattle.ix_script.specs.Steps.{step_of};
+ghost use Rattle.ix_script.specs.Stops.{IsTeamOf, progress_of};
+ghost use Rattle.ix_script.specs.Stretches.{CarriesOut, Stops};
+ghost use Rattle.ix_script.specs.Teams.{IsOfIndex};
+ghost use Rattle.ix_script.specs.declared.run_error.RunError.TheVariants.{Live};
+
+use crate::collection_files::CollectionFiles;
+use crate::group_running::run_group;
+use crate::groups::first_group;
+use crate::run_error::RunError;
+use crate::step::Step;
+use crate::team::Team;
+use crate::writing::write_answers;
+use ix_build::Plan;
+use ix_live::{Indexer, Searcher, live};
+use ix_text::StopList;
+use std::alloc::Global;
+use std::io::Write;
+use std::snapshot::Snapshot;
+use std::sync::Wait;
+use std::thread::Threads;
+
+/// Carries out the steps of a script on a new live index with so many searchers, 1 to 64, and answers whether a name was
+/// found. The answers to the asks of a group go to `out` once the whole group was carried out, and then it is published.
+/// What waits at the end is dropped.
+///
+/// The first step that is refused ends it. Of its group nothing is written then, but where the output itself refused:
+/// then a beginning of its answers may be out.
+pub fn run_steps<'t, R: Threads + Wait + Sync, F: CollectionFiles, W: Write>(
+    rt: &R,
+    alloc: Global,
+    files: &F,
+    plan: &Plan,
+    stop: StopList,
+    searchers: usize,
+    steps: &[Step<'t>],
+    out: &mut W,
+) -> Result<bool, RunError<'t>>
+    requires { (1 ≤ searchers) × (searchers ≤ 64) }
+    ensures ran { IfOk result (IsCarriedOut (F.holds files.now) stop (map step_of steps.now)
+        (W.contents out.old) (W.contents out.new)) }
+    ensures refused { IfErr result (IsStopped (F.holds files.now) plan.now.workers stop
+        (map step_of steps.now) (W.contents out.old) (W.contents out.new)) }
+{
+    let known = Snapshot::of(&stop);
+    let Ok((mut indexer, searchers)) = live(rt, alloc, stop, searchers) else {
+        return Err(RunError::Memory);
+    };
+    let done = run_new(
+        rt,
+        alloc,
+        files,
+        plan,
+        &mut indexer,
+        searchers,
+        known,
+        steps,
+        out,
+    );
+    indexer.close(rt);
+    done
+}
+
+/// Carries out the steps of a script on a live index to which nothing was done.
+fn run_new<'t, R: Threads + Wait + Sync, F: CollectionFiles, W: Write>(
+    rt: &R,
+    alloc: Global,
+    files: &F,
+    plan: &Plan,
+    indexer: &mut Indexer,
+    searchers: Vec<Searcher>,
+    stop: Snapshot<StopList>,
+    steps: &[Step<'t>],
+    out: &mut W,
+) -> Result<bool, RunError<'t>>
+    requires new { progress_of indexer.old ≡ nothing_yet }
+    requires stop { stop.value ≡ indexer.old.stop }
+    requires some { 0 < vec_len searchers }
+    requires own { All (IsOfIndex indexer.old.stop indexer.old.book) searchers.items }
+    ensures ran { IfOk result (CarriesOut (F.holds files.now) indexer.old.stop
+        (map step_of steps.now) nothing_yet (progress_of indexer.new)
+        (W.contents out.old) (W.contents out.new)) }
+    ensures refused { IfErr result (Stops (F.holds files.now) plan.now.workers indexer.old.stop
+        (map step_of steps.now) nothing_yet (W.contents out.old) (W.contents out.new)) }
+{
+    // A team knows of news, so nothing is published first.
+    let Ok(news) = indexer.publish(rt) else {
+        return Err(RunError::Memory);
+    };
+    let team = Team::new(searchers, news, stop);
+    run_on(rt, alloc, files, plan, indexer, team, steps, out)
+}
+
+/// Carries out the steps of a script, group by group.
+fn run_on<'t, R: Threads + Wait + Sync, F: CollectionFiles, W: Write>(
+    rt: &R,
+    alloc: Global,
+    files: &F,
+    plan: &Plan,
+    indexer: &mut Indexer,
+    team: Team,
+    steps: &[Step<'t>],
+    out: &mut W,
+) -> Result<bool, RunError<'t>>
+    requires team { IsTeamOf indexer.old team }
+    ensures ran { IfOk result (CarriesOut (F.holds files.now) indexer.old.stop
+        (map step_of steps.now) (progress_of indexer.old) (progress_of indexer.new)
+        (W.contents out.old) (W.contents out.new)) }
+    ensures refused { IfErr result (Stops (F.holds files.now) plan.now.workers indexer.old.stop
+        (map step_of steps.now) (progress_of indexer.old)
+        (W.contents out.old) (W.contents out.new)) }
+{
+    let mut team = team;
+    let mut found = false;
+    let mut place = 0;
+    while place < steps.len() {
+        let round = run_round(rt, alloc, files, plan, indexer, team, &steps[place..], out)?;
+        team = round.team;
+        found = found | round.found;
+        place += round.count;
+    }
+    Ok(found)
+}
+
+/// What came of the first group of steps.
+#[derive(Drop)]
+struct Round {
+    team: Team,
+    /// Whether a name was found.
+    found: bool,
+    /// How many steps were carried out, the publish behind the group included.
+    count: usize,
+}
+
+/// Carries out the steps up to the first publish, and publishes; or all steps, where none publishes.
+fn run_round<'t, R: Threads + Wait + Sync, F: CollectionFiles, W: Write>(
+    rt: &R,
+    alloc: Global,
+    files: &F,
+    plan: &Plan,
+    indexer: &mut Indexer,
+    team: Team,
+    steps: &[Step<'t>],
+    out: &mut W,
+) -> Result<Round, RunError<'t>>
+    requires some { 0 < length steps.now }
+    requires team { IsTeamOf indexer.old team }
+    ensures same { indexer.new.stop ≡ indexer.old.stop }
+    ensures team { IfOk result (λ round. IsTeamOf indexer.new round.team) }
+    ensures count { IfOk result (λ round. (0 < round.count)
+        × (round.count ≤ length steps.now)) }
+    ensures published { IfOk result (λ round.
+        ArePublished (map step_of (take round.count steps.now))
+        ⊎ (round.count ≡ length steps.now)) }
+    ensures ran { IfOk result (λ round. CarriesOut (F.holds files.now) indexer.old.stop
+        (map step_of (take round.count steps.now)) (progress_of indexer.old)
+        (progress_of indexer.new) (W.contents out.old) (W.contents out.new) round.found) }
+    ensures refused { IfErr result (Stops (F.holds files.now) plan.now.workers indexer.old.stop
+        (map step_of steps.now) (progress_of indexer.old)
+        (W.contents out.old) (W.contents out.new)) }
+{
+    let (group, rest) = first_group(steps);
+    let (mut team, found) = answer_group(rt, alloc, files, plan, indexer, team, group, out)?;
+    let Some(rest) = rest else {
+        return Ok(Round {
+            team,
+            found,
+            count: steps.len(),
+        });
+    };
+    publish(rt, indexer, &mut team)?;
+    Ok(Round {
+        team,
+        found,
+        count: steps.len() - rest.len(),
+    })
+}
+
+/// Carries out a group, writes the answers to its asks, and answers whether a name is among them.
+fn answer_group<'t, R: Threads + Wait + Sync, F: CollectionFiles, W: Write>(
+    rt: &R,
+    alloc: Global,
+    files: &F,
+    plan: &Plan,
+    indexer: &mut Indexer,
+    team: Team,
+    group: &[Step<'t>],
+    out: &mut W,
+) -> Result<(Team, bool), RunError<'t>>
+    requires group { IsGroup (map step_of group.now) }
+    requires team { IsTeamOf indexer.old team }
+    ensures same { (indexer.new.stop ≡ indexer.old.stop)
+        × (indexer.new.book ≡ indexer.old.book)
+        × (indexer.new.published ≡ indexer.old.published) }
+    ensures team { IfOk result (λ r. r.0 ≡ team) }
+    ensures ran { IfOk result (λ r. CarriesOut (F.holds files.now) indexer.old.stop
+        (map step_of group.now) (progress_of indexer.old) (progress_of indexer.new)
+        (W.contents out.old) (W.contents out.new) r.1) }
+    ensures refused { IfErr result (Stops (F.holds files.now) plan.now.workers indexer.old.stop
+        (map step_of group.now) (progress_of indexer.old)
+        (W.contents out.old) (W.contents out.new)) }
+{
+    let (team, answers) = run_group(rt, alloc, files, plan, indexer, team, group)?;
+    let found = write_answers(alloc, group, &answers, out)?;
+    Ok((team, found))
+}
+
+/// Publishes what waits, and the team learns of it.
+fn publish<'e, R: Wait>(rt: &R, indexer: &mut Indexer, team: &mut Team) -> Result<(), RunError<'e>>
+    requires { IsTeamOf indexer.old team.old }
+    ensures same { (indexer.new.stop ≡ indexer.old.stop)
+        × (indexer.new.book ≡ indexer.old.book) }
+    ensures team { OnOk result (IsTeamOf indexer.new team.new) }
+    ensures published { OnOk result
+        (progress_of indexer.new ≡ published (progress_of indexer.old)) }
+    ensures refused { IfErr result (λ error. (error ≡ Live live_error.Memory)
+        × (progress_of indexer.new ≡ progress_of indexer.old)) }
+{
+    match indexer.publish(rt) {
+        Ok(news) => {
+            team.learn(news);
+            Ok(())
+        }
+        Err(error) => Err(RunError::Live(error)),
+    }
+}
+
+#[cfg(test)]
+mod tests;
