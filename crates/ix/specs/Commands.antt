@@ -48,6 +48,18 @@ build_shape = record (new_shape (codes "build")) {
       ∷ [];
 }
 
+-- `live [--stop FILE] [--block N] [--bytes N] [--workers W] [--searchers S] SCRIPT`
+abbrev pub live_shape : Shape
+live_shape = record (new_shape (codes "live")) {
+  rules = option_rule (codes "stop")
+      ∷ number_rule (codes "block") (pos 1) (pos 268435456)
+      ∷ number_rule (codes "bytes") (pos 1) (pos 268435456)
+      ∷ number_rule (codes "workers") (pos 1) (pos 64)
+      ∷ number_rule (codes "searchers") (pos 1) (pos 64)
+      ∷ operand_rule (codes "SCRIPT")
+      ∷ [];
+}
+
 -- `search INDEX QUERY`
 abbrev pub search_shape : Shape
 search_shape = record (new_shape (codes "search")) {
@@ -107,8 +119,8 @@ program = record (new_app (codes "ix")) {
 
 unfoldable pub ix_app : App
 ix_app =
-    with_subcommand (with_subcommand (with_subcommand (with_subcommand (with_subcommand (with_subcommand (with_subcommand program ask_shape) search_shape)
-    terms_shape) run_shape) merge_shape) upgrade_shape) build_shape
+    with_subcommand (with_subcommand (with_subcommand (with_subcommand (with_subcommand (with_subcommand (with_subcommand (with_subcommand program ask_shape) search_shape)
+    terms_shape) run_shape) merge_shape) upgrade_shape) build_shape) live_shape
 
 -- the same with the help flag at both levels and what the rules left out
 abbrev pub ix_built : App

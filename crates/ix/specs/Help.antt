@@ -6,7 +6,7 @@ use Rattle.clap.specs.Faults.{fault_of}
 use Rattle.clap.specs.Words.{IsAmong}
 use Rattle.clap.specs.declared.error.kind.ErrorKind.TheVariants.{DisplayHelp}
 use Rattle.ix.specs.Commands.{ix_app}
-use Rattle.ix.specs.declared.help.TheConstants.{HELP, HELP_ON_ASK, HELP_ON_BUILD, HELP_ON_MERGE, HELP_ON_RUN, HELP_ON_SEARCH, HELP_ON_TERMS, HELP_ON_UPGRADE}
+use Rattle.ix.specs.declared.help.TheConstants.{HELP, HELP_ON_ASK, HELP_ON_BUILD, HELP_ON_LIVE, HELP_ON_MERGE, HELP_ON_RUN, HELP_ON_SEARCH, HELP_ON_TERMS, HELP_ON_UPGRADE}
 
 -- `help X` is `X --help`
 abbrev pub as_flag : List Text → List Text
@@ -26,7 +26,8 @@ help_on_command name =
     if bytes_eq name (codes "run") then HELP_ON_RUN.now else
     if bytes_eq name (codes "merge") then HELP_ON_MERGE.now else
     if bytes_eq name (codes "upgrade") then HELP_ON_UPGRADE.now else
-    if bytes_eq name (codes "build") then HELP_ON_BUILD.now else HELP.now
+    if bytes_eq name (codes "build") then HELP_ON_BUILD.now else
+    if bytes_eq name (codes "live") then HELP_ON_LIVE.now else HELP.now
 
 -- the help that the first word asks for
 unfoldable pub help_of : List Text → Text

@@ -8,6 +8,7 @@ pub mod Help
 pub mod IndexFiles
 pub mod LineErrors
 pub mod Lines
+pub mod LiveScripts
 pub mod MergedRuns
 pub mod Refusals
 pub mod SavedIndexes

@@ -15,7 +15,7 @@ use Rattle.ix_build.specs.declared.plan.Cut.{Cut}
 use Rattle.ix_build.specs.declared.plan.Cut.TheVariants.{Bytes, Docs}
 use Rattle.ix.specs.Commands.{ix_app}
 use Rattle.ix.specs.declared.command_line.Line.{Line}
-use Rattle.ix.specs.declared.command_line.Line.TheVariants.{Ask, Build, Merge, Run, Search, Terms, Upgrade}
+use Rattle.ix.specs.declared.command_line.Line.TheVariants.{Ask, Build, Live, Merge, Run, Search, Terms, Upgrade}
 use Rattle.ix.specs.declared.command_line.error.LineError.{LineError}
 use Rattle.ix.specs.declared.command_line.error.LineError.TheVariants.{Both, Clap, Memory}
 
@@ -96,6 +96,11 @@ Holds name rows (Build stop plan collection index) = (name ≡ codes "build")
     × HasPlan rows (first_of (codes "runs") rows) plan
     × HasOperand (codes "COLLECTION") rows collection
     × HasOperand (codes "INDEX") rows index
+Holds name rows (Live stop plan searchers script) = (name ≡ codes "live")
+    × HasText (codes "stop") rows stop
+    × HasPlan rows None plan
+    × HasNumberOr (codes "searchers") 2 rows searchers
+    × HasOperand (codes "SCRIPT") rows script
 Holds name rows (Search index query) = (name ≡ codes "search")
     × HasOperand (codes "INDEX") rows index
     × HasOperand (codes "QUERY") rows query

@@ -1,5 +1,5 @@
 -- Refusals: what each of them tells, and the line that is printed.
-use Rattle.std.specs.Prelude.{◌≡◌, ℕ, ◌⊎◌, ◌/◌, ◌%◌, [], ◌∷◌, ◌++◌, flat_map, Option, Some, option_map, IfSome, codes, decimal, if◌then◌else◌, encode_utf8}
+use Rattle.std.specs.Prelude.{◌≡◌, ℕ, ◌⊎◌, ◌/◌, ◌%◌, [], ◌∷◌, ◌++◌, flat_map, Option, Some, option_map, IfSome, codes, decimal, if◌then◌else◌, encode_utf8, string_bytes}
 use Rattle.std.specs.Char.{digit_char, is_control}
 use Rattle.std.specs.Str.{chars}
 use Rattle.clap.specs.Walk.{Text}
@@ -10,8 +10,14 @@ use Rattle.ix_ask.specs.declared.searching.SearchError.{SearchError}
 use Rattle.ix_ask.specs.declared.searching.SearchError.TheVariants as searching
 use Rattle.ix_ask.specs.declared.listing.ListingError.{ListingError}
 use Rattle.ix_ask.specs.declared.listing.ListingError.TheVariants as listing
-use Rattle.ix_ask.specs.EngineRefusals.{line_of}
+use Rattle.ix_ask.specs.EngineRefusals.{error_text, line_of}
 use Rattle.ix_ask.specs.declared.refusal.EngineRefusal.TheVariants as engine
+use Rattle.ix_live.specs.LiveErrors.{live_error_name, live_error_number}
+use Rattle.ix_live.specs.declared.live_error.LiveError.{LiveError}
+use Rattle.ix_live.specs.declared.live_error.LiveError.TheVariants as live
+use Rattle.ix_script.specs.ScriptErrors.{script_error_name, script_error_number}
+use Rattle.ix_script.specs.declared.run_error.RunError.{RunError}
+use Rattle.ix_script.specs.declared.run_error.RunError.TheVariants as running
 use Rattle.ix.specs.declared.refusal.Refusal.{Refusal}
 use Rattle.ix.specs.declared.refusal.Refusal.TheVariants as refusal
 
@@ -41,6 +47,21 @@ TellsListing listing.Write (refusal.Write path) = path.now ≡ codes "-"
 TellsListing listing.Write _ = ⊥
 TellsListing listing.Memory told = told ≡ refusal.Engine engine.Memory
 
+-- the same of a live index: what was not built is told as it is of `build`
+abbrev pub TellsLive : LiveError → Refusal → Type 0
+TellsLive (live.Build error) told = told ≡ refusal.Engine (engine.Build error)
+TellsLive error told = told ≡ refusal.Live error
+
+-- the same of the steps of a script; where there is no memory for the path of a file, want of it is told
+abbrev pub TellsStep : RunError → Refusal → Type 0
+TellsStep (running.Unread path) (refusal.ReadAdded named) = string_bytes named ≡ path.now
+TellsStep (running.Unread path) told = told ≡ refusal.Engine engine.Memory
+TellsStep (running.Collection error) told = told ≡ refusal.Engine (engine.Collection error)
+TellsStep (running.Live error) told = TellsLive error told
+TellsStep running.Write (refusal.Write path) = path.now ≡ codes "-"
+TellsStep running.Write _ = ⊥
+TellsStep running.Memory told = told ≡ refusal.Engine engine.Memory
+
 -- the refusal tells that the file of this path cannot be read, or that memory ran out
 abbrev pub IsUnread : Text → Refusal → Type 0
 IsUnread path (refusal.Read named) = named.now ≡ path
@@ -60,8 +81,11 @@ abbrev pub text_of : Refusal → Option Text
 text_of refusal.Arguments = Some (codes "arguments refused")
 text_of (refusal.Engine told) = line_of told
 text_of (refusal.Read path) = Some (codes "file 1: Read(" ++ path.now ++ codes ")")
+text_of (refusal.ReadAdded path) = Some (codes "file 1: Read(" ++ string_bytes path ++ codes ")")
 text_of (refusal.Write path) = Some (codes "file 2: Write(" ++ path.now ++ codes ")")
 text_of (refusal.NotUtf8 path) = Some (codes "file 3: NotUtf8(" ++ path.now ++ codes ")")
+text_of (refusal.Script error) = Some (error_text (codes "script ") (script_error_number error) (script_error_name error))
+text_of (refusal.Live error) = Some (error_text (codes "live ") (live_error_number error) (live_error_name error))
 
 -- a control character as `\x` and two hexadecimal digits, and any other as it is
 abbrev pub shown_char : ℕ → Text

@@ -16,12 +16,13 @@ use Rattle.ix.specs.Files.{Holding, Keeping}
 use Rattle.ix.specs.Help.{AsksForHelp, as_flag, help_of}
 use Rattle.ix.specs.IndexFiles.{IsListingRefused, IsPrintedFromFile, IsSearchRefused, IsSearchedFromFile}
 use Rattle.ix.specs.Lines.{CutsTwice, Reads, texts_of}
+use Rattle.ix.specs.LiveScripts.{IsLiveRefused, IsLived}
 use Rattle.ix.specs.MergedRuns.{IsMerged, IsMergeRefused}
 use Rattle.ix.specs.Refusals.{IsTold}
 use Rattle.ix.specs.Upgrades.{IsUpgradeRefused, IsUpgraded}
 use Rattle.ix.specs.WrittenRuns.{IsRunRefused, IsRunSaved}
 use Rattle.ix.specs.declared.command_line.Line.{Line}
-use Rattle.ix.specs.declared.command_line.Line.TheVariants.{Ask, Build, Merge, Run, Search, Terms, Upgrade}
+use Rattle.ix.specs.declared.command_line.Line.TheVariants.{Ask, Build, Live, Merge, Run, Search, Terms, Upgrade}
 use Rattle.ix_ask.specs.declared.refusal.EngineRefusal.TheVariants as engine
 use Rattle.ix.specs.declared.refusal.Refusal.{Refusal}
 use Rattle.ix.specs.declared.refusal.Refusal.TheVariants as refusal
@@ -40,6 +41,7 @@ abbrev pub IsDone : Holding → Holding → Keeping → Line → Option Text →
 IsDone holds saves kept (Ask stop_file plan collection query) old new count = IsAnsweredFromFiles holds stop_file collection.now query.now old new count
 IsDone holds saves kept (Build stop_file plan collection index) old new count =
     IsBuilt holds saves kept stop_file plan collection.now index.now × Keeps old new × (count ≡ 1)
+IsDone holds saves kept (Live stop_file plan searchers script) old new count = IsLived holds stop_file script.now old new count
 IsDone holds saves kept (Search index query) old new count = IsSearchedFromFile holds index.now query.now old new count
 IsDone holds saves kept (Terms index pattern) old new count = IsPrintedFromFile holds index.now pattern.now old new count
 IsDone holds saves kept (Run stop_file first collection run) old new count =
@@ -55,6 +57,7 @@ IsLineRefused holds (Ask stop_file plan collection query) old new told =
     IsAskRefused holds stop_file plan.workers collection.now query.now old new told
 IsLineRefused holds (Build stop_file plan collection index) old new told =
     IsBuildRefused holds stop_file plan collection.now index.now told × Keeps old new
+IsLineRefused holds (Live stop_file plan searchers script) old new told = IsLiveRefused holds stop_file plan.workers script.now old new told
 IsLineRefused holds (Search index query) old new told = IsSearchRefused holds index.now query.now old new told
 IsLineRefused holds (Terms index pattern) old new told = IsListingRefused holds index.now pattern.now old new told
 IsLineRefused holds (Run stop_file first collection run) old new told = IsRunRefused holds stop_file first collection.now run.now told × Keeps old new

@@ -12,6 +12,7 @@ ghost use Rattle.ix.specs.Statuses.{IsLineless, IsUnwritten, IsRefused, IsRefuse
 
 mod ask;
 mod build;
+mod live;
 mod merge;
 mod run_file;
 mod search;
@@ -174,6 +175,12 @@ fn do_line<'a, R: Threads + Wait + Sync, F: FileSource + FileTarget, S: RunFiles
             Ok(()) => Ok(ONE_FILE),
             Err(refusal) => Err(refusal),
         },
+        Line::Live {
+            stop,
+            plan,
+            searchers,
+            script,
+        } => live::run(rt, alloc, files, stop, &plan, &searchers, script, out),
         Line::Run {
             stop,
             first,

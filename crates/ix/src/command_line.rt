@@ -9,6 +9,7 @@ mod commands;
 mod error;
 mod fields;
 mod plan;
+mod searchers;
 #[cfg(test)]
 mod tests;
 mod worked;
@@ -18,6 +19,8 @@ pub use error::LineError;
 use fields::{number_or, operand, operands, option};
 use ix_build::{Plan, Runs};
 use plan::{read_plan, runs_in};
+pub use searchers::Searchers;
+use searchers::read_searchers;
 use std::alloc::Global;
 pub use worked::worked_lines;
 
@@ -47,6 +50,17 @@ pub enum Line<'a> {
         collection: &'a str,
         /// The index file to be written.
         index: &'a str,
+    },
+    /// `ix live [--stop FILE] [--block N] [--bytes N] [--workers W] [--searchers S] SCRIPT`.
+    Live {
+        /// The file of stop words, where one is named.
+        stop: Option<&'a str>,
+        /// How added documents are cut into blocks, and by how many workers these are made.
+        plan: Plan,
+        /// By how many searchers the queries between two publishes are answered.
+        searchers: Searchers,
+        /// The file of the script.
+        script: &'a str,
     },
     /// `ix search INDEX QUERY`.
     Search {
@@ -130,6 +144,7 @@ fn line_of<'a>(alloc: Global, name: &str, matches: &ArgMatches<'a>) -> Result<Li
     match name {
         "ask" => ask_line(matches),
         "build" => build_line(alloc, matches),
+        "live" => live_line(matches),
         "search" => Ok(search_line(matches)),
         "terms" => Ok(terms_line(matches)),
         "run" => Ok(run_line(matches)),
@@ -172,6 +187,22 @@ fn build_line<'a>(alloc: Global, matches: &ArgMatches<'a>) -> Result<Line<'a>, L
         plan,
         collection,
         index,
+    })
+}
+
+fn live_line<'a>(matches: &ArgMatches<'a>) -> Result<Line<'a>, LineError>
+    requires { Entered ix_built (codes "live") (rows_of (found_of matches.now)) }
+    ensures line { IfOk result (Holds (codes "live") (rows_of (found_of matches.now))) }
+    ensures refused { IfErr result (RefusesRows (rows_of (found_of matches.now))) }
+{
+    let Some(plan) = read_plan(matches, Runs::Memory) else {
+        return Err(LineError::Both);
+    };
+    Ok(Line::Live {
+        stop: option(matches, "stop"),
+        plan,
+        searchers: read_searchers(matches),
+        script: operand(matches, "SCRIPT"),
     })
 }
 

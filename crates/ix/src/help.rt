@@ -17,6 +17,8 @@ Commands, in the order in which they are met:
             ix ask examples/mail.txt 'contract AND NOT hotel'
   build     builds an index of a collection, to be searched as often as one likes
             ix build examples/mail.txt mail.ix
+  live      carries out a script that adds documents, removes them and asks in between
+            ix live mail.live
   search    prints the names of the documents of an index that answer a query
             ix search mail.ix 'contract AND NOT hotel'
   terms     prints the terms of an index that match a pattern
@@ -121,6 +123,49 @@ Examples:
   ix build examples/mail.txt mail.ix
   ix build --workers 8 --block 256 examples/mail.txt mail.ix
   mkdir runs; ix build --runs runs examples/mail.txt mail.ix
+";
+
+/// What `ix live --help` prints.
+pub const HELP_ON_LIVE: &str = "\
+Carries out a script on a live index, which is searched while it grows.
+
+Usage: ix live [--stop FILE] [--block N] [--bytes N] [--workers W] [--searchers S] SCRIPT
+
+  SCRIPT         the file of the script; `-` is the standard input
+  --stop FILE    a file of words to leave out, one a line
+  --block N      how many added documents are inverted at a time,
+                 from 1 to 268435456; without it 1024
+  --bytes N      in place of --block: added documents are inverted at a time until their
+                 texts have this many bytes, from 1 to 268435456
+  --workers W    how many threads invert them, from 1 to 64; without it 4
+  --searchers S  how many threads answer queries, from 1 to 64; without it 2
+
+Each line of a script is empty, or one of these:
+  add PATH       adds the documents of the collection in this file
+  remove D       removes the document of this number; they are numbered from 0
+                 in the order in which they are added
+  publish        publishes all that was added and removed
+  ask QUERY      answers the query from what is published
+
+The script is read whole first: one with a faulty line is refused before a step is carried
+out. For each query a line is printed, with how many documents answer it, a TAB, and the
+query; then their names, one a line. The answers are the same whatever N, W and S are.
+
+A collection is a text in which each line is a document:
+its name, a TAB, and its text.
+
+Exit status: 0 some query was answered by a document, or help was asked for; 1 none was;
+2 refused, and one line on the error output says why; the answers to the queries before
+the last `publish` above the step that was refused are printed then.
+
+Example, of a script of five lines in the file mail.live:
+  add examples/mail.txt
+  remove 0
+  publish
+  ask contract AND NOT hotel
+  ask \"flights to london\" OR umbrella NEAR/3 station
+
+  ix live mail.live
 ";
 
 /// What `ix search --help` prints.
@@ -275,6 +320,7 @@ fn help_on_command(name: &str) -> &'static str
         "merge" => HELP_ON_MERGE,
         "upgrade" => HELP_ON_UPGRADE,
         "build" => HELP_ON_BUILD,
+        "live" => HELP_ON_LIVE,
         _ => HELP,
     }
 }

@@ -2,6 +2,9 @@
 
 use crate::files::WriteFault;
 use ix_ask::{AskError, EngineRefusal, ListingError, SearchError};
+use ix_live::LiveError;
+use ix_script::{RunError, ScriptError};
+use std::alloc::{AllocError, Global};
 use std::fmt;
 
 /// Why the program refused, in the area that it is told in. It prints as area, number and name, as
@@ -14,14 +17,20 @@ pub enum Refusal<'a> {
     Engine(EngineRefusal),
     /// The file of this path cannot be read.
     Read(&'a str),
+    /// The file of this path, which a script names, cannot be read.
+    ReadAdded(String),
     /// The file of this path cannot be written; `-` is the standard output.
     Write(&'a str),
     /// The file of this path is not UTF-8.
     NotUtf8(&'a str),
+    /// The text is no script.
+    Script(ScriptError),
+    /// The live index refused what a script asks for.
+    Live(LiveError),
 }
 
 impl<'a> Refusal<'a> {
-    ghost use Rattle.ix.specs.Refusals.{IsUnsaved};
+    ghost use Rattle.ix.specs.Refusals.{IsUnsaved, TellsLive, TellsStep};
 
     /// The refusal of a file that was not written.
     pub fn unsaved(path: &'a str, fault: WriteFault) -> Refusal<'a>
@@ -30,6 +39,33 @@ impl<'a> Refusal<'a> {
         match fault {
             WriteFault::Refused => Refusal::Write(path),
             WriteFault::Memory => Refusal::Engine(EngineRefusal::Memory),
+        }
+    }
+
+    /// The refusal of steps of a script that were stopped; of the paths that a script names it has a
+    /// copy.
+    pub fn stopped(alloc: Global, error: RunError<'_>) -> Refusal<'a>
+        ensures { TellsStep error.entry result }
+    {
+        match error {
+            RunError::Unread(path) => match String::from_str(alloc, path) {
+                Ok(path) => Refusal::ReadAdded(path),
+                Err(AllocError) => Refusal::Engine(EngineRefusal::Memory),
+            },
+            RunError::Collection(error) => Refusal::Engine(EngineRefusal::Collection(error)),
+            RunError::Live(error) => Refusal::of_live(error),
+            RunError::Write => Refusal::Write("-"),
+            RunError::Memory => Refusal::Engine(EngineRefusal::Memory),
+        }
+    }
+
+    /// The refusal of a live index.
+    fn of_live(error: LiveError) -> Refusal<'a>
+        ensures { TellsLive error result }
+    {
+        match error {
+            LiveError::Build(error) => Refusal::Engine(EngineRefusal::Build(error)),
+            error => Refusal::Live(error),
         }
     }
 }
@@ -44,8 +80,11 @@ impl fmt::Display for Refusal<'_> {
             Refusal::Arguments => write!(f, "arguments refused"),
             Refusal::Engine(refusal) => write!(f, "{refusal}"),
             Refusal::Read(path) => write!(f, "file 1: Read({path})"),
+            Refusal::ReadAdded(path) => write!(f, "file 1: Read({path})"),
             Refusal::Write(path) => write!(f, "file 2: Write({path})"),
             Refusal::NotUtf8(path) => write!(f, "file 3: NotUtf8({path})"),
+            Refusal::Script(error) => write!(f, "script {}: {error}", error.number()),
+            Refusal::Live(error) => write!(f, "live {}: {error}", error.number()),
         }
     }
 }

@@ -20,7 +20,7 @@ use std::thread::Threads;
 
 /// One byte more than a collection text or a stop text may have, so that a longer one, be it
 /// without an end, is refused for its size and takes no more memory.
-const ROOM: usize = (1 << 28) + 1;
+pub const ROOM: usize = (1 << 28) + 1;
 
 /// Writes the names of the documents in the collection file that answer the query, and answers how
 /// many there are, whatever the plan. The words of the stop file, where one is named, are left out.

@@ -2,6 +2,7 @@
 
 mod building;
 mod indexes;
+mod live;
 mod merging;
 mod runs;
 mod saving;
@@ -10,7 +11,8 @@ mod worked;
 use super::{command, command_over};
 use crate::files::{FileSource, FileTarget, ReadFault, WriteFault};
 use crate::help::{
-    HELP, HELP_ON_ASK, HELP_ON_BUILD, HELP_ON_RUN, HELP_ON_SEARCH, HELP_ON_TERMS, HELP_ON_UPGRADE,
+    HELP, HELP_ON_ASK, HELP_ON_BUILD, HELP_ON_LIVE, HELP_ON_RUN, HELP_ON_SEARCH, HELP_ON_TERMS,
+    HELP_ON_UPGRADE,
 };
 use indexes::{EMPTY, FIVE_FRONT_CODED, FIVE_PLAIN, LONG_TEXT, ONE, RED, STOPPED};
 use ix_build::SystemFiles;
@@ -333,6 +335,7 @@ fn help_of_the_program_and_of_each_command(rt: HostRuntime) -> Result<(), Fail> 
         (["terms", "-h"].as_slice(), HELP_ON_TERMS),
         (["help", "terms"].as_slice(), HELP_ON_TERMS),
         (["build", "--help"].as_slice(), HELP_ON_BUILD),
+        (["live", "--help"].as_slice(), HELP_ON_LIVE),
         (["run", "--help"].as_slice(), HELP_ON_RUN),
         (["help", "upgrade"].as_slice(), HELP_ON_UPGRADE),
     ] {

@@ -2,7 +2,8 @@
 ghost use Rattle.std.specs.Prelude.{◌≡◌, IfOk};
 ghost use Rattle.clap.specs.Words.{app_of};
 ghost use Rattle.ix.specs.Building.{IsArgument, IsCommand};
-ghost use Rattle.ix.specs.Commands.{ask_shape, build_shape, ix_app, leaf, merge_shape, number_rule};
+ghost use Rattle.ix.specs.Commands.{ask_shape, build_shape, ix_app, leaf, live_shape, merge_shape};
+ghost use Rattle.ix.specs.Commands.{number_rule};
 ghost use Rattle.ix.specs.Commands.{operand_rule, operands_rule, option_rule, program, run_shape};
 ghost use Rattle.ix.specs.Commands.{search_shape};
 ghost use Rattle.ix.specs.Commands.{terms_shape, upgrade_shape};
@@ -20,6 +21,9 @@ const MAX_BYTES: i64 = 1 << 28;
 /// How many workers a build may have.
 const MAX_WORKERS: i64 = 64;
 
+/// How many searchers a live index may have.
+const MAX_SEARCHERS: i64 = 64;
+
 /// The program.
 pub fn ix<'a>(alloc: Global) -> Result<Command<'a>, AllocError>
     ensures { IfOk result (λ r. app_of r ≡ ix_app) }
@@ -31,7 +35,8 @@ pub fn ix<'a>(alloc: Global) -> Result<Command<'a>, AllocError>
     let with_merge = with_run.subcommand(merge(alloc)?)?;
     let with_upgrade = with_merge.subcommand(upgrade(alloc)?)?;
     let with_build = with_upgrade.subcommand(build(alloc)?)?;
-    Ok(with_build)
+    let with_live = with_build.subcommand(live(alloc)?)?;
+    Ok(with_live)
 }
 
 // The program without a command.
@@ -69,6 +74,19 @@ fn build<'a>(alloc: Global) -> Result<Command<'a>, AllocError>
     let with_collection = with_runs.arg(operand(alloc, "COLLECTION"))?;
     let with_index = with_collection.arg(operand(alloc, "INDEX"))?;
     Ok(with_index)
+}
+
+fn live<'a>(alloc: Global) -> Result<Command<'a>, AllocError>
+    ensures { IfOk result (IsCommand (leaf live_shape)) }
+{
+    let plain = Command::new(alloc, "live");
+    let with_stop = plain.arg(option(alloc, "stop"))?;
+    let with_block = with_stop.arg(number(alloc, "block", 1, MAX_DOCUMENTS))?;
+    let with_bytes = with_block.arg(number(alloc, "bytes", 1, MAX_BYTES))?;
+    let with_workers = with_bytes.arg(number(alloc, "workers", 1, MAX_WORKERS))?;
+    let with_searchers = with_workers.arg(number(alloc, "searchers", 1, MAX_SEARCHERS))?;
+    let with_script = with_searchers.arg(operand(alloc, "SCRIPT"))?;
+    Ok(with_script)
 }
 
 #[tactic(auto, using(crate::proofs::Building::adds_argument))]

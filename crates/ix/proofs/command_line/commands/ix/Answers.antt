@@ -12,4 +12,5 @@ returns c =
     let with_run = adds_subcommand c.in_ok-with_run.ensures with_terms c.in_ok-run.ensures in
     let with_merge = adds_subcommand c.in_ok-with_merge.ensures with_run c.in_ok-merge.ensures in
     let with_upgrade = adds_subcommand c.in_ok-with_upgrade.ensures with_merge c.in_ok-upgrade.ensures in
-    adds_subcommand c.in_ok-with_build.ensures with_upgrade c.in_ok-build.ensures
+    let with_build = adds_subcommand c.in_ok-with_build.ensures with_upgrade c.in_ok-build.ensures in
+    adds_subcommand c.in_ok-with_live.ensures with_build c.in_ok-live.ensures

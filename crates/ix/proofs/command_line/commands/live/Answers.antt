@@ -1,0 +1,16 @@
+-- Each argument is added to those before it.
+use Rattle.clap.specs.Simple.{new_app}
+use Rattle.std.proofs.Common.{codes}
+use Rattle.ix.specs.Building.{IsCommand}
+use Rattle.ix.proofs.Building.{adds_argument}
+use Rattle.ix.proofs.command_line.commands.live.Goals as goal
+
+pub returns : goal.returns
+returns c =
+    let plain : IsCommand (new_app (codes "live")) c.new-plain.result = record { app_is = c.new-plain.ensures.app; local = c.new-plain.ensures.local } in
+    let with_stop = adds_argument c.in_ok-with_stop.ensures plain c.option.ensures in
+    let with_block = adds_argument c.in_ok-with_block.ensures with_stop c.number.ensures in
+    let with_bytes = adds_argument c.in_ok-with_bytes.ensures with_block c.number-2.ensures in
+    let with_workers = adds_argument c.in_ok-with_workers.ensures with_bytes c.number-3.ensures in
+    let with_searchers = adds_argument c.in_ok-with_searchers.ensures with_workers c.number-4.ensures in
+    adds_argument c.in_ok-with_script.ensures with_searchers c.operand.ensures
