@@ -76,6 +76,11 @@ mkdir runs
 "$ix" build --runs runs --block 1 mail.tsv mail.ix
 prints "the index of runs in a folder is the same, and the folder empty" same "$(cmp -s mail.ix whole.ix && rmdir runs && echo same)"
 
+printf '3@example.org\tThe train to London.\n' > more.tsv
+printf '%s\n' 'add mail.tsv' publish 'add more.tsv' 'ask london' 'remove 0' publish 'ask london' > day.script
+prints "documents that come and go" "$(printf '2\tlondon\n1@example.org\n2@example.org\n2\tlondon\n2@example.org\n3@example.org\n')" \
+    "$("$ix" live day.script)"
+
 status=0
 "$ix" ask mail.tsv 'rome' > names || status=$?
 prints "nothing found is status 1" 1 "$status"

@@ -4,21 +4,22 @@ _ix() {
     local word=${COMP_WORDS[COMP_CWORD]} before=${COMP_WORDS[COMP_CWORD-1]} options
     COMPREPLY=()
     if [ "$COMP_CWORD" = 1 ]; then
-        mapfile -t COMPREPLY < <(compgen -W "ask build search terms run merge upgrade help --help" -- "$word")
+        mapfile -t COMPREPLY < <(compgen -W "ask build search terms run merge upgrade live help --help" -- "$word")
         return
     fi
     case ${COMP_WORDS[1]} in
         ask) options="--stop --block --bytes --workers --help" ;;
         build) options="--stop --block --bytes --workers --runs --help" ;;
         run) options="--stop --first --help" ;;
+        live) options="--stop --block --bytes --workers --searchers --help" ;;
         help)
-            mapfile -t COMPREPLY < <(compgen -W "ask build search terms run merge upgrade" -- "$word")
+            mapfile -t COMPREPLY < <(compgen -W "ask build search terms run merge upgrade live" -- "$word")
             return
             ;;
         *) options="--help" ;;
     esac
     case $before in
-        --block | --bytes | --workers | --first) return ;;
+        --block | --bytes | --workers | --searchers | --first) return ;;
         --runs)
             mapfile -t COMPREPLY < <(compgen -d -- "$word")
             return

@@ -228,6 +228,44 @@ def plans():
         gives(f"ask {' '.join(words)}", ["ask", *words, "c.txt", "x"], 2, b"", b"ix: arguments refused")
 
 
+def live():
+    """Scripts of a live index."""
+    Path("c1").write_bytes(b"1\tred fox\n")
+    Path("c2").write_bytes(b"2\tfox\n")
+
+    def script(name, lines, status, printed="", refusal=b"", options=()):
+        text = "".join(line + "\n" for line in lines)
+        Path("script").write_text(text)
+        told = printed.replace(" TAB ", "\t").replace(", ", "\n") + "\n" if printed else ""
+        gives(f"live: {name}", ["live", *options, "script"], status, told.encode(), refusal)
+        gives(f"live, from the standard input: {name}", ["live", *options, "-"], status, told.encode(), refusal, stdin=text.encode())
+
+    grown = ["add c1", "ask fox", "publish", "ask fox", "add c2", "ask fox", "publish", "ask NOT red"]
+    for options in ((), ("--searchers", "1", "--workers", "1"), ("--searchers", "64", "--block", "1"), ("--bytes", "1",)):
+        script(f"documents are found once they are published {' '.join(options)}", grown, 0,
+               "0 TAB fox, 1 TAB fox, 1, 1 TAB fox, 1, 1 TAB NOT red, 2", options=options)
+    removed = ["add c1", "add c2", "publish", "remove 0", "ask fox", "publish", "ask fox", "ask NOT red", "add c1", "publish", "ask red"]
+    script("documents are removed", removed, 0, "2 TAB fox, 1, 2, 1 TAB fox, 2, 1 TAB NOT red, 2, 1 TAB red, 1")
+    script("forty additions", ["add c2"] * 40 + ["publish", "ask fox"], 0, "40 TAB fox, " + ", ".join(["2"] * 40))
+    script("nothing is found", ["add c1", "publish", "ask dog"], 1, "0 TAB dog")
+    script("no line at all", [], 1)
+    script("what waits at the end is dropped", ["add c1", "", "ask fox"], 1, "0 TAB fox")
+    script("a line that is none", ["add c1", "publish", "say x"], 2, "", b"ix: script 1: Line(3)")
+    script("a query that is none", ["add c1", 'ask "a'], 2, "", b"ix: script 2: Query(2, OpenQuote)")
+    script("a number that no document has", ["add c1", "publish", "ask fox", "publish", "ask red", "remove 7"], 2, "1 TAB fox, 1",
+           b"ix: live 4: Number(7)")
+    script("a collection that is not there", ["add missing"], 2, "", b"ix: file 1: Read(missing)")
+    Path("bad").write_bytes(b"x\n")
+    script("a collection that is none", ["ask a", "add bad"], 2, "", b"ix: collection 3: NoTab(1)")
+    Path("stop").write_bytes(b"fox\n")
+    script("a stop word is no query", ["ask fox"], 2, "", b"ix: script 2: Query(1, OnlyStopWords)", ("--stop", "stop"))
+    script("a stop word is a place", ["add c1", "publish", "ask \"red fox\""], 0, "1 TAB \"red fox\", 1", options=("--stop", "stop"))
+    script("two ways to cut", ["publish"], 2, "", b"ix: arguments refused", ("--block", "1", "--bytes", "1"))
+    Path("script").write_bytes(b"ask \xff\n")
+    gives("live: a script that is not UTF-8", ["live", "script"], 2, b"", b"ix: file 3: NotUtf8(script)")
+    gives("live: no script", ["live", "nowhere"], 2, b"", b"ix: file 1: Read(nowhere)")
+
+
 def system():
     """What the operating system does."""
     Path("c.txt").write_bytes(FIVE)
@@ -270,7 +308,7 @@ def main():
         return 2
     with tempfile.TemporaryDirectory() as folder:
         os.chdir(folder)
-        for part in (rows, refusals, files, merging, plans, system):
+        for part in (rows, refusals, files, merging, plans, live, system):
             part()
         os.chdir("/")
     print(f"{failed} failed" if failed else "all as expected")
