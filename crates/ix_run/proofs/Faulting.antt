@@ -7,7 +7,7 @@ use Rattle.ix_run.specs.Reading.{BeginsFirst, Faces, HasFailed, IsEnded, term_of
 use Rattle.ix_run.specs.RunSources.{IsAtEnd, SourceValue}
 use Rattle.ix_run.specs.RunTextErrors.{IsRefusal}
 use Rattle.ix_run.specs.Sources.{KeepsFaults}
-use Rattle.ix_run.specs.declared.run_reader.Place.TheVariants.{Begun, AtTerm, Ended, Failed}
+use Rattle.ix_run.specs.declared.run_reader.Place.TheVariants.{Begun, AtTerm}
 use Rattle.ix_run.specs.declared.run_reader.RunReader.{RunReader}
 use Rattle.ix_run.specs.declared.run_text_error.RunTextError.{RunTextError}
 use Rattle.ix_run.specs.declared.run_text_error.RunTextError.TheVariants as fault

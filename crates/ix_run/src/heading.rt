@@ -13,20 +13,15 @@ use crate::input::Input;
 use crate::rows::rows;
 use crate::stop_terms::stop_list;
 use crate::{RunHead, RunTextError};
+use ix_text::{MAX_DOCUMENTS, MAX_TERM_BYTES};
 use std::alloc::Global;
 use std::io::Read;
-
-/// The most bytes that a term or a name may have.
-pub(crate) const MAX_TEXT_BYTES: u32 = 255;
 
 /// More bytes than any code has.
 pub(crate) const CODE_LIMIT: usize = 8;
 
 /// The eight bytes with which a run text begins.
 const MAGIC: [u8; 8] = *b"PIIXRUN1";
-
-/// The most documents that may be numbered.
-const MAX_DOCUMENTS: u64 = 1 << 28;
 
 /// Takes what stands before the terms of a run text.
 ///
@@ -48,7 +43,7 @@ pub(crate) fn read_head<R: Read>(
     read_magic(alloc, input)?;
     let first = fixed(alloc, input)?;
     let count = fixed(alloc, input)?;
-    if u64::from(first) + u64::from(count) > MAX_DOCUMENTS {
+    if u64::from(first) + u64::from(count) > u64::from(MAX_DOCUMENTS) {
         return Err(RunTextError::TooLarge);
     }
     let stop = stop_list(alloc, input)?;
@@ -109,7 +104,7 @@ pub(crate) fn counted_text<R: Read>(
         × (known_left R.remaining input.new ≡ Some rest)) IsRefusal }
 {
     let (length, _) = input.code(CODE_LIMIT)?;
-    if length == 0 || length > MAX_TEXT_BYTES {
+    if length == 0 || length > MAX_TERM_BYTES {
         return Err(size_fault);
     }
     let mut bytes = Vec::new(alloc);

@@ -18,11 +18,8 @@ use crate::head::{RunDoc, RunHead};
 use crate::run::Run;
 use crate::term_list::TermList;
 use indexmap::IndexMap;
-use ix_text::{Doc, Memory, StopList, write_tokens};
+use ix_text::{Doc, MAX_DOCUMENTS, MAX_TOKENS, Memory, StopList, write_tokens};
 use std::alloc::Global;
-
-/// The most documents and the most tokens that an index may have.
-const MAX_COUNT: usize = 1 << 28;
 
 /// Inverts a block of documents, the first of which has this number in the whole collection (IIR 4.3).
 ///
@@ -37,7 +34,8 @@ pub fn invert(alloc: Global, docs: &[Doc<'_>], stop: &StopList, first: u32) -> R
         → IsErr result }
     ensures numbers { 2 ^ 28 < first + length docs.now → result ≡ Err RunError.TooLarge }
 {
-    if docs.len() > MAX_COUNT || first as usize > MAX_COUNT - docs.len() {
+    let most = MAX_DOCUMENTS as usize;
+    if docs.len() > most || first as usize > most - docs.len() {
         return Err(RunError::TooLarge);
     }
     let stop_terms = copied(alloc, stop)?;
@@ -87,7 +85,7 @@ fn add_documents(
 {
     let mut rows = Vec::new(alloc);
     let mut list = Vec::new(alloc);
-    let mut left = MAX_COUNT;
+    let mut left = MAX_TOKENS as usize;
     for (number, doc) in docs.iter().enumerate() {
         let tokens = write_list(alloc, &mut list, doc.text, stop)?;
         let list = &list[..tokens];

@@ -12,11 +12,9 @@ ghost use Rattle.ix_run.specs.RunTextErrors.{IsRefusal};
 use crate::heading::{CODE_LIMIT, counted_text};
 use crate::input::Input;
 use crate::{RunDoc, RunTextError};
+use ix_text::MAX_TOKENS;
 use std::alloc::Global;
 use std::io::Read;
-
-/// The most tokens that the documents of a run may have together.
-const MAX_TOKENS: u32 = 1 << 28;
 
 /// Takes so many documents, of at most 2^28 tokens together.
 pub(crate) fn rows<R: Read>(

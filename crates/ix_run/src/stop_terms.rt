@@ -12,12 +12,9 @@ ghost use Rattle.ix_run.specs.RunTextErrors.{IsRefusal};
 use crate::RunTextError;
 use crate::heading::{CODE_LIMIT, counted_text};
 use crate::input::Input;
-use ix_text::StopList;
+use ix_text::{MAX_STOP_TERMS, StopList};
 use std::alloc::Global;
 use std::io::Read;
-
-/// The most stop terms that a run may have.
-const MAX_STOP_TERMS: u32 = 1 << 28;
 
 /// Takes the number of stop terms and the terms.
 ///

@@ -8,10 +8,10 @@ ghost use Rattle.ix_run.specs.ReadTerms.{TermFits, TextFits};
 ghost use Rattle.ix_run.specs.RunTextErrors.{IsRefusal};
 
 use crate::RunTextError;
-use crate::heading::{CODE_LIMIT, MAX_TEXT_BYTES};
+use crate::heading::CODE_LIMIT;
 use crate::input::Input;
 use crate::list::read_positive;
-use ix_text::StopList;
+use ix_text::{MAX_TERM_BYTES, StopList};
 use std::io::Read;
 use std::str::from_utf8;
 
@@ -97,7 +97,7 @@ fn read_text<R: Read>(
         → MatchResult result (λ _. (string_bytes term.new ≡ text)
         × (known_left R.remaining input.new ≡ Some rest)) IsRefusal }
 {
-    if size > MAX_TEXT_BYTES {
+    if size > MAX_TERM_BYTES {
         return Err(RunTextError::TermSize);
     }
     input.take(size as usize, scratch)?;

@@ -7,17 +7,12 @@ ghost use Rattle.ix_text.specs.Collections.{NamedText, IsName};
 ghost use Rattle.ix_text.specs.Sizes.{AreSmall};
 ghost use Rattle.ix_text.specs.declared.collection.CollectionError.{CollectionError};
 
+use crate::{MAX_NAME_BYTES, MAX_TEXT_BYTES};
 use memchr::memchr;
 use simdutf8::compat::from_utf8;
 use std::alloc::{AllocError, AllocFailed, Global};
 use std::marker::Model;
 use std::{error, fmt};
-
-/// The most bytes that a collection text may have.
-const MAX_BYTES: usize = 1 << 28;
-
-/// The most bytes that a name may have.
-const MAX_NAME_BYTES: usize = 255;
 
 /// A document as it is read: its name and its text, both borrowed from the collection text.
 #[derive(Clone, Copy, Debug, PartialEq, Eq)]
@@ -47,7 +42,7 @@ impl<'a> Doc<'a> {
         let Some((name, text)) = cut_at(line, b'\t') else {
             return Err(CollectionError::NoTab(number));
         };
-        if name.is_empty() || name.len() > MAX_NAME_BYTES {
+        if name.is_empty() || name.len() > MAX_NAME_BYTES as usize {
             return Err(CollectionError::Name(number));
         }
         let Some(next) = next else {
@@ -95,7 +90,7 @@ impl<'a> Collection<'a> {
         ensures accepted { (documents : List NamedText) → IsCollectionText bytes.now documents
             → (result ≡ Ok documents) ⊎ (result ≡ Err CollectionError.Memory) }
     {
-        if bytes.len() > MAX_BYTES {
+        if bytes.len() > MAX_TEXT_BYTES {
             return Err(CollectionError::TooLarge);
         }
         let text = from_utf8(bytes).map_err(|e| CollectionError::NotUtf8(e.valid_up_to()))?;

@@ -4,6 +4,7 @@
 #![tactic(auto)]
 
 mod collection;
+mod limits;
 mod memory;
 mod parts;
 mod sink;
@@ -16,6 +17,9 @@ mod token_table;
 mod windows;
 
 pub use collection::{Collection, CollectionError, Doc, has_documents_or_a_fault};
+pub use limits::{
+    MAX_DOCUMENTS, MAX_NAME_BYTES, MAX_STOP_TERMS, MAX_TERM_BYTES, MAX_TEXT_BYTES, MAX_TOKENS,
+};
 pub use memory::Memory;
 pub use parts::{
     distinct_tokens_are_lawful, lawful_collections_have_lawful_parts, lawful_parts_have_collection,

@@ -7,15 +7,12 @@ ghost use Rattle.ix_text.specs.StopFaults.{IsStopLine, IsStopLineFault, IsStopFa
 ghost use Rattle.ix_text.specs.StopLaws.{FaultsExcludeStopSet, HasOneStopFault, HasOneStopSet, HasStopSetOrFault};
 
 use crate::stop_slots::{SLOTS, Slot, slot_of, slots_of};
-use crate::term_of;
 use crate::token::has_term_size;
+use crate::{MAX_TEXT_BYTES, term_of};
 use std::alloc::{AllocError, AllocFailed, Global};
 use std::marker::Model;
 use std::{error, fmt};
 use unicode_segmentation::UnicodeSegmentation;
-
-/// The most bytes that a stop text may have.
-const MAX_BYTES: usize = 1 << 28;
 
 /// The terms of the words that are left out of token lists (IIR 2.2.2), ascending by their bytes, each once.
 #[derive(Drop)]
@@ -70,7 +67,7 @@ impl StopList {
         ensures accepted { (stop : List (List ℕ)) → IsStopText text.now stop
             → (result ≡ Ok stop) ⊎ (result ≡ Err StopError.Memory) }
     {
-        if text.len() > MAX_BYTES {
+        if text.len() > MAX_TEXT_BYTES {
             return Err(StopError::TooLarge);
         }
         let mut terms = Vec::new(alloc);

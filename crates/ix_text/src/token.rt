@@ -7,7 +7,7 @@ ghost use Rattle.ix_text.specs.Terms.{term_of_word};
 ghost use Rattle.ix_text.specs.TokenLists.{entry_of_term, is_stop_term, is_term_size, token_list};
 
 use crate::term::write_term;
-use crate::{Memory, StopList};
+use crate::{MAX_TERM_BYTES, Memory, StopList};
 use std::alloc::Global;
 use unicode_segmentation::UnicodeSegmentation;
 
@@ -130,7 +130,7 @@ fn is_kept(term: &str, stop: &StopList) -> bool
 pub(crate) fn has_term_size(term: &str) -> bool
     ensures { result ≡ is_term_size term.now }
 {
-    0 < term.len() && term.len() <= 255
+    0 < term.len() && term.len() <= MAX_TERM_BYTES as usize
 }
 
 /// A law: what a token list holds may stand in a lawful collection; it has at most as many entries as its text has

@@ -7,7 +7,7 @@ use Rattle.std.proofs.lemmas.Result.{err_from_is_err_and}
 use Rattle.std.specs.Prelude.{IsUtf8}
 use Rattle.ix_run.specs.Inputs.{known_left}
 use Rattle.ix_run.proofs.SpelledLemmas.{length_refused, length_in_range, bytes_refused, bytes_accepted}
-use Rattle.ix_run.proofs.heading.counted_text.Goals.{then-length-eq0-via-then-length-eq0, then-length-eq0-via-else-length-eq0+then-length-gt-MAX_TEXT_BYTES}
+use Rattle.ix_run.proofs.heading.counted_text.Goals.{then-length-eq0-via-then-length-eq0, then-length-eq0-via-else-length-eq0+then-length-gt-MAX_TERM_BYTES}
 use Rattle.ix_run.proofs.heading.counted_text.Goals as goal
 
 pub returns-in_err-length-clause-accepted : goal.returns-in_err-length-clause-accepted
@@ -22,7 +22,7 @@ returns-then-length-eq0-clause-accepted g c text rest term e =
     absurd (length_in_range old text rest term e new c.in_ok-length.length c.in_ok-length.ensures.taken
     (elim c.then-length-eq0.branch [
       | then-length-eq0-via-then-length-eq0 w ↦ inl w.if-length-eq0.true
-      | then-length-eq0-via-else-length-eq0+then-length-gt-MAX_TEXT_BYTES w ↦ inr w.if-length-gt-MAX_TEXT_BYTES.true
+      | then-length-eq0-via-else-length-eq0+then-length-gt-MAX_TERM_BYTES w ↦ inr w.if-length-gt-MAX_TERM_BYTES.true
     ]))
 
 pub returns-in_err-take-clause-accepted : goal.returns-in_err-take-clause-accepted

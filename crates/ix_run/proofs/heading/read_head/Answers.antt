@@ -36,12 +36,12 @@ returns-in_err-count-clause-accepted g c heading rest lawful e =
     let two = c.in_ok-first.ensures.accepted heading.first (after_first heading rest) (few_first heading lawful) one in
     rw (p.1, p.2) (c.in_err-count.ensures.accepted (length heading.rows) (after_numbers heading rest) (few_rows heading lawful) two.1)
 
-pub returns-then-from-gt-MAX_DOCUMENTS-clause-accepted : goal.returns-then-from-gt-MAX_DOCUMENTS-clause-accepted
-returns-then-from-gt-MAX_DOCUMENTS-clause-accepted g c heading rest lawful e =
+pub returns-then-from-clause-accepted : goal.returns-then-from-clause-accepted
+returns-then-from-clause-accepted g c heading rest lawful e =
     let one = c.in_ok-read_magic.ensures.accepted (after_magic heading rest) (known_parts (known_left g.R.Read.remaining c.args.input.now) heading rest e) in
     let two = c.in_ok-first.ensures.accepted heading.first (after_first heading rest) (few_first heading lawful) one in
     let three = c.in_ok-count.ensures.accepted (length heading.rows) (after_numbers heading rest) (few_rows heading lawful) two.1 in
-    omega (arith, c.if-from-gt-MAX_DOCUMENTS.true, two.0, three.0, lawful.few_documents, c.from.ensures, c.from-2.ensures)
+    omega (arith, c.if-from.true, two.0, three.0, lawful.few_documents, c.from.ensures, c.from-2.ensures)
 
 pub returns-in_err-stop-clause-accepted : goal.returns-in_err-stop-clause-accepted
 returns-in_err-stop-clause-accepted g c heading rest lawful e =
@@ -81,7 +81,7 @@ returns-clause-lawful g c =
       stop = c.in_ok-stop.ensures.lawful;
       names = names_from_fits rows c.in_ok-docs.ensures.read.fits;
       few_tokens = few_from_fits rows c.in_ok-docs.ensures.read.fits;
-      few_documents = omega (arith, length-map c.in_ok-docs.docs.items row_of_doc, c.in_ok-docs.ensures.all, c.if-from-gt-MAX_DOCUMENTS.false, c.from.ensures, c.from-2.ensures);
+      few_documents = omega (arith, length-map c.in_ok-docs.docs.items row_of_doc, c.in_ok-docs.ensures.all, c.if-from.false, c.from.ensures, c.from-2.ensures);
     }
 
 pub returns-clause-accepted : goal.returns-clause-accepted

@@ -8,15 +8,15 @@ use Rattle.ix_run.specs.Heads.{row_of_doc}
 use Rattle.ix_run.specs.declared.errors.RunError.TheVariants.{TooLarge}
 use Rattle.ix_run.proofs.Blocks.{block_run, block_fits, numbers_too_large, tokens_too_large}
 use Rattle.ix_run.proofs.inversion.invert.Goals as goal
-use Rattle.ix_run.proofs.inversion.invert.Goals.{then-docs-gt-MAX_COUNT-via-then-docs-gt-MAX_COUNT, then-docs-gt-MAX_COUNT-via-else-docs-gt-MAX_COUNT+then-first-docs}
+use Rattle.ix_run.proofs.inversion.invert.Goals.{then-docs-most-via-then-docs-most, then-docs-most-via-else-docs-most+then-first-most}
 
-pub returns-then-docs-gt-MAX_COUNT-clause-too_large : goal.returns-then-docs-gt-MAX_COUNT-clause-too_large
-returns-then-docs-gt-MAX_COUNT-clause-too_large c _ =
+pub returns-then-docs-most-clause-too_large : goal.returns-then-docs-most-clause-too_large
+returns-then-docs-most-clause-too_large c _ =
     let size = length-map c.args.docs.now named_text in
     numbers_too_large c.args.stop.now (map named_text c.args.docs.now) c.args.first
-    (elim c.then-docs-gt-MAX_COUNT.branch [
-      | then-docs-gt-MAX_COUNT-via-then-docs-gt-MAX_COUNT w ↦ omega (arith, size)
-      | then-docs-gt-MAX_COUNT-via-else-docs-gt-MAX_COUNT+then-first-docs w ↦ omega (arith, size)
+    (elim c.then-docs-most.branch [
+      | then-docs-most-via-then-docs-most w ↦ omega (arith, size)
+      | then-docs-most-via-else-docs-most+then-first-most w ↦ omega (arith, size)
     ])
 
 pub returns-in_err-rows-clause-too_large : goal.returns-in_err-rows-clause-too_large

@@ -1,4 +1,4 @@
-use Rattle.std.proofs.Common.{◌-◌, ◌^◌, length, map}
+use Rattle.std.proofs.Common.{◌-◌, ◌^◌, length}
 use Rattle.ix_run.proofs.RunFiles.{ReadsOn}
 use Rattle.ix_run.proofs.run_file.read_terms.Given as goal
 

@@ -33,7 +33,7 @@ returns-clause-fits g c =
       is = record {
         text = subst IsUtf8 (sym c.in-Ok.ensures.cases.0) c.in-Ok.ensures.cases.1;
         some_byte = omega (arith, size, c.requires);
-        short = omega (arith, size, c.if-size-gt-MAX_TEXT_BYTES.false);
+        short = omega (arith, size, c.if-size-gt-MAX_TERM_BYTES.false);
       };
       above = rw (← c.as_str.ensures.value) (above_from_test c.in-Ok.text.now c.as_str.result.now c.le.result c.le.ensures c.if-le.false);
       no_stop = λ stops. false≢true (sym c.if-contains.false ∙ c.contains.ensures.1 stops);

@@ -1,4 +1,4 @@
-use Rattle.std.proofs.Common.{◌≡◌, ◌∷◌, ◌++◌, [], List, ℕ, string_bytes, ap, ap₂, refl, sym, ◌∙◌, arith}
+use Rattle.std.proofs.Common.{◌∷◌, ◌++◌, [], List, ℕ, string_bytes, ap, ◌∙◌, arith}
 use Rattle.ix_run.specs.HeldTerms.{HoldTerms, row_of_term, terms_in}
 use Rattle.ix_run.specs.Runs.{TermValue, term_shown}
 use Rattle.ix_run.specs.declared.coded_terms.TermRow.{TermRow}

@@ -1,5 +1,5 @@
 use Rattle.ix_run.proofs.ReadSkips.{none_left}
-use Rattle.ix_run.proofs.Faulting.{failed_fault, going_at_term, keeps_faults, may_fault}
+use Rattle.ix_run.proofs.Faulting.{going_at_term, keeps_faults, may_fault}
 use Rattle.ix_run.proofs.run_reader.RunReaderSource.next_posting.Goals as goal
 use Rattle.ix_run.proofs.run_reader.RunReaderSource.next_posting.Goals.{in-Failed, in_default}
 

@@ -1,4 +1,4 @@
-use Rattle.std.proofs.Common.{List, ℕ, IsSome, map, sym, ap, subst, ◌∙◌}
+use Rattle.std.proofs.Common.{List, ℕ, IsSome, sym, ap, subst, ◌∙◌}
 use Rattle.std.specs.Option.{option_copied}
 use Rattle.ix_run.specs.Heads.{heading_of}
 use Rattle.ix_run.specs.RunSources.{HasGiven, HasLeft, SourceValue}

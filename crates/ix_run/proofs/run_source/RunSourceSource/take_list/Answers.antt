@@ -1,5 +1,5 @@
 -- The list that is left is that of the entry at hand, so that its documents can be counted from the head's first number.
-use Rattle.std.proofs.Common.{ℕ, ◌<◌, map, length, sym, subst, ◌∙◌, arith}
+use Rattle.std.proofs.Common.{ℕ, ◌<◌, length, sym, subst, ◌∙◌, arith}
 use Rattle.std.specs.Option.{option_copied}
 use Rattle.ix_run.specs.Heads.{heading_of}
 use Rattle.ix_run.specs.RunSources.{HasGiven, HasLeft, SourceValue}

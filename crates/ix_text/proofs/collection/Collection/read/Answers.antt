@@ -11,14 +11,14 @@ use Rattle.ix_text.proofs.collection.Collection.read.Goals as goal
 pub returns-in_err-doc-clause-fault : goal.returns-in_err-doc-clause-fault
 returns-in_err-doc-clause-fault c =
     let p = err_from_is_err_and c.from_residual-in_err-doc.result c.from_residual-in_err-doc.ensures.1 in
-    let small : length c.args.bytes.now ≤ 2 ^ 28 = c.if-bytes-gt-MAX_BYTES.false in
+    let small : length c.args.bytes.now ≤ 2 ^ 28 = c.if-bytes-gt-MAX_TEXT_BYTES.false in
     let some_byte : 0 < length c.loop-left.left.now = grind (arith, nat_tests, c.is_empty.ensures, c.loop-left-test.true) in
     let fault = rw c.len.ensures at c.in_err-doc.ensures.fault in
     rw (p.1, p.2) (inr (fault_from_line c.args.bytes.now _ _ c.loop-left.left.now c.in_err-doc.field-0.0 small c.loop-left.invariant.characters c.loop-left.invariant.read some_byte fault))
 
 pub returns-in_err-doc-clause-accepted : goal.returns-in_err-doc-clause-accepted
 returns-in_err-doc-clause-accepted c documents read =
-    let small : length c.args.bytes.now ≤ 2 ^ 28 = c.if-bytes-gt-MAX_BYTES.false in
+    let small : length c.args.bytes.now ≤ 2 ^ 28 = c.if-bytes-gt-MAX_TEXT_BYTES.false in
     let some_byte : 0 < length c.loop-left.left.now = grind (arith, nat_tests, c.is_empty.ensures, c.loop-left-test.true) in
     let fault = rw c.len.ensures at c.in_err-doc.ensures.fault in
     absurd (refused c.args.bytes.now documents c.in_err-doc.field-0.0
@@ -26,7 +26,7 @@ returns-in_err-doc-clause-accepted c documents read =
 
 pub returns-clause-accepted : goal.returns-clause-accepted
 returns-clause-accepted c documents read =
-    let small : length c.args.bytes.now ≤ 2 ^ 28 = c.if-bytes-gt-MAX_BYTES.false in
+    let small : length c.args.bytes.now ≤ 2 ^ 28 = c.if-bytes-gt-MAX_TEXT_BYTES.false in
     let nothing : length c.loop-left.left.now ≡ 0 = grind (arith, nat_tests, c.is_empty.ensures, c.loop-left-test.false) in
     let mine = read_all c.args.bytes.now _ _ c.loop-left.left.now small c.loop-left.invariant.characters c.loop-left.invariant.read nothing in
     inl (ap Ok (one_list c.args.bytes.now _ documents mine read))
@@ -44,5 +44,5 @@ loop-left-preserved c =
 
 pub invariant_of-result : goal.invariant_of-result
 invariant_of-result c =
-    let small : length c.args.bytes.now ≤ 2 ^ 28 = c.if-bytes-gt-MAX_BYTES.false in
+    let small : length c.args.bytes.now ≤ 2 ^ 28 = c.if-bytes-gt-MAX_TEXT_BYTES.false in
     (AreSmall-from_lines c.args.bytes.now _ _ c.loop-left.left.now small c.loop-left.invariant.read, tt)

@@ -12,7 +12,7 @@ loop-line-init c = record { lines = read_nothing _ _ (ap (map string_bytes) c.ne
 
 pub returns-in_err-read_line-clause-fault : goal.returns-in_err-read_line-clause-fault
 returns-in_err-read_line-clause-fault c =
-    let short : length c.args.text.now ≤ 2 ^ 28 = c.if-text-gt-MAX_BYTES.false in
+    let short : length c.args.text.now ≤ 2 ^ 28 = c.if-text-gt-MAX_TEXT_BYTES.false in
     let cut = line_before_feed c.loop-line.left.now c.in-Some.line c.in-Some.next c.in-Some.ensures.cases in
     let p = err_from_is_err_and c.from_residual.result c.from_residual.ensures.1 in
     rw (p.1, p.2)
@@ -30,7 +30,7 @@ loop-line-preserved c =
 
 pub returns-in_err-read_line-2-clause-fault : goal.returns-in_err-read_line-2-clause-fault
 returns-in_err-read_line-2-clause-fault c =
-    let short : length c.args.text.now ≤ 2 ^ 28 = c.if-text-gt-MAX_BYTES.false in
+    let short : length c.args.text.now ≤ 2 ^ 28 = c.if-text-gt-MAX_TEXT_BYTES.false in
     let last = no_feed_left c.loop-line.left.now c.in_default.ensures.cases in
     let p = err_from_is_err_and c.from_residual-in_err-read_line-2.result c.from_residual-in_err-read_line-2.ensures.1 in
     rw (p.1, p.2)
@@ -40,7 +40,7 @@ returns-in_err-read_line-2-clause-fault c =
 
 pub from_sorted-requires-clause-few : goal.from_sorted-requires-clause-few
 from_sorted-requires-clause-few c =
-    let short : length c.args.text.now ≤ 2 ^ 28 = c.if-text-gt-MAX_BYTES.false in
+    let short : length c.args.text.now ≤ 2 ^ 28 = c.if-text-gt-MAX_TEXT_BYTES.false in
     let few = few_terms _ _ _ _ _ c.loop-line.invariant.lines c.in_ok-read_line-2.ensures.line c.in_ok-read_line-2.ensures.terms in
     let all = length-map c.read_line-2.new.terms.items string_bytes in
     omega (arith, c.sort.ensures.fewer, few, all)
@@ -52,14 +52,14 @@ from_sorted-requires-clause-sizes c =
 
 pub returns-clause-terms : goal.returns-clause-terms
 returns-clause-terms c =
-    let short : length c.args.text.now ≤ 2 ^ 28 = c.if-text-gt-MAX_BYTES.false in
+    let short : length c.args.text.now ≤ 2 ^ 28 = c.if-text-gt-MAX_TEXT_BYTES.false in
     let last = no_feed_left c.loop-line.left.now c.in_default.ensures.cases in
     rw c.from_sorted.ensures
     (read_all c.args.text.now c.loop-line.number _ _ c.loop-line.left.now _ short c.loop-line.invariant.lines last c.in_ok-read_line-2.ensures.line c.in_ok-read_line-2.ensures.terms c.sort.ensures.ascending c.sort.ensures.same)
 
 pub returns-in_err-read_line-clause-accepted : goal.returns-in_err-read_line-clause-accepted
 returns-in_err-read_line-clause-accepted c stop read =
-    let short : length c.args.text.now ≤ 2 ^ 28 = c.if-text-gt-MAX_BYTES.false in
+    let short : length c.args.text.now ≤ 2 ^ 28 = c.if-text-gt-MAX_TEXT_BYTES.false in
     let cut = line_before_feed c.loop-line.left.now c.in-Some.line c.in-Some.next c.in-Some.ensures.cases in
     let p = err_from_is_err_and c.from_residual.result c.from_residual.ensures.1 in
     let faults =
@@ -70,7 +70,7 @@ returns-in_err-read_line-clause-accepted c stop read =
 
 pub returns-in_err-read_line-2-clause-accepted : goal.returns-in_err-read_line-2-clause-accepted
 returns-in_err-read_line-2-clause-accepted c stop read =
-    let short : length c.args.text.now ≤ 2 ^ 28 = c.if-text-gt-MAX_BYTES.false in
+    let short : length c.args.text.now ≤ 2 ^ 28 = c.if-text-gt-MAX_TEXT_BYTES.false in
     let last = no_feed_left c.loop-line.left.now c.in_default.ensures.cases in
     let p = err_from_is_err_and c.from_residual-in_err-read_line-2.result c.from_residual-in_err-read_line-2.ensures.1 in
     let faults =
@@ -81,7 +81,7 @@ returns-in_err-read_line-2-clause-accepted c stop read =
 
 pub returns-clause-accepted : goal.returns-clause-accepted
 returns-clause-accepted c stop read =
-    let short : length c.args.text.now ≤ 2 ^ 28 = c.if-text-gt-MAX_BYTES.false in
+    let short : length c.args.text.now ≤ 2 ^ 28 = c.if-text-gt-MAX_TEXT_BYTES.false in
     let last = no_feed_left c.loop-line.left.now c.in_default.ensures.cases in
     let mine =
     read_all c.args.text.now c.loop-line.number _ _ c.loop-line.left.now _ short c.loop-line.invariant.lines last c.in_ok-read_line-2.ensures.line c.in_ok-read_line-2.ensures.terms c.sort.ensures.ascending c.sort.ensures.same in
