@@ -4,12 +4,9 @@ ghost use Rattle.std.specs.List.{common_prefix_len};
 ghost use Rattle.ix_vbyte.specs.Code.{code_of};
 ghost use Rattle.ix_file.specs.Sections.{grouped};
 
+use crate::layout::GROUP;
 use ix_vbyte::{push_code, push_counted};
 use std::alloc::{AllocError, Global};
-
-/// How many terms stand in a group: the first of them whole, the others behind what they share with the
-/// term before.
-const GROUP: u32 = 4;
 
 /// The bytes of the entries so far, how many they are, and the last one's term.
 #[derive(Drop)]
@@ -56,7 +53,7 @@ fn push_term(out: &mut Vec<u8>, place: u32, before: &[u8], term: &[u8]) -> Resul
     requires { length term.now < 2 ^ 32 }
     ensures { OnOk result (out.new.items ≡ out.old.items ++ grouped place before.now term.now) }
 {
-    if place.is_multiple_of(GROUP) {
+    if (place as usize).is_multiple_of(GROUP) {
         return push_counted(out, term);
     }
     let shared = shared_front(before, term);

@@ -6,6 +6,8 @@ mod dictionary;
 mod grams;
 mod index;
 mod laws;
+mod layout;
+mod limits;
 mod list;
 mod numbers;
 mod open;

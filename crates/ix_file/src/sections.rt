@@ -9,6 +9,7 @@ ghost use Rattle.ix_file.specs.Sections.{stop_section, documents_section};
 use crate::PutError;
 use crate::dictionary::Dictionary;
 use crate::grams::Grams;
+use crate::layout::MAGIC_FRONT_CODED;
 use crate::list::ListAtHand;
 use crate::row::DocRow;
 use crate::trailer::Trailer;
@@ -16,9 +17,6 @@ use ix_text::StopList;
 use ix_vbyte::{push_code, push_counted, push_posting};
 use std::alloc::{AllocError, Global};
 use std::mem;
-
-/// The bytes at the front of a text of version 2.
-const MAGIC: &[u8] = b"PIIX0002";
 
 /// What is pending goes out once it has so many bytes.
 pub(crate) const FULL: usize = 1 << 16;
@@ -77,7 +75,7 @@ impl Sections {
             (Begins self.new stop.now (map document_row rows.now)) }
     {
         self.pending.try_reserve(ROOM)?;
-        self.pending.extend_from_slice(MAGIC)?;
+        self.pending.extend_from_slice(MAGIC_FRONT_CODED)?;
         push_stop(&mut self.stop, stop.terms())?;
         push_rows(&mut self.documents, rows)?;
         self.rows = rows.len() as u32;

@@ -1,10 +1,8 @@
 //! The last bytes of an index text.
 ghost use Rattle.std.specs.Prelude.{◌≡◌, ◌++◌, OnOk};
 
+use crate::layout::END_MARK_FRONT_CODED;
 use std::alloc::AllocError;
-
-/// The bytes at the end of a text of version 2.
-const END_MARK: &[u8] = b"PIIXEND2";
 
 /// How many bytes the five sections have, and how many rows and entries there are.
 #[derive(Clone, Copy)]
@@ -32,7 +30,7 @@ impl Trailer {
         out.extend_from_slice(&self.grams.to_le_bytes())?;
         out.extend_from_slice(&self.rows.to_le_bytes())?;
         out.extend_from_slice(&self.entries.to_le_bytes())?;
-        out.extend_from_slice(END_MARK)?;
+        out.extend_from_slice(END_MARK_FRONT_CODED)?;
         Ok(())
     }
 }

@@ -3,18 +3,13 @@ ghost use Rattle.std.specs.Prelude.{◌≡◌};
 ghost use Rattle.ix_file.specs.Frames.{texts_in};
 ghost use Rattle.ix_file.specs.Places.{ArePlacesIn, IsFramed, texts_at};
 
+use crate::layout::{MARK_BYTES, TRAILER_BYTES};
 use crate::open::frame::{SectionBytes, cut};
 use crate::open::read_tables;
 use crate::tables::{Held, Tables};
 use crate::{Index, OpenError};
 use std::alloc::Global;
 use std::marker::Model;
-
-/// The bytes of the mark at the front of an index text.
-const MARK: usize = 8;
-
-/// The bytes of the trailer at its end.
-const TRAILER: usize = 56;
 
 /// Where each section behind POSTINGS begins, and where the last ends.
 #[derive(Clone, Copy, Debug, PartialEq, Eq)]
@@ -32,7 +27,7 @@ fn places_of(bytes: &[u8], sections: SectionBytes<'_>) -> Places
     ensures placed { ArePlacesIn bytes.now result }
     ensures texts { texts_at bytes.now result ≡ texts_in sections.entry }
 {
-    let end = bytes.len() - TRAILER;
+    let end = bytes.len() - TRAILER_BYTES;
     let grams = end - sections.grams.len();
     let dictionary = grams - sections.dictionary.len();
     let documents = dictionary - sections.documents.len();
@@ -102,7 +97,7 @@ impl Volume {
         let bytes = self.bytes.as_slice();
         let places = self.places;
         let sections = SectionBytes {
-            postings: &bytes[MARK..places.stop],
+            postings: &bytes[MARK_BYTES..places.stop],
             stop: &bytes[places.stop..places.documents],
             documents: &bytes[places.documents..places.dictionary],
             dictionary: &bytes[places.dictionary..places.grams],

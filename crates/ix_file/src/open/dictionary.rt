@@ -10,6 +10,8 @@ ghost use Rattle.ix_file.specs.Sections.{front_coded};
 ghost use Rattle.ix_file.specs.TermReading.{IsLongestFront, TermMayFollow, last_listed, text_of};
 ghost use Rattle.ix_file.specs.declared.open_error.OpenError.TheVariants.{Memory};
 
+use crate::layout::{GROUP, MIN_ENTRY_BYTES};
+use crate::limits::MAX_TEXT_BYTES;
 use crate::open::frame::Version;
 use crate::open::front::{number, taken};
 use crate::open::terms::{ListPlace, Terms};
@@ -17,15 +19,6 @@ use crate::{OpenError, Section};
 use ix_text::StopList;
 use ix_vbyte::VbError;
 use std::alloc::{AllocError, Global};
-
-/// How many terms stand in a group of version 2: the first of them whole, the others front coded.
-const GROUP: usize = 4;
-
-/// The most bytes that a term may have.
-const MAX_BYTES: u32 = 255;
-
-/// The fewest bytes that the dictionary has of a term: one of its text, and one for each of three numbers.
-const FEWEST_BYTES: usize = 4;
 
 /// How many times as many bytes as DICTIONARY has front coded terms may have together: no term is longer than its own
 /// bytes and those of the terms before it in its group.
@@ -106,7 +99,7 @@ fn room_for_terms(
     };
     Terms::with_room(
         alloc,
-        (count as usize).min(section.len() / FEWEST_BYTES),
+        (count as usize).min(section.len() / MIN_ENTRY_BYTES),
         bytes,
     )
 }
@@ -134,7 +127,7 @@ fn read_row<'a>(
     before: &str,
     left: &'a [u8],
 ) -> Result<(ListedTerm, &'a [u8]), OpenError>
-    requires { length before.now ≤ MAX_BYTES }
+    requires { length before.now ≤ MAX_TEXT_BYTES }
     ensures term { IfOk result (λ read. TermMayFollow stop.now before.now
         (listing_read read.0).term) }
     ensures counts { IfOk result (λ read. HasListedCounts (listing_read read.0)) }
@@ -187,7 +180,7 @@ fn read_term<'a>(
     before: &str,
     left: &'a [u8],
 ) -> Result<(String, &'a [u8]), OpenError>
-    requires { length before.now ≤ MAX_BYTES }
+    requires { length before.now ≤ MAX_TEXT_BYTES }
     ensures term { IfOk result (λ read. TermMayFollow stop.now before.now (string_bytes read.0)) }
     ensures found { IfOk result (λ read. left.now ≡ dictionary_term_bytes (version_in version) place
         before.now (string_bytes read.0) ++ read.1.now) }
@@ -239,7 +232,7 @@ fn cut_term<'a, 'b>(
     before: &'b [u8],
     left: &'a [u8],
 ) -> Result<TermCut<'a, 'b>, OpenError>
-    requires { length before.now ≤ MAX_BYTES }
+    requires { length before.now ≤ MAX_TEXT_BYTES }
     ensures size { IfOk result (λ cut. HasTermSize (text_of cut)) }
     ensures found { IfOk result (λ cut. left.now ≡ dictionary_term_bytes (version_in version) place
         before.now (text_of cut) ++ cut.rest.now) }
@@ -269,7 +262,7 @@ fn cut_whole<'a, 'b>(before: &'b [u8], left: &'a [u8]) -> Result<TermCut<'a, 'b>
         left.now ≢ counted term ++ rest) }
 {
     let (size, bytes) = number(Section::Dictionary, left)?;
-    if size == 0 || size > MAX_BYTES {
+    if size == 0 || size > MAX_TEXT_BYTES {
         return Err(OpenError::TermSize);
     }
     let (own, rest) = taken(Section::Dictionary, size, bytes)?;
@@ -285,7 +278,7 @@ fn cut_whole<'a, 'b>(before: &'b [u8], left: &'a [u8]) -> Result<TermCut<'a, 'b>
 /// `Number` of its two numbers; `Front` where it shares another number of bytes with the term before; `TermSize` where
 /// it has not 1 to 255 bytes; `Number` where there are fewer bytes.
 fn cut_front_coded<'a, 'b>(before: &'b [u8], left: &'a [u8]) -> Result<TermCut<'a, 'b>, OpenError>
-    requires { length before.now ≤ MAX_BYTES }
+    requires { length before.now ≤ MAX_TEXT_BYTES }
     ensures size { IfOk result (λ cut. HasTermSize (text_of cut)) }
     ensures found { IfOk result (λ cut. left.now ≡ front_coded before.now (text_of cut)
         ++ cut.rest.now) }
@@ -295,7 +288,7 @@ fn cut_front_coded<'a, 'b>(before: &'b [u8], left: &'a [u8]) -> Result<TermCut<'
     let (shared, behind) = number(Section::Dictionary, left)?;
     let (size, bytes) = number(Section::Dictionary, behind)?;
     let front = longest_front(before, shared, size, bytes)?;
-    if size > MAX_BYTES - shared {
+    if size > MAX_TEXT_BYTES - shared {
         return Err(OpenError::TermSize);
     }
     let (own, rest) = taken(Section::Dictionary, size, bytes)?;

@@ -7,15 +7,11 @@ ghost use Rattle.ix_file.specs.OpenedRows.{AreRows, IsNameRow, row_bytes, row_in
 ghost use Rattle.ix_file.specs.Sections.{documents_section};
 ghost use Rattle.ix_file.specs.declared.open_error.OpenError.TheVariants.{Memory};
 
+use crate::layout::MIN_ROW_BYTES;
+use crate::limits::MAX_TOKENS;
 use crate::open::front::{number, text};
 use crate::{OpenError, Section};
 use std::alloc::Global;
-
-/// The most tokens that all documents together may have.
-const MAX_TOKENS: u32 = 1 << 28;
-
-/// The fewest bytes that DOCS has of a document: one of its name, and one for each of two numbers.
-const FEWEST_BYTES: usize = 3;
 
 /// A document: where its name stands in DOCS, how many bytes the name has, and how many tokens the document.
 #[derive(Clone, Copy, Debug, PartialEq, Eq)]
@@ -44,7 +40,7 @@ pub(crate) fn read_documents(
         ⊎ ((rows : List DocumentRow) → AreRows rows → length rows ≡ count →
         section.now ≢ documents_section rows)) }
 {
-    let mut rows = Vec::with_capacity(alloc, (count as usize).min(section.len() / FEWEST_BYTES))?;
+    let mut rows = Vec::with_capacity(alloc, (count as usize).min(section.len() / MIN_ROW_BYTES))?;
     let mut tokens = 0;
     let mut left = section;
     while !left.is_empty() {

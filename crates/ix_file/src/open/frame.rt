@@ -5,15 +5,11 @@ ghost use Rattle.ix_file.specs.IndexText.{end_mark, magic};
 ghost use Rattle.ix_file.specs.Sections.{Version as FormatVersion};
 
 use crate::OpenError;
-
-/// The fewest bytes that an index text has: its marks, the lengths and the counts.
-const FEWEST: usize = 64;
-
-/// The bytes of a mark, and of a length.
-const EIGHT: usize = 8;
-
-/// The most documents that there may be.
-const MAX_DOCUMENTS: u32 = 1 << 28;
+use crate::layout::{
+    COUNT_BYTES, COUNTS_BYTES, END_MARK_FRONT_CODED, END_MARK_PLAIN, FRAME_BYTES, LENGTH_BYTES,
+    LENGTHS_BYTES, MAGIC_FRONT_CODED, MAGIC_PLAIN, MARK_BYTES, TRAILER_BYTES,
+};
+use crate::limits::MAX_DOCUMENTS;
 
 /// The version of an index text.
 #[derive(Clone, Copy, Debug, PartialEq, Eq)]
@@ -56,7 +52,7 @@ pub(crate) fn cut(bytes: &[u8]) -> Result<Frame<'_>, OpenError>
         (documents terms : ℕ) → documents ≤ 2 ^ 28 → terms < 2 ^ 32 →
         bytes.now ≢ framed version texts documents terms) }
 {
-    if bytes.len() < FEWEST {
+    if bytes.len() < FRAME_BYTES {
         return Err(OpenError::Short);
     }
     let parts = split_frame(bytes);
@@ -91,14 +87,14 @@ struct Parts<'a> {
 
 /// Cuts bytes where the parts of a frame end.
 fn split_frame(bytes: &[u8]) -> Parts<'_>
-    requires { FEWEST ≤ length bytes.now }
+    requires { FRAME_BYTES ≤ length bytes.now }
     ensures { IsCutInto bytes.now result.mark.now result.body.now result.sizes.now result.counts.now
         result.end_mark.now }
 {
-    let (mark, rest) = bytes.split_at(EIGHT);
-    let (body, trailer) = rest.split_at(rest.len() - 56);
-    let (numbers, end_mark) = trailer.split_at(48);
-    let (sizes, counts) = numbers.split_at(40);
+    let (mark, rest) = bytes.split_at(MARK_BYTES);
+    let (body, trailer) = rest.split_at(rest.len() - TRAILER_BYTES);
+    let (numbers, end_mark) = trailer.split_at(LENGTHS_BYTES + COUNTS_BYTES);
+    let (sizes, counts) = numbers.split_at(LENGTHS_BYTES);
     Parts {
         mark,
         body,
@@ -113,10 +109,10 @@ fn version_of(mark: &[u8]) -> Option<Version>
     ensures { MatchOption result ((version : FormatVersion) → mark.now ≢ magic version)
         (λ version. mark.now ≡ magic (version_in version)) }
 {
-    if mark == b"PIIX0001".as_slice() {
+    if mark == MAGIC_PLAIN {
         return Some(Version::Plain);
     }
-    if mark == b"PIIX0002".as_slice() {
+    if mark == MAGIC_FRONT_CODED {
         return Some(Version::FrontCoded);
     }
     None
@@ -127,14 +123,14 @@ fn ends(version: Version, mark: &[u8]) -> bool
     ensures { IsTrue result ↔ (mark.now ≡ end_mark (version_in version)) }
 {
     match version {
-        Version::Plain => mark == b"PIIXEND1".as_slice(),
-        Version::FrontCoded => mark == b"PIIXEND2".as_slice(),
+        Version::Plain => mark == END_MARK_PLAIN,
+        Version::FrontCoded => mark == END_MARK_FRONT_CODED,
     }
 }
 
 /// Cuts what stands between the marks' first and the trailer by the five lengths.
 fn cut_sections<'a>(body: &'a [u8], sizes: &[u8]) -> Result<SectionBytes<'a>, OpenError>
-    requires { length sizes.now ≡ 40 }
+    requires { length sizes.now ≡ LENGTHS_BYTES }
     ensures found { IfOk result (λ sections. (body.now ≡ joined_sections (texts_in sections))
         × (sizes.now ≡ lengths (texts_in sections))) }
     ensures refused { OnErr result ((texts : SectionTexts) → body.now ≡ joined_sections texts →
@@ -162,11 +158,11 @@ fn cut_section<'a, 'b>(
     body: &'a [u8],
     sizes: &'b [u8],
 ) -> Result<(&'a [u8], &'a [u8], &'b [u8]), OpenError>
-    requires { EIGHT ≤ length sizes.now }
+    requires { LENGTH_BYTES ≤ length sizes.now }
     ensures found { IfOk result (λ cut. (body.now ≡ cut.0.now ++ cut.1.now)
         × (sizes.now ≡ eight (length cut.0.now) ++ cut.2.now)) }
     ensures small { length body.now < 2 ^ 64 }
-    ensures less { IfOk result (λ cut. length sizes.now ≡ EIGHT + length cut.2.now) }
+    ensures less { IfOk result (λ cut. length sizes.now ≡ LENGTH_BYTES + length cut.2.now) }
     ensures refused { OnErr result ((section rest more : List ℕ) → body.now ≡ section ++ rest →
         sizes.now ≢ eight (length section) ++ more) }
 {
@@ -180,19 +176,19 @@ fn cut_section<'a, 'b>(
 
 /// The length that stands at the front, and what follows it.
 fn read_length(sizes: &[u8]) -> (u64, &[u8])
-    requires { EIGHT ≤ length sizes.now }
+    requires { LENGTH_BYTES ≤ length sizes.now }
     ensures value { sizes.now ≡ eight result.0 ++ result.1.now }
 {
-    let (size, more) = sizes.split_first_chunk::<EIGHT>().unwrap();
+    let (size, more) = sizes.split_first_chunk::<LENGTH_BYTES>().unwrap();
     (u64::from_le_bytes(*size), more)
 }
 
 /// The number of documents and that of terms.
 fn read_counts(numbers: &[u8]) -> (u32, u32)
-    requires { length numbers.now ≡ EIGHT }
+    requires { length numbers.now ≡ COUNTS_BYTES }
     ensures { numbers.now ≡ counts result.0 result.1 }
 {
-    let (documents, rest) = numbers.split_first_chunk::<4>().unwrap();
-    let (terms, _) = rest.split_first_chunk::<4>().unwrap();
+    let (documents, rest) = numbers.split_first_chunk::<COUNT_BYTES>().unwrap();
+    let (terms, _) = rest.split_first_chunk::<COUNT_BYTES>().unwrap();
     (u32::from_le_bytes(*documents), u32::from_le_bytes(*terms))
 }

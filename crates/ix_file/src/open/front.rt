@@ -5,12 +5,10 @@ ghost use Rattle.ix_vbyte.specs.Texts.{counted};
 ghost use Rattle.ix_text.specs.Terms.{IsTerm};
 ghost use Rattle.ix_file.specs.Refusals.{IsNumberFault};
 
+use crate::limits::MAX_TEXT_BYTES;
 use crate::{OpenError, Section};
 use ix_vbyte::{VbError, decode};
 use std::str::from_utf8;
-
-/// The most bytes that a term, a stop term or a name may have.
-const MAX_BYTES: u32 = 255;
 
 /// The number whose code the bytes of a section begin with, and what follows the code.
 ///
@@ -60,7 +58,7 @@ pub(crate) fn text(
         ++ rest) }
 {
     let (count, rest) = number(section, bytes)?;
-    if count == 0 || count > MAX_BYTES {
+    if count == 0 || count > MAX_TEXT_BYTES {
         return Err(wrong_size);
     }
     let (text, rest) = taken(section, count, rest)?;

@@ -6,13 +6,11 @@ ghost use Rattle.ix_text.specs.StopSets.{IsStopSet};
 ghost use Rattle.ix_file.specs.Sections.{stop_section};
 ghost use Rattle.ix_file.specs.declared.open_error.OpenError.TheVariants.{Memory};
 
+use crate::limits::MAX_STOP_TERMS;
 use crate::open::front::text;
 use crate::{OpenError, Section};
 use ix_text::StopList;
 use std::alloc::Global;
-
-/// The most stop terms that there may be.
-const MAX_TERMS: usize = 1 << 28;
 
 /// How many more stop terms there may be than a fourth of the bytes of STOP: 128 texts have one byte and 18,304 have
 /// two, which stand there in two and in three, and all others in four or more.
@@ -56,7 +54,7 @@ fn push_term<'a>(
     if !is_above(term, terms.last()) {
         return Err(OpenError::StopOrder);
     }
-    if terms.len() >= MAX_TERMS {
+    if terms.len() >= MAX_STOP_TERMS {
         return Err(OpenError::TooLarge);
     }
     terms.push(String::from_str(alloc, term)?)?;

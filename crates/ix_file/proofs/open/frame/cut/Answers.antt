@@ -5,9 +5,9 @@ use Rattle.ix_file.specs.IndexText.{end_mark}
 use Rattle.ix_file.proofs.FrameReading.{length-framed, frame_of, framed_from, one_mark, counts_apart}
 use Rattle.ix_file.proofs.open.frame.cut.Goals as goal
 
-pub returns-then-bytes-lt-FEWEST-clause-refused : goal.returns-then-bytes-lt-FEWEST-clause-refused
-returns-then-bytes-lt-FEWEST-clause-refused c version texts documents terms few small e =
-    let short = c.if-bytes-lt-FEWEST.true in
+pub returns-then-bytes-lt-FRAME_BYTES-clause-refused : goal.returns-then-bytes-lt-FRAME_BYTES-clause-refused
+returns-then-bytes-lt-FRAME_BYTES-clause-refused c version texts documents terms few small e =
+    let short = c.if-bytes-lt-FRAME_BYTES.true in
     omega (arith, short, ap length e, length-framed version texts documents terms)
 
 pub returns-in_default-clause-refused : goal.returns-in_default-clause-refused

@@ -1,4 +1,3 @@
-use Rattle.std.proofs.Common.{◌∙◌, ap, bytes_eq}
 use Rattle.ix_file.specs.IndexText.{end_mark}
 use Rattle.ix_file.specs.Sections.{Plain, FrontCoded}
 use Rattle.ix_file.proofs.FrameReading.{same_mark}
@@ -6,10 +5,10 @@ use Rattle.ix_file.proofs.open.frame.ends.Goals as goal
 
 pub returns-in-Plain : goal.returns-in-Plain
 unfolding end_mark
-returns-in-Plain c = rw c.in-Plain.is (same_mark c.args.mark.now (end_mark Plain) c.eq.result (c.eq.ensures ∙ ap (bytes_eq c.args.mark.now) c.as_slice.ensures))
+returns-in-Plain c = rw c.in-Plain.is (same_mark c.args.mark.now (end_mark Plain) c.eq.result c.eq.ensures)
 
 pub returns-in-FrontCoded : goal.returns-in-FrontCoded
 unfolding end_mark
 returns-in-FrontCoded c =
     rw c.in-FrontCoded.is
-    (same_mark c.args.mark.now (end_mark FrontCoded) c.eq-in-FrontCoded.result (c.eq-in-FrontCoded.ensures ∙ ap (bytes_eq c.args.mark.now) c.as_slice-in-FrontCoded.ensures))
+    (same_mark c.args.mark.now (end_mark FrontCoded) c.eq-in-FrontCoded.result c.eq-in-FrontCoded.ensures)
