@@ -7,8 +7,8 @@ use Rattle.ix_text.specs.Parts.{DictionaryEntry}
 use Rattle.ix_file.specs.Sections.{FrontCoded, entry_counts, grouped, front_coded_from, dictionary_section}
 use Rattle.ix_file.specs.Dictionaries.{GainsEntry}
 use Rattle.ix_file.specs.Telling.{last_term, IsDictionaryOf, IsListOfEntry}
-use Rattle.ix_file.specs.declared.dictionary.Dictionary.{Dictionary}
-use Rattle.ix_file.specs.declared.list.ListAtHand.{ListAtHand}
+use Rattle.ix_file.specs.declared.writer.dictionary.Dictionary.{Dictionary}
+use Rattle.ix_file.specs.declared.writer.list.ListAtHand.{ListAtHand}
 
 last_term-push : (before : List ℕ) (entries : List DictionaryEntry) (entry : DictionaryEntry) → last_term before (entries ++ entry ∷ []) ≡ entry.term
 last_term-push before [] entry = refl

@@ -18,7 +18,7 @@ use Rattle.ix_file.specs.Telling.{IsDictionaryOf, SectionsTold, Spells, IsClosab
 use Rattle.ix_file.specs.Told.{Told, entries_of, parts_of, settled_front}
 use Rattle.ix_file.specs.declared.put_error.PutError.{PutError}
 use Rattle.ix_file.specs.declared.sections.Sections.{Sections}
-use Rattle.ix_file.specs.declared.trailer.Trailer.{Trailer}
+use Rattle.ix_file.specs.declared.writer.trailer.Trailer.{Trailer}
 use Rattle.ix_file.proofs.DictionaryLemmas.{dictionary_closed}
 use Rattle.ix_file.proofs.TellingLemmas.{kept_again, refusal_set}
 use Rattle.ix_file.proofs.GramLists.{one_of_terms, of_collection}

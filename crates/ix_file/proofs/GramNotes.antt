@@ -11,11 +11,11 @@ use Rattle.ix_vbyte.specs.Gaps.{Ascends, gaps_of, next_after}
 use Rattle.ix_vbyte.specs.Postings.{codes_of}
 use Rattle.ix_vbyte.proofs.Gaps.{Ascends-push, Ascends-wider, gaps_from-push, length-Ascends, next_after-push}
 use Rattle.ix_file.specs.Grams.{IsGramOfTerm}
-use Rattle.ix_file.specs.declared.grams.Grams.{Grams}
+use Rattle.ix_file.specs.declared.writer.grams.Grams.{Grams}
 use Rattle.ix_file.specs.GramTables.{AddsTo, HoldsGrams, HoldsNumbers, HoldsRelation, IsListOf, ListsNumbers, Notes, gram_eq, text_of}
 use Rattle.ix_file.specs.WindowPairs.{gram_of, pairs_of_term}
-use Rattle.ix_file.specs.declared.grams.Gram.{Gram}
-use Rattle.ix_file.specs.declared.grams.GramList.{GramList}
+use Rattle.ix_file.specs.declared.writer.grams.Gram.{Gram}
+use Rattle.ix_file.specs.declared.writer.grams.GramList.{GramList}
 use Rattle.ix_file.specs.declared.open.pairs.GramPair.{GramPair}
 use Rattle.ix_file.proofs.HeldLemmas.{SeenToo, more_related}
 use Rattle.ix_file.proofs.PairGrams.{gram_tells}

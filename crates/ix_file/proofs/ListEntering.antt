@@ -15,7 +15,7 @@ use Rattle.ix_text.specs.TokenLaws.{IsPostingIn}
 use Rattle.ix_file.specs.LongLists.{IsLongIn}
 use Rattle.ix_file.specs.ReadLists.{list_in}
 use Rattle.ix_file.specs.PlacedTerms.{PlacedTerm}
-use Rattle.ix_file.specs.declared.tables.LongList.{LongList}
+use Rattle.ix_file.specs.declared.open.tables.LongList.{LongList}
 use Rattle.ix_file.proofs.ListReading.{HavePostings}
 use Rattle.ix_file.proofs.ListsFound.{AreFew, posting_small}
 

@@ -26,7 +26,7 @@ use Rattle.ix_file.specs.LongLists.{IsLongIn}
 use Rattle.ix_file.specs.ReadLists.{list_in}
 use Rattle.ix_file.specs.Tables.{entries_in, entry_in, term_in}
 use Rattle.ix_file.specs.PlacedTerms.{PlacedTerm}
-use Rattle.ix_file.specs.declared.tables.LongList.{LongList}
+use Rattle.ix_file.specs.declared.open.tables.LongList.{LongList}
 use Rattle.ix_file.proofs.SectionSizes.{few_entries, small_parts}
 
 -- what a row that was read from a table stands for

@@ -20,7 +20,7 @@ use Rattle.ix_file.specs.Sections.{Version, documents_section, grams_section, st
 use Rattle.ix_file.specs.Spelled.{AreSectionsOf}
 use Rattle.ix_file.specs.Tables.{AreTablesOf, entries_in, entry_in, parts_in, term_in}
 use Rattle.ix_file.specs.PlacedTerms.{PlacedTerm}
-use Rattle.ix_file.specs.declared.tables.Tables.{Tables}
+use Rattle.ix_file.specs.declared.open.tables.Tables.{Tables}
 use Rattle.ix_file.proofs.ListingsTold.{dictionary_listings}
 use Rattle.ix_file.proofs.ListsFound.{AreFew, IsListed, each_listed, entries_distinct, entries_listed, laid_out, lie_within, list_row, lists_are, lists_whole, postings_joined}
 use Rattle.ix_file.proofs.OpenedLemmas.{terms_in}

@@ -2,7 +2,7 @@
 use Rattle.std.specs.Prelude.{◌≡◌, ℕ, ◌+◌, List, ◌++◌}
 use Rattle.ix_vbyte.specs.Code.{code_of}
 use Rattle.ix_file.specs.Sections.{grouped}
-use Rattle.ix_file.specs.declared.dictionary.Dictionary.{Dictionary}
+use Rattle.ix_file.specs.declared.writer.dictionary.Dictionary.{Dictionary}
 
 -- the dictionary gained an entry of this term, number of documents and number of the list's bytes
 pub record GainsEntry (old new : Dictionary) (term : List ℕ) (documents list : ℕ) : Type 0 where

@@ -9,7 +9,7 @@ use Rattle.ix_file.specs.IndexText.{IsIndexText, end_mark, layout}
 use Rattle.ix_file.specs.Sections.{FrontCoded, grams_section}
 use Rattle.ix_file.specs.Told.{Told, entries_of, parts_of}
 use Rattle.ix_file.specs.declared.sections.Sections.{Sections}
-use Rattle.ix_file.specs.declared.trailer.Trailer.{Trailer}
+use Rattle.ix_file.specs.declared.writer.trailer.Trailer.{Trailer}
 
 -- the lengths of the five sections, the numbers of rows and entries, and the mark of the end
 unfoldable pub trailer_bytes : Trailer → List ℕ

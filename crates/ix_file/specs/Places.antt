@@ -3,7 +3,7 @@ use Rattle.std.specs.Prelude.{◌≡◌, ℕ, ◌≤◌, List, length, slice_ran
 use Rattle.ix_file.specs.Frames.{SectionTexts, framed}
 use Rattle.ix_file.specs.Sections.{Version}
 use Rattle.ix_file.specs.Tables.{AreTablesOf}
-use Rattle.ix_file.specs.declared.tables.Tables.{Tables}
+use Rattle.ix_file.specs.declared.open.tables.Tables.{Tables}
 use Rattle.ix_file.specs.declared.volume.Places.{Places}
 
 -- the sections: POSTINGS stands behind the eight bytes of the mark, and each other where the one before ends

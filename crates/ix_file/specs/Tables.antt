@@ -11,9 +11,9 @@ use Rattle.ix_file.specs.OpenedGrams.{IsGramRow, grams_in}
 use Rattle.ix_file.specs.OpenedRows.{IsNameRow, rows_in}
 use Rattle.ix_file.specs.ReadLists.{list_in}
 use Rattle.ix_file.specs.PlacedTerms.{PlacedTerm}
-use Rattle.ix_file.specs.declared.tables.Held.{Held}
-use Rattle.ix_file.specs.declared.tables.Held.TheVariants.{Owned, Lent}
-use Rattle.ix_file.specs.declared.tables.Tables.{Tables}
+use Rattle.ix_file.specs.declared.open.tables.Held.{Held}
+use Rattle.ix_file.specs.declared.open.tables.Held.TheVariants.{Owned, Lent}
+use Rattle.ix_file.specs.declared.open.tables.Tables.{Tables}
 
 -- the term of a row
 abbrev pub term_in : PlacedTerm → List ℕ

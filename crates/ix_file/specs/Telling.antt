@@ -8,8 +8,8 @@ use Rattle.ix_text.specs.PartsLaws.{position_count}
 use Rattle.ix_file.specs.Sections.{FrontCoded, postings_section, stop_section, documents_section, dictionary_section}
 use Rattle.ix_file.specs.Told.{Told, entries_of, settled_front, position_total}
 use Rattle.ix_file.specs.GramTables.{HoldsGrams}
-use Rattle.ix_file.specs.declared.dictionary.Dictionary.{Dictionary}
-use Rattle.ix_file.specs.declared.list.ListAtHand.{ListAtHand}
+use Rattle.ix_file.specs.declared.writer.dictionary.Dictionary.{Dictionary}
+use Rattle.ix_file.specs.declared.writer.list.ListAtHand.{ListAtHand}
 use Rattle.ix_file.specs.declared.sections.Sections.{Sections}
 
 -- the term of the last entry, or the term before where there is none

@@ -2,24 +2,18 @@
 //! Here are its definition, what holds of it, its writer and its exact reader.
 #![tactic(auto)]
 
-mod dictionary;
-mod grams;
 mod index;
 mod laws;
 mod layout;
 mod limits;
-mod list;
 mod numbers;
 mod open;
 mod open_error;
-mod output;
 mod put_error;
 mod row;
 mod sections;
-mod tables;
 #[cfg(test)]
 mod tests;
-mod trailer;
 mod volume;
 mod writer;
 

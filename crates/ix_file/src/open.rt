@@ -23,6 +23,7 @@ pub(crate) mod grams;
 pub(crate) mod lists;
 mod pairs;
 pub(crate) mod stop;
+pub(crate) mod tables;
 pub(crate) mod terms;
 
 use crate::OpenError;
@@ -33,7 +34,7 @@ use crate::open::frame::Frame;
 use crate::open::grams::read_grams;
 use crate::open::lists::check_lists;
 use crate::open::stop::read_stop;
-use crate::tables::Tables;
+use crate::open::tables::Tables;
 use ix_text::TokenTable;
 use std::alloc::{AllocError, Global};
 

@@ -7,12 +7,12 @@ ghost use Rattle.ix_file.specs.Rows.{document_row};
 ghost use Rattle.ix_file.specs.Sections.{stop_section, documents_section};
 
 use crate::PutError;
-use crate::dictionary::Dictionary;
-use crate::grams::Grams;
 use crate::layout::MAGIC_FRONT_CODED;
-use crate::list::ListAtHand;
 use crate::row::DocRow;
-use crate::trailer::Trailer;
+use crate::writer::dictionary::Dictionary;
+use crate::writer::grams::Grams;
+use crate::writer::list::ListAtHand;
+use crate::writer::trailer::Trailer;
 use ix_text::StopList;
 use ix_vbyte::{push_code, push_counted, push_posting};
 use std::alloc::{AllocError, Global};

@@ -6,7 +6,7 @@ ghost use Rattle.ix_file.specs.Places.{ArePlacesIn, IsFramed, texts_at};
 use crate::layout::{MARK_BYTES, TRAILER_BYTES};
 use crate::open::frame::{SectionBytes, cut};
 use crate::open::read_tables;
-use crate::tables::{Held, Tables};
+use crate::open::tables::{Held, Tables};
 use crate::{Index, OpenError};
 use std::alloc::Global;
 use std::marker::Model;

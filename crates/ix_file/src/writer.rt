@@ -15,7 +15,13 @@ ghost use Rattle.ix_file.specs.Telling.{MayPost, MayList, IsClosable};
 ghost use Rattle.ix_file.specs.Told.{Told, told_first, with_term, with_posting, with_postings, entries_of, parts_of, settled_front};
 ghost use Rattle.ix_file.specs.Writers.{Answers, CanEndEntry, IsReady, TakesPosting, TakesList, WasTold, sink, sink_name};
 
-use crate::output::{complete, put_coded, send_if_full};
+pub(crate) mod dictionary;
+pub(crate) mod grams;
+pub(crate) mod list;
+mod output;
+pub(crate) mod trailer;
+
+use crate::writer::output::{complete, put_coded, send_if_full};
 use crate::{DocRow, PutError, Sections};
 use ix_text::StopList;
 use std::alloc::Global;

@@ -15,8 +15,8 @@ ghost use Rattle.ix_file.specs.ReadLists.{AreListedIn, AreListsIn, ArePositionsI
 ghost use Rattle.ix_file.specs.declared.open_error.OpenError.TheVariants.{Memory};
 
 use crate::open::claims::Claims;
+use crate::open::tables::LongList;
 use crate::open::terms::{ListPlace, Terms};
-use crate::tables::LongList;
 use crate::{OpenError, Section};
 use ix_text::TokenTable;
 use ix_vbyte::cursor::Skip;

@@ -5,7 +5,7 @@ use Rattle.ix_text.specs.TokenTables.{HasTokens}
 use Rattle.ix_file.specs.Frames.{texts_in, version_in}
 use Rattle.ix_file.specs.OpenedRows.{rows_in}
 use Rattle.ix_file.specs.ReadLists.{AreListsIn}
-use Rattle.ix_file.specs.declared.tables.Tables.{Tables}
+use Rattle.ix_file.specs.declared.open.tables.Tables.{Tables}
 use Rattle.ix_file.proofs.TablesFound.{AreRead, sections_found, tables_found}
 use Rattle.ix_file.proofs.TablesRefused.{no_grams, no_listings, no_lists}
 use Rattle.ix_file.proofs.ListingReading.{texts_listed}

@@ -4,7 +4,7 @@ use Rattle.std.proofs.lemmas.List.Elements.{All-nil}
 use Rattle.ix_vbyte.specs.Skips.{AreSkipsIn}
 use Rattle.ix_file.specs.LongLists.{IsLongIn}
 use Rattle.ix_file.specs.ReadLists.{AreListedIn}
-use Rattle.ix_file.specs.declared.tables.LongList.{LongList}
+use Rattle.ix_file.specs.declared.open.tables.LongList.{LongList}
 use Rattle.ix_file.proofs.AllLists.{counts_at, list_within, lists_are, lists_are_not, no_list, read_all_lists, read_no_list, read_one_list}
 use Rattle.ix_file.proofs.ListEntering.{long_in, long_kept}
 use Rattle.ix_file.proofs.PlacedLemmas.{from_term, term_at, to_term}

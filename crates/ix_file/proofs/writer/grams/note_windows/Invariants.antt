@@ -1,0 +1,13 @@
+use Rattle.std.proofs.Common.{◌≡◌, ℕ, ◌+◌, List, [], length}
+use Rattle.ix_file.specs.Grams.{IsGramOfTerm}
+use Rattle.ix_file.specs.GramTables.{HoldsRelation}
+use Rattle.ix_file.specs.declared.open.pairs.GramPair.{GramPair}
+use Rattle.ix_file.proofs.HeldLemmas.{SeenToo}
+use Rattle.ix_file.proofs.TermPairs.{IsUnderWay}
+use Rattle.ix_file.proofs.writer.grams.note_windows.Given as goal
+
+-- the windows so far are noted
+abbrev pub invariant-loop-third : goal.invariant-loop-third
+invariant-loop-third l =
+    (seen : List GramPair) × IsUnderWay [] l.number l.term seen l.first l.second l.third-iterator.rest.now
+    × ((terms : List (List ℕ)) → l.number ≡ length terms → HoldsRelation l.initial.lists l.number (IsGramOfTerm terms) → HoldsRelation l.lists (l.number + 1) (SeenToo terms seen))
