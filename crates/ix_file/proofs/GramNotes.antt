@@ -14,7 +14,7 @@ use Rattle.ix_file.specs.Grams.{IsGramOfTerm}
 use Rattle.ix_file.specs.declared.writer.grams.Grams.{Grams}
 use Rattle.ix_file.specs.GramTables.{AddsTo, HoldsGrams, HoldsNumbers, HoldsRelation, IsListOf, ListsNumbers, Notes, gram_eq, text_of}
 use Rattle.ix_file.specs.WindowPairs.{gram_of, pairs_of_term}
-use Rattle.ix_file.specs.declared.writer.grams.Gram.{Gram}
+use Rattle.ix_file.specs.declared.windows.Gram.{Gram}
 use Rattle.ix_file.specs.declared.writer.grams.GramList.{GramList}
 use Rattle.ix_file.specs.declared.open.pairs.GramPair.{GramPair}
 use Rattle.ix_file.proofs.HeldLemmas.{SeenToo, more_related}

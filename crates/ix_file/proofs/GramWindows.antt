@@ -1,25 +1,24 @@
 -- A gram is three characters, and stands among the windows of a term or does not.
-use Rattle.std.proofs.Common.{◌≡◌, ◌≢◌, ℕ, ◌↔◌, inl, inr, List, [], ◌∷◌, ◌++◌, length, Contains, IsUtf8, Option, Some, None, IfNone, refl, sym, ap, subst, ◌∙◌, arith}
-use Rattle.std.proofs.lemmas.Str.{chars-nil, chars_past_char, IsUtf8-past_char, chars_from_encodes}
+use Rattle.std.proofs.Common.{◌≡◌, ◌≢◌, ℕ, ◌↔◌, inl, inr, List, [], ◌∷◌, ◌++◌, map, length, Contains, IsUtf8, Option, Some, None, IfNone, refl, sym, ap, subst, ◌∙◌, arith}
+use Rattle.std.proofs.lemmas.Str.{chars_past_char, IsUtf8-past_char, chars_from_encodes}
 use Rattle.std.specs.Char.{encode_utf8}
 use Rattle.std.specs.Str.{chars}
 use Rattle.ix_text.proofs.AscendingLists.{contains_first, contains_later, contains_cases, contains_none}
 use Rattle.ix_text.specs.Windows.{grams_of}
 use Rattle.ix_file.specs.declared.open.pairs.GramPair.{GramPair}
-use Rattle.ix_file.specs.WindowPairs.{gram_of, pairs_of, pairs_of_term}
+use Rattle.ix_file.specs.declared.windows.Gram.{Gram}
+use Rattle.ix_file.specs.TermWindows.{windows_of_term}
+use Rattle.ix_file.specs.WindowPairs.{gram_of, pairs_of_term}
 use Rattle.ix_file.proofs.HeldLemmas.{term_has}
 use Rattle.ix_file.proofs.PairGrams.{gram_tells}
-use Rattle.ix_file.proofs.TermPairs.{pair}
+use Rattle.ix_file.proofs.TermPairs.{paired, windows-paired}
+use Rattle.ix_file.proofs.WindowSteps.{no_chars}
 
 -- ---- three characters
 
 -- the characters of a gram
 pub gram_chars : (gram : List ℕ) (p : GramPair) → IsUtf8 gram → gram_of p ≡ gram → chars gram ≡ p.first ∷ p.second ∷ p.third ∷ []
 gram_chars gram p text is = sym (chars_from_encodes (p.first ∷ p.second ∷ p.third ∷ []) gram text is)
-
-no_chars : (text : List ℕ) → length text ≡ 0 → chars text ≡ []
-no_chars [] none = chars-nil
-no_chars (b ∷ text) none = absurd (omega arith)
 
 -- another number of characters is no gram
 no_three : (gram cs : List ℕ) → IsUtf8 gram → chars gram ≡ cs → length cs ≢ 3 → (p : GramPair) → gram_of p ≢ gram
@@ -80,71 +79,38 @@ pair_tells term p text =
           subst (λ q. Contains (pairs_of_term p.number term) q) (same_pair held.pair p held.spelled held.numbered) held.among,
     )
 
--- what is left of a term, behind two characters, has the gram just where the term has it
-pub record IsLeft (term : List ℕ) (p : GramPair) (first second : ℕ) (rest : List ℕ) : Type 0 where
-  pub text : IsUtf8 rest
-  pub same : Contains (pairs_of_term p.number term) p ↔ Contains (pairs_of p.number (first ∷ second ∷ (chars rest ++ 36 ∷ []))) p
+-- the windows that are left of a term have the gram just where the term has it
+abbrev pub IsLeft : List ℕ → GramPair → List Gram → Type 0
+IsLeft term p left = Contains (pairs_of_term p.number term) p ↔ Contains (map (paired p.number) left) p
 
-pub left_start : (term : List ℕ) (p : GramPair) (second : ℕ) (rest : List ℕ) → IsUtf8 term → term ≡ encode_utf8 second ++ rest → IsLeft term p 36 second rest
-left_start term p second rest text is =
-    let whole : pairs_of_term p.number term ≡ pairs_of p.number (36 ∷ second ∷ (chars rest ++ 36 ∷ [])) =
-    ap (λ (cs : List ℕ). pairs_of p.number (36 ∷ (cs ++ 36 ∷ []))) (chars_past_char term rest second text is) in
-    record {
-      text = IsUtf8-past_char term rest second text is;
-      same = (λ has. subst (λ (ps : List GramPair). Contains ps p) whole has, λ has. subst (λ (ps : List GramPair). Contains ps p) (sym whole) has);
-    }
+pub left_start : (term : List ℕ) (p : GramPair) → IsLeft term p (windows_of_term term)
+left_start term p =
+    let whole = windows-paired p.number term in
+    (λ has. subst (λ (ps : List GramPair). Contains ps p) (sym whole) has, λ has. subst (λ (ps : List GramPair). Contains ps p) whole has)
 
 -- the next window is the gram
-pub left_found : (term : List ℕ) (p : GramPair) (first second third : ℕ) (rest next : List ℕ) → IsUtf8 term → IsLeft term p first second rest → rest ≡ encode_utf8 third ++ next
-    → first ≡ p.first → second ≡ p.second → third ≡ p.third → Contains (grams_of term) (gram_of p)
-left_found term p first second third rest next text left is a b c =
-    let cut : chars rest ≡ third ∷ chars next = chars_past_char rest next third left.text is in
-    let window : pair p.number first second third ≡ p = λ i. record { first = a i; second = b i; third = c i; number = p.number } in
-    let has : Contains (pairs_of p.number (first ∷ second ∷ third ∷ (chars next ++ 36 ∷ []))) p =
-    subst (λ q. Contains (pairs_of p.number (first ∷ second ∷ third ∷ (chars next ++ 36 ∷ []))) q) window (contains_first (pair p.number first second third) (pairs_of p.number (second ∷ third ∷ (chars next ++ 36 ∷ [])))) in
-    (pair_tells term p text).0 (left.same.1 (subst (λ (cs : List ℕ). Contains (pairs_of p.number (first ∷ second ∷ (cs ++ 36 ∷ []))) p) (sym cut) has))
+pub left_found : (term : List ℕ) (p : GramPair) (left : List Gram) (gram : Gram) (next : List Gram) → IsUtf8 term → IsLeft term p left → left ≡ gram ∷ next
+    → gram.first ≡ p.first → gram.second ≡ p.second → gram.third ≡ p.third → Contains (grams_of term) (gram_of p)
+left_found term p left gram next text same is a b c =
+    let window : paired p.number gram ≡ p = λ i. record { first = a i; second = b i; third = c i; number = p.number } in
+    let has : Contains (map (paired p.number) (gram ∷ next)) p =
+    subst (λ q. Contains (map (paired p.number) (gram ∷ next)) q) window (contains_first (paired p.number gram) (map (paired p.number) next)) in
+    (pair_tells term p text).0 (same.1 (subst (λ (gs : List Gram). Contains (map (paired p.number) gs) p) (sym is) has))
 
 -- the next window is another
-pub left_step : (term : List ℕ) (p : GramPair) (first second third : ℕ) (rest next : List ℕ) → IsLeft term p first second rest → rest ≡ encode_utf8 third ++ next
-    → ¬ ((first ≡ p.first) × (second ≡ p.second) × (third ≡ p.third)) → IsLeft term p second third next
-left_step term p first second third rest next left is other =
-    let cut : chars rest ≡ third ∷ chars next = chars_past_char rest next third left.text is in
-    let more = pairs_of p.number (second ∷ third ∷ (chars next ++ 36 ∷ [])) in
-    let window = pair p.number first second third in
-    let whole : pairs_of p.number (first ∷ second ∷ (chars rest ++ 36 ∷ [])) ≡ window ∷ more =
-    ap (λ (cs : List ℕ). pairs_of p.number (first ∷ second ∷ (cs ++ 36 ∷ []))) cut in
-    record {
-      text = IsUtf8-past_char rest next third left.text is;
-      same = (
-        λ has.
-            elim (contains_cases window more p (subst (λ (ps : List GramPair). Contains ps p) whole (left.same.0 has))) [
-              | inl this ↦ absurd (other (ap (λ (q : GramPair). q.first) this, ap (λ (q : GramPair). q.second) this, ap (λ (q : GramPair). q.third) this))
-              | inr later ↦ later
-            ],
-        λ has. left.same.1 (subst (λ (ps : List GramPair). Contains ps p) (sym whole) (contains_later window more p has)),
-      );
-    }
-
--- at the end the last window is left
-pub left_end : (term : List ℕ) (p : GramPair) (first second : ℕ) (rest : List ℕ) → IsUtf8 term → IsLeft term p first second rest → length rest ≡ 0
-    → ((first ≡ p.first) × (second ≡ p.second) × (36 ≡ p.third)) ↔ Contains (grams_of term) (gram_of p)
-left_end term p first second rest text left none =
-    let last : pairs_of p.number (first ∷ second ∷ (chars rest ++ 36 ∷ [])) ≡ pair p.number first second 36 ∷ [] =
-    ap (λ (cs : List ℕ). pairs_of p.number (first ∷ second ∷ (cs ++ 36 ∷ []))) (no_chars rest none) in
-    let window = pair p.number first second 36 in (
-      λ (a, b, c).
-          let is : window ≡ p = λ i. record { first = a i; second = b i; third = c i; number = p.number } in
-          (pair_tells term p text).0
-          (left.same.1 (subst (λ (ps : List GramPair). Contains ps p) (sym last) (subst (λ q. Contains (window ∷ []) q) is (contains_first window [])))),
+pub left_step : (term : List ℕ) (p : GramPair) (left : List Gram) (gram : Gram) (next : List Gram) → IsLeft term p left → left ≡ gram ∷ next
+    → ¬ ((gram.first ≡ p.first) × (gram.second ≡ p.second) × (gram.third ≡ p.third)) → IsLeft term p next
+left_step term p left gram next same is other =
+    let more = map (paired p.number) next in (
       λ has.
-          elim (contains_cases window [] p (subst (λ (ps : List GramPair). Contains ps p) last (left.same.0 ((pair_tells term p text).1 has)))) [
-            | inl this ↦ (ap (λ (q : GramPair). q.first) this, ap (λ (q : GramPair). q.second) this, ap (λ (q : GramPair). q.third) this)
-            | inr later ↦ absurd (contains_none p later)
+          elim (contains_cases (paired p.number gram) more p (subst (λ (gs : List Gram). Contains (map (paired p.number) gs) p) is (same.0 has))) [
+            | inl this ↦ absurd (other (ap (λ (q : GramPair). q.first) this, ap (λ (q : GramPair). q.second) this, ap (λ (q : GramPair). q.third) this))
+            | inr later ↦ later
           ],
+      λ has. same.1 (subst (λ (gs : List Gram). Contains (map (paired p.number) gs) p) (sym is) (contains_later (paired p.number gram) more p has)),
     )
 
--- a term without a character has no gram
-pub no_gram : (term : List ℕ) (p : GramPair) → IsUtf8 term → length term ≡ 0 → ¬ (Contains (grams_of term) (gram_of p))
-no_gram term p text none has =
-    let no_pairs : pairs_of_term p.number term ≡ [] = ap (λ (cs : List ℕ). pairs_of p.number (36 ∷ (cs ++ 36 ∷ []))) (no_chars term none) in
-    contains_none p (subst (λ (ps : List GramPair). Contains ps p) no_pairs ((pair_tells term p text).1 has))
+-- no window is left
+pub left_end : (term : List ℕ) (p : GramPair) (left : List Gram) → IsUtf8 term → IsLeft term p left → left ≡ [] → ¬ (Contains (grams_of term) (gram_of p))
+left_end term p left text same none has =
+    contains_none p (subst (λ (gs : List Gram). Contains (map (paired p.number) gs) p) none (same.0 ((pair_tells term p text).1 has)))

@@ -56,3 +56,4 @@ pub mod TellingLemmas
 pub mod TermPairs
 pub mod TextLaws
 pub mod TokenTotals
+pub mod WindowSteps

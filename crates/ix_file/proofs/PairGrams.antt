@@ -7,7 +7,7 @@ use Rattle.std.specs.Cmp.Lexicographic.{slice_cmp}
 use Rattle.std.specs.Ordering.{nat_cmp, ordering_then, MatchOrdering}
 use Rattle.ix_file.specs.declared.open.pairs.GramPair.{GramPair}
 use Rattle.ix_file.specs.GramTables.{gram_cmp, text_of}
-use Rattle.ix_file.specs.declared.writer.grams.Gram.{Gram}
+use Rattle.ix_file.specs.declared.windows.Gram.{Gram}
 use Rattle.ix_file.specs.WindowPairs.{gram_of}
 use Rattle.ix_file.proofs.GramOrder.{less_character, less_front}
 

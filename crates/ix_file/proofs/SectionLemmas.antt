@@ -24,7 +24,7 @@ use Rattle.ix_text.proofs.AscendingLists.{contains_cases, contains_none, contain
 use Rattle.ix_text.specs.ByteOrder.{IsAscending}
 use Rattle.ix_text.specs.Parts.{GramEntry, IsGramEntry}
 use Rattle.ix_text.specs.Windows.{grams_of, trigram_list, windows_of_three}
-use Rattle.ix_file.specs.declared.writer.grams.Gram.{Gram}
+use Rattle.ix_file.specs.declared.windows.Gram.{Gram}
 use Rattle.ix_file.specs.declared.writer.grams.GramList.{GramList}
 use Rattle.ix_file.specs.Grams.{AppendsGrams, AreGramsOfTerms, IsGramOfTerm}
 use Rattle.ix_file.specs.GramTables.{AreListed, HoldsRelation, IsListOf, ListsNumbers, all_listed_bytes, entry, gram_cmp, gram_eq, listed_bytes, text_of}

@@ -9,7 +9,7 @@ use Rattle.ix_vbyte.specs.Gaps.{Ascends, gaps_of, next_after}
 use Rattle.ix_vbyte.specs.Postings.{codes_of}
 use Rattle.ix_vbyte.specs.Texts.{counted}
 use Rattle.ix_file.specs.Grams.{IsGramOfTerm}
-use Rattle.ix_file.specs.declared.writer.grams.Gram.{Gram}
+use Rattle.ix_file.specs.declared.windows.Gram.{Gram}
 use Rattle.ix_file.specs.declared.writer.grams.GramList.{GramList}
 use Rattle.ix_file.specs.declared.writer.grams.Grams.{Grams}
 

@@ -31,6 +31,7 @@ pub mod Tables
 pub mod Telling
 pub mod TellingLaws
 pub mod TermReading
+pub mod TermWindows
 pub mod Told
 pub mod WindowPairs
 pub mod Writers

@@ -15,6 +15,7 @@ mod sections;
 #[cfg(test)]
 mod tests;
 mod volume;
+mod windows;
 mod writer;
 
 pub use index::Index;

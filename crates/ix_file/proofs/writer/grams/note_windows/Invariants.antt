@@ -7,7 +7,11 @@ use Rattle.ix_file.proofs.TermPairs.{IsUnderWay}
 use Rattle.ix_file.proofs.writer.grams.note_windows.Given as goal
 
 -- the windows so far are noted
-abbrev pub invariant-loop-third : goal.invariant-loop-third
-invariant-loop-third l =
-    (seen : List GramPair) × IsUnderWay [] l.number l.term seen l.first l.second l.third-iterator.rest.now
-    × ((terms : List (List ℕ)) → l.number ≡ length terms → HoldsRelation l.initial.lists l.number (IsGramOfTerm terms) → HoldsRelation l.lists (l.number + 1) (SeenToo terms seen))
+abbrev pub invariant-loop-gram : goal.invariant-loop-gram
+invariant-loop-gram l = record {
+  can : (goal.iterator-loop-gram).can_next l.gram-iterator;
+  ends : (goal.iterator-loop-gram).is_finite l.gram-iterator;
+  seen : List GramPair;
+  under_way : IsUnderWay [] l.number l.term seen l.gram-iterator;
+  holds : (terms : List (List ℕ)) → l.number ≡ length terms → HoldsRelation l.initial.lists l.number (IsGramOfTerm terms) → HoldsRelation l.lists (l.number + 1) (SeenToo terms seen);
+}
