@@ -8,7 +8,7 @@ use Rattle.ix_text.specs.PartsLaws.{AreLawful, IsLawfulTerm}
 use Rattle.ix_text.specs.StopSets.{IsStopSet}
 use Rattle.ix_text.specs.Terms.{IsTerm}
 use Rattle.ix_text.specs.TokenLaws.{AreInOrder, IsPostingIn}
-use Rattle.ix_text.proofs.TokensApart.{lawful_if_distinct}
+use Rattle.ix_text.proofs.TokensApart.{lawful_if_distinct, lawful_without_terms}
 use Rattle.ix_file.specs.Frames.{SectionTexts}
 use Rattle.ix_file.specs.Grams.{AreGramsOfTerms}
 use Rattle.ix_file.specs.Listings.{AreLaidOut, AreListings, Listing, listing_in, listing_of, listings_in, listings_section, sizes_sum}
@@ -96,12 +96,7 @@ module _ (version : Version) (texts : SectionTexts) (tables : Tables) (document_
 
   in_order : AreInOrder (parts_in texts tables)
   in_order = record {
-    stop_terms = read.stop_set.terms;
-    stop_ascending = read.stop_set.ascending;
-    few_stop_terms = read.stop_set.few;
-    names = read.rows.names;
-    few_documents = few.documents;
-    few_tokens = few.tokens;
+    without_terms = lawful_without_terms tables.stop rows read.stop_set read.rows.names few.documents few.tokens;
     ascending = subst IsAscending (listed_terms tables.terms ∙ sym (terms_in texts.postings tables.terms)) read.listings.ascending;
     terms = lawful_terms;
   }

@@ -14,7 +14,7 @@ use Rattle.ix_text.specs.Terms.{IsTerm}
 use Rattle.ix_text.specs.TokenLaws.{AreInOrder}
 use Rattle.ix_text.specs.TokenNumbers.{AreDistinct, numbers_of_entries, numbers_of_posting, numbers_of_postings}
 use Rattle.ix_text.proofs.PartsLemmas.{same_entry_fields}
-use Rattle.ix_text.proofs.TokensApart.{lawful_if_distinct, numbers_of_entries-push, numbers_of_postings-append}
+use Rattle.ix_text.proofs.TokensApart.{lawful_if_distinct, lawful_in_order, numbers_of_entries-push, numbers_of_postings-append}
 use Rattle.ix_vbyte.specs.Gaps.{next_after}
 use Rattle.ix_vbyte.specs.Postings.{documents_of}
 use Rattle.ix_run.specs.Heads.{Heading, parts_with}
@@ -123,12 +123,7 @@ rising_at_hand heading finished term (p ∷ ps) begun =
 in_order : (heading : Heading) (finished : List DictionaryEntry) (entry : DictionaryEntry) → AreWhole heading finished → IsTerm entry.term → ¬ (Contains heading.stop entry.term)
     → IsAscending (terms_of (finished ++ entry ∷ [])) → 0 < length entry.postings → AreRising heading.rows entry.postings → AreInOrder (parts_with heading (finished ++ entry ∷ []))
 in_order heading finished entry whole term no_stop ascending some are = record {
-  stop_terms = whole.lawful.stop_terms;
-  stop_ascending = whole.lawful.stop_ascending;
-  few_stop_terms = whole.lawful.few_stop_terms;
-  names = whole.lawful.names;
-  few_documents = whole.lawful.few_documents;
-  few_tokens = whole.lawful.few_tokens;
+  without_terms = (lawful_in_order (parts_with heading finished) whole.lawful).without_terms;
   ascending = ascending;
   terms =
       All-push (IsLawfulTerm (parts_with heading (finished ++ entry ∷ []))) finished entry

@@ -3,10 +3,10 @@ use Rattle.std.proofs.Common.{◌≡◌, ℕ, ◌+◌, ◌-◌, ◌^◌, ◌<◌
 use Rattle.std.proofs.lemmas.List.{map-append}
 use Rattle.std.proofs.lemmas.List.Elements.{All-nil, All-cons, All-contains, All-head, All-tail, All-weaker, Contains-append_left, Contains-push}
 use Rattle.ix_text.specs.Parts.{DictionaryEntry, Posting}
-use Rattle.ix_text.specs.PartsLaws.{IsLawfulTerm, LiesBelow}
+use Rattle.ix_text.specs.PartsLaws.{IsLawfulTerm}
 use Rattle.ix_text.proofs.PartsLawful.{postings_below}
 use Rattle.ix_vbyte.specs.Gaps.{Ascends, next_after}
-use Rattle.ix_vbyte.specs.Postings.{ArePostings, IsPosting, documents_of, shifted}
+use Rattle.ix_vbyte.specs.Postings.{ArePostings, IsPosting, LiesBelow, documents_of, shifted}
 use Rattle.ix_vbyte.proofs.Gaps.{Ascends-lower, Ascends-wider}
 use Rattle.ix_vbyte.proofs.Sizes.{postings_from}
 use Rattle.ix_run.specs.Heads.{Heading, parts_with}

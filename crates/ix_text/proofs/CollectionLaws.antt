@@ -135,13 +135,13 @@ all_tail P x xs h k d within = h (suc k) d (omega arith)
 abbrev IsSameFront : List NamedText → List NamedText → List ℕ → List ℕ → Type 0
 IsSameFront one other left rest = ((one ≡ other) × (left ≡ rest)) ⊎ (BeginsWithLine left ⊎ BeginsWithLine rest)
 
-abbrev AreLawful : List NamedText → Type 0
-AreLawful documents = All (λ (d : NamedText). IsName d.name) documents × All (λ (d : NamedText). ¬ (Contains d.text 10)) documents
+abbrev AreNamedTexts : List NamedText → Type 0
+AreNamedTexts documents = All (λ (d : NamedText). IsName d.name) documents × All (λ (d : NamedText). ¬ (Contains d.text 10)) documents
 
-lawful_tail : (d : NamedText) (ds : List NamedText) → AreLawful (d ∷ ds) → AreLawful ds
+lawful_tail : (d : NamedText) (ds : List NamedText) → AreNamedTexts (d ∷ ds) → AreNamedTexts ds
 lawful_tail d ds h = (all_tail (λ (d : NamedText). IsName d.name) d ds h.0, all_tail (λ (d : NamedText). ¬ (Contains d.text 10)) d ds h.1)
 
-abbrev begins : (d : NamedText) (ds : List NamedText) (next left : List ℕ) → AreLawful (d ∷ ds) → left ≡ line_of d ++ next → BeginsWithLine left
+abbrev begins : (d : NamedText) (ds : List NamedText) (next left : List ℕ) → AreNamedTexts (d ∷ ds) → left ≡ line_of d ++ next → BeginsWithLine left
 begins d ds next left h is = record { document = d; next = next; is = is; name = all_head (λ (d : NamedText). IsName d.name) d ds h.0; unbroken = all_head (λ (d : NamedText). ¬ (Contains d.text 10)) d ds h.1 }
 
 same_document : (d f : NamedText) → d.name ≡ f.name → d.text ≡ f.text → d ≡ f
@@ -150,7 +150,7 @@ same_document d f names texts =
     let by_text : List ℕ → NamedText = λ t. record { name = f.name; text = t } in
     ap by_name names ∙ ap by_text texts
 
-same_front : (one other : List NamedText) (left rest : List ℕ) → AreLawful one → AreLawful other → flat_map line_of one ++ left ≡ flat_map line_of other ++ rest → IsSameFront one other left rest
+same_front : (one other : List NamedText) (left rest : List ℕ) → AreNamedTexts one → AreNamedTexts other → flat_map line_of one ++ left ≡ flat_map line_of other ++ rest → IsSameFront one other left rest
 same_front [] [] left rest p q e = inl (refl, e)
 same_front [] (d ∷ ds) left rest p q e = inr (inl (begins d ds (flat_map line_of ds ++ rest) left q (e ∙ append_assoc (line_of d) (flat_map line_of ds) rest)))
 same_front (d ∷ ds) [] left rest p q e = inr (inr (begins d ds (flat_map line_of ds ++ left) rest p (sym e ∙ append_assoc (line_of d) (flat_map line_of ds) left)))

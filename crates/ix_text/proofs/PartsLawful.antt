@@ -8,7 +8,7 @@ use Rattle.std.specs.Option.{option_map}
 use Rattle.ix_text.specs.ByteOrder.{IsAscending}
 use Rattle.ix_text.specs.Collections.{Collection, Document, IsName, IsLawful, IsLawfulEntry, HasPosting}
 use Rattle.ix_text.specs.Parts.{Parts, Posting, DictionaryEntry, DocumentRow, ArePartsOf, IsPosting, IsEntryOf, row_of}
-use Rattle.ix_text.specs.PartsLaws.{IsInRange, IsLawfulTerm, AreLawful, LiesBelow}
+use Rattle.ix_text.specs.PartsLaws.{IsInRange, IsLawfulTerm, AreLawful}
 use Rattle.ix_text.specs.Terms.{IsTerm}
 use Rattle.ix_text.proofs.CollectionTold.{contains_first, some_position}
 
@@ -84,7 +84,7 @@ place_below parts lawful number position range =
     subst (λ (row : DocumentRow). row.tokens ≤ sum_by (λ (r : DocumentRow). r.tokens) parts.rows) there (get_or-le-sum_by (λ (row : DocumentRow). row.tokens) parts.rows number range.row within) in
     (omega (arith, lawful.few_documents), omega (arith, lawful.few_tokens, range.below))
 
-pub posting_below : (parts : Parts) → AreLawful parts → (entry : DictionaryEntry) → IsLawfulTerm parts entry → (posting : Posting) → Contains entry.postings posting → LiesBelow (2 ^ 28) posting
+pub posting_below : (parts : Parts) → AreLawful parts → (entry : DictionaryEntry) → IsLawfulTerm parts entry → (posting : Posting) → Contains entry.postings posting → (posting.0 < 2 ^ 28) × All (λ position. position < 2 ^ 28) posting.1
 posting_below parts lawful entry is posting among =
     let rising : IsPosting posting = All-contains IsPosting entry.postings posting is.ordered.each among in
     let (first, here) = contains_first posting.1 rising.0 in
@@ -94,7 +94,7 @@ posting_below parts lawful entry is posting among =
     below position positioned =
         place_below parts lawful posting.0 position (is.in_range posting.0 position (record { positions = posting.1; among = among; positioned = positioned }))
 
-pub postings_below : (parts : Parts) → AreLawful parts → All (λ entry. All (LiesBelow (2 ^ 28)) entry.postings) parts.entries
+pub postings_below : (parts : Parts) → AreLawful parts → All (λ entry. All (λ posting. (posting.0 < 2 ^ 28) × All (λ position. position < 2 ^ 28) posting.1) entry.postings) parts.entries
 postings_below parts lawful k d below = λ i e within.
     let entry = get_or parts.entries k d in
     posting_below parts lawful entry (lawful.terms k d below) (get_or entry.postings i e) (Contains-get_or entry.postings i e within)

@@ -1,19 +1,21 @@
 -- Each token has its own number, and parts in order tell no token twice just where they are lawful.
-use Rattle.std.proofs.Common.{◌≡◌, ℕ, ◌+◌, ◌<◌, ◌≤◌, List, [], ◌∷◌, ◌++◌, map, take, Less, All, Contains, sum_by, sym, ap, ◌∙◌, subst, append_assoc, inl, inr, arith}
+use Rattle.std.proofs.Common.{◌≡◌, ℕ, ◌+◌, ◌<◌, ◌≤◌, List, [], ◌∷◌, ◌++◌, ◌^◌, length, map, take, Less, All, Contains, sum_by, sym, ap, ◌∙◌, subst, append_assoc, inl, inr, arith}
 use Rattle.std.proofs.lemmas.Bool.{cases_order}
 use Rattle.std.proofs.lemmas.List.{append-nil, map-append, map_push, take-take}
 use Rattle.std.proofs.lemmas.List.Concat.{flat_map-append}
-use Rattle.std.proofs.lemmas.List.Elements.{All-contains, Contains-get_or}
+use Rattle.std.proofs.lemmas.List.Elements.{All-nil, All-contains, Contains-get_or}
 use Rattle.std.proofs.lemmas.List.Sums.{sum_by-take-le}
 use Rattle.std.specs.Cmp.Lexicographic.{slice_cmp}
 use Rattle.std.specs.List.Sorted.{IsStrictlySortedBy}
 use Rattle.std.specs.Ordering.{nat_cmp}
 use Rattle.ix_text.specs.ByteOrder.{IsAscending}
+use Rattle.ix_text.specs.Collections.{IsName}
 use Rattle.ix_text.specs.Parts.{DictionaryEntry, DocumentRow, HasPosition, IsPosting, ArePostings, Parts, Posting, terms_of}
 use Rattle.ix_text.specs.PartsLaws.{AreLawful, IsInRange, IsLawfulTerm}
+use Rattle.ix_text.specs.StopSets.{IsStopSet}
 use Rattle.ix_text.specs.TokenLaws.{AreInOrder}
 use Rattle.ix_text.specs.TokenNumbers.{AreDistinct, numbers_of_entries, numbers_of_posting, numbers_of_postings, token_number, tokens_before}
-use Rattle.ix_text.proofs.AscendingLists.{all_below, contains_map, contained_from_map}
+use Rattle.ix_text.proofs.AscendingLists.{all_below, contains_none, contains_map, contained_from_map}
 use Rattle.ix_text.proofs.CollectionTold.{not_less_itself}
 use Rattle.ix_text.proofs.DistinctNumbers.{KeysDiffer, contained_from_flat_map, contains_flat_map, distinct_flat_map, distinct_next, one_source, rising_distinct, rising_keys_differ}
 use Rattle.ix_text.proofs.TokenStarts.{count_of, tokens_before_next}
@@ -167,6 +169,25 @@ terms_differ f (entry ∷ entries) ascending = (
   terms_differ f entries ascending.1,
 )
 
+ascending_none : IsAscending []
+unfolding IsStrictlySortedBy
+ascending_none = tt
+
+-- a stop set and rows, and no term
+pub lawful_without_terms : (stop : List (List ℕ)) (rows : List DocumentRow) → IsStopSet stop → All (λ row. IsName row.name) rows → length rows ≤ 2 ^ 28 → sum_by (λ row. row.tokens) rows ≤ 2 ^ 28
+    → AreLawful (record { stop = stop; rows = rows; entries = [] })
+lawful_without_terms stop rows is names documents tokens = record {
+  stop_terms = is.terms;
+  stop_ascending = is.ascending;
+  few_stop_terms = is.few;
+  names = names;
+  few_documents = documents;
+  few_tokens = tokens;
+  ascending = ascending_none;
+  terms = All-nil (IsLawfulTerm (record { stop = stop; rows = rows; entries = [] }));
+  apart = λ one other number position none _ _ _. absurd (contains_none _ none);
+}
+
 module _ (parts : Parts) where
   abbrev numbers_of : DictionaryEntry → List ℕ
   numbers_of entry = numbers_of_postings parts.rows entry.postings
@@ -174,12 +195,12 @@ module _ (parts : Parts) where
   -- the number of a position under two terms stands in the lists of two entries, so these are one
   pub lawful_if_distinct : AreInOrder parts → AreDistinct (numbers_of_entries parts.rows parts.entries) → AreLawful parts
   lawful_if_distinct order distinct = record {
-    stop_terms = order.stop_terms;
-    stop_ascending = order.stop_ascending;
-    few_stop_terms = order.few_stop_terms;
-    names = order.names;
-    few_documents = order.few_documents;
-    few_tokens = order.few_tokens;
+    stop_terms = order.without_terms.stop_terms;
+    stop_ascending = order.without_terms.stop_ascending;
+    few_stop_terms = order.without_terms.few_stop_terms;
+    names = order.without_terms.names;
+    few_documents = order.without_terms.few_documents;
+    few_tokens = order.without_terms.few_tokens;
     ascending = order.ascending;
     terms = order.terms;
     apart = λ one other number position at_one at_other has_one has_other.
@@ -190,12 +211,7 @@ module _ (parts : Parts) where
 
   pub lawful_in_order : AreLawful parts → AreInOrder parts
   lawful_in_order lawful = record {
-    stop_terms = lawful.stop_terms;
-    stop_ascending = lawful.stop_ascending;
-    few_stop_terms = lawful.few_stop_terms;
-    names = lawful.names;
-    few_documents = lawful.few_documents;
-    few_tokens = lawful.few_tokens;
+    without_terms = lawful_without_terms parts.stop parts.rows (record { few = lawful.few_stop_terms; ascending = lawful.stop_ascending; terms = lawful.stop_terms }) lawful.names lawful.few_documents lawful.few_tokens;
     ascending = lawful.ascending;
     terms = lawful.terms;
   }

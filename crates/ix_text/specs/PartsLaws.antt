@@ -49,13 +49,11 @@ LawfulPartsHaveCollection = (parts : Parts) → AreLawful parts → HasCollectio
 abbrev pub LawfulCollectionsHaveLawfulParts : Type 0
 LawfulCollectionsHaveLawfulParts = (collection : Collection) (parts : Parts) → IsLawful collection → ArePartsOf collection parts → AreLawful parts
 
--- the document and each position are below the number
-abbrev pub LiesBelow : ℕ → Posting → Type 0
-LiesBelow top posting = (posting.0 < top) × All (λ position. position < top) posting.1
-
 -- documents and positions of lawful parts are below 2^28
 abbrev pub LawfulPartsLieBelow : Type 0
-LawfulPartsLieBelow = (parts : Parts) → AreLawful parts → All (λ entry. All (LiesBelow (2 ^ 28)) entry.postings) parts.entries
+LawfulPartsLieBelow =
+    (parts : Parts) → AreLawful parts
+    → All (λ entry. All (λ posting. (posting.0 < 2 ^ 28) × All (λ position. position < 2 ^ 28) posting.1) entry.postings) parts.entries
 
 -- the positions of a term in all documents, counted
 abbrev pub position_count : List Posting → ℕ

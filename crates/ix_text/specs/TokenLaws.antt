@@ -1,10 +1,8 @@
 -- Where the postings of a dictionary lie in its documents, and that no token is told twice.
-use Rattle.std.specs.Prelude.{ℕ, ◌^◌, ◌≤◌, List, length, sum_by, All, Contains}
+use Rattle.std.specs.Prelude.{ℕ, List, [], All, Contains}
 use Rattle.ix_text.specs.ByteOrder.{IsAscending}
-use Rattle.ix_text.specs.Collections.{IsName}
 use Rattle.ix_text.specs.Parts.{DocumentRow, Parts, Posting, IsPosting, terms_of}
 use Rattle.ix_text.specs.PartsLaws.{AreLawful, IsInRange, IsLawfulTerm}
-use Rattle.ix_text.specs.Terms.{IsTerm}
 use Rattle.ix_text.specs.TokenNumbers.{AreDistinct, numbers_of_entries}
 
 -- a posting with some positions, ascending, that its document has
@@ -12,14 +10,9 @@ pub record IsPostingIn (rows : List DocumentRow) (posting : Posting) : Type 0 wh
   pub is : IsPosting posting
   pub in_range : (position : ℕ) → Contains posting.1 position → IsInRange rows posting.0 position
 
--- lawful parts, but that a token may be told twice
+-- lawful parts, but that a token may be told twice: they are lawful without their terms, and these ascend and are lawful one by one
 pub record AreInOrder (parts : Parts) : Type 0 where
-  pub stop_terms : All IsTerm parts.stop
-  pub stop_ascending : IsAscending parts.stop
-  pub few_stop_terms : length parts.stop ≤ 2 ^ 28
-  pub names : All (λ row. IsName row.name) parts.rows
-  pub few_documents : length parts.rows ≤ 2 ^ 28
-  pub few_tokens : sum_by (λ row. row.tokens) parts.rows ≤ 2 ^ 28
+  pub without_terms : AreLawful (record { stop = parts.stop; rows = parts.rows; entries = [] })
   pub ascending : IsAscending (terms_of parts.entries)
   pub terms : All (IsLawfulTerm parts) parts.entries
 
