@@ -8,7 +8,7 @@ ghost use Rattle.ix_board.specs.Ends.{EndsWith};
 ghost use Rattle.ix_board.specs.Seats.{number_in, steps_in, held_in, IsDeskSeat, IsCrewSeat, IsDealer, AreIdle};
 ghost use Rattle.ix_board.specs.Starts.{AreFirstWords};
 
-use crate::memory::Memory;
+use crate::Memory;
 use crate::rule::{
     BoardSeat, BoardTable, Claiming, DONE, Dealing, Delivering, Fetching, GIVEN_UP, Gathering,
     GivingUp, HELD, OPEN, Shape,

@@ -5,18 +5,18 @@ ghost use Rattle.ix_board.specs.Desks.{fresh_desks};
 ghost use Rattle.ix_board.specs.Rooms.{HasRoom};
 ghost use Rattle.ix_board.specs.Seats.{IsDealer};
 
+use crate::Memory;
 use crate::board::Board;
 use crate::desk::Desk;
-use crate::memory::Memory;
 use crate::rule::{BoardSeat, HELD, OPEN};
-use std::alloc::Global;
+use std::alloc::{AllocError, Global};
 
 // The words of a new board.
 fn first_words(alloc: Global, count: usize, workers: usize) -> Result<Vec<u64>, Memory>
     ensures { IfOk result (λ v. AreFirstWords count workers v.items) }
 {
     if count == usize::MAX {
-        return Err(Memory);
+        return Err(AllocError);
     }
     let mut words = vec![in alloc; OPEN; count + 1]?;
     for place in 0..count.min(workers) {
@@ -38,7 +38,7 @@ fn empty_rooms<P>(
         Ok(desks) => Ok((pieces, desks)),
         Err(_) => {
             pieces.destroy_empty();
-            Err(Memory)
+            Err(AllocError)
         }
     }
 }

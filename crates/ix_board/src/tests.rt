@@ -210,10 +210,7 @@ fn want_of_memory(rt: HostRuntime) -> Result<(), Fail> {
     for count in [usize::MAX, 1 << 60] {
         match Board::<u64>::open(rt.alloc(), count, 1) {
             Ok(_) => assert!(rt; false, "{count} places fit in no memory"),
-            Err(refused) => {
-                assert_eq!(rt; refused.number(), 1);
-                assert_eq!(rt; format!(in rt.alloc(); "{refused}")?.as_str(), "Memory");
-            }
+            Err(AllocError) => {}
         }
     }
     // With each request refused in turn it is refused, and with none it opens.
