@@ -5,7 +5,6 @@
 mod index;
 mod laws;
 mod layout;
-mod limits;
 mod numbers;
 mod open;
 mod open_error;

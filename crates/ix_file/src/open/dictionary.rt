@@ -11,12 +11,11 @@ ghost use Rattle.ix_file.specs.TermReading.{IsLongestFront, TermMayFollow, last_
 ghost use Rattle.ix_file.specs.declared.open_error.OpenError.TheVariants.{Memory};
 
 use crate::layout::{GROUP, MIN_ENTRY_BYTES};
-use crate::limits::MAX_TEXT_BYTES;
 use crate::open::frame::Version;
 use crate::open::front::{number, taken};
 use crate::open::terms::{ListPlace, Terms};
 use crate::{OpenError, Section};
-use ix_text::StopList;
+use ix_text::{MAX_TERM_BYTES, StopList};
 use ix_vbyte::VbError;
 use std::alloc::{AllocError, Global};
 
@@ -127,7 +126,7 @@ fn read_row<'a>(
     before: &str,
     left: &'a [u8],
 ) -> Result<(ListedTerm, &'a [u8]), OpenError>
-    requires { length before.now ≤ MAX_TEXT_BYTES }
+    requires { length before.now ≤ MAX_TERM_BYTES }
     ensures term { IfOk result (λ read. TermMayFollow stop.now before.now
         (listing_read read.0).term) }
     ensures counts { IfOk result (λ read. HasListedCounts (listing_read read.0)) }
@@ -180,7 +179,7 @@ fn read_term<'a>(
     before: &str,
     left: &'a [u8],
 ) -> Result<(String, &'a [u8]), OpenError>
-    requires { length before.now ≤ MAX_TEXT_BYTES }
+    requires { length before.now ≤ MAX_TERM_BYTES }
     ensures term { IfOk result (λ read. TermMayFollow stop.now before.now (string_bytes read.0)) }
     ensures found { IfOk result (λ read. left.now ≡ dictionary_term_bytes (version_in version) place
         before.now (string_bytes read.0) ++ read.1.now) }
@@ -232,7 +231,7 @@ fn cut_term<'a, 'b>(
     before: &'b [u8],
     left: &'a [u8],
 ) -> Result<TermCut<'a, 'b>, OpenError>
-    requires { length before.now ≤ MAX_TEXT_BYTES }
+    requires { length before.now ≤ MAX_TERM_BYTES }
     ensures size { IfOk result (λ cut. HasTermSize (text_of cut)) }
     ensures found { IfOk result (λ cut. left.now ≡ dictionary_term_bytes (version_in version) place
         before.now (text_of cut) ++ cut.rest.now) }
@@ -262,7 +261,7 @@ fn cut_whole<'a, 'b>(before: &'b [u8], left: &'a [u8]) -> Result<TermCut<'a, 'b>
         left.now ≢ counted term ++ rest) }
 {
     let (size, bytes) = number(Section::Dictionary, left)?;
-    if size == 0 || size > MAX_TEXT_BYTES {
+    if size == 0 || size > MAX_TERM_BYTES {
         return Err(OpenError::TermSize);
     }
     let (own, rest) = taken(Section::Dictionary, size, bytes)?;
@@ -278,7 +277,7 @@ fn cut_whole<'a, 'b>(before: &'b [u8], left: &'a [u8]) -> Result<TermCut<'a, 'b>
 /// `Number` of its two numbers; `Front` where it shares another number of bytes with the term before; `TermSize` where
 /// it has not 1 to 255 bytes; `Number` where there are fewer bytes.
 fn cut_front_coded<'a, 'b>(before: &'b [u8], left: &'a [u8]) -> Result<TermCut<'a, 'b>, OpenError>
-    requires { length before.now ≤ MAX_TEXT_BYTES }
+    requires { length before.now ≤ MAX_TERM_BYTES }
     ensures size { IfOk result (λ cut. HasTermSize (text_of cut)) }
     ensures found { IfOk result (λ cut. left.now ≡ front_coded before.now (text_of cut)
         ++ cut.rest.now) }
@@ -288,7 +287,7 @@ fn cut_front_coded<'a, 'b>(before: &'b [u8], left: &'a [u8]) -> Result<TermCut<'
     let (shared, behind) = number(Section::Dictionary, left)?;
     let (size, bytes) = number(Section::Dictionary, behind)?;
     let front = longest_front(before, shared, size, bytes)?;
-    if size > MAX_TEXT_BYTES - shared {
+    if size > MAX_TERM_BYTES - shared {
         return Err(OpenError::TermSize);
     }
     let (own, rest) = taken(Section::Dictionary, size, bytes)?;

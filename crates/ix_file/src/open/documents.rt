@@ -8,9 +8,9 @@ ghost use Rattle.ix_file.specs.Sections.{documents_section};
 ghost use Rattle.ix_file.specs.declared.open_error.OpenError.TheVariants.{Memory};
 
 use crate::layout::MIN_ROW_BYTES;
-use crate::limits::MAX_TOKENS;
 use crate::open::front::{number, text};
 use crate::{OpenError, Section};
+use ix_text::MAX_TOKENS;
 use std::alloc::Global;
 
 /// A document: where its name stands in DOCS, how many bytes the name has, and how many tokens the document.

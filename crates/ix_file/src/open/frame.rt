@@ -9,7 +9,7 @@ use crate::layout::{
     COUNT_BYTES, COUNTS_BYTES, END_MARK_FRONT_CODED, END_MARK_PLAIN, FRAME_BYTES, LENGTH_BYTES,
     LENGTHS_BYTES, MAGIC_FRONT_CODED, MAGIC_PLAIN, MARK_BYTES, TRAILER_BYTES,
 };
-use crate::limits::MAX_DOCUMENTS;
+use ix_text::MAX_DOCUMENTS;
 
 /// The version of an index text.
 #[derive(Clone, Copy, Debug, PartialEq, Eq)]

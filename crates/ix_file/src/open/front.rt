@@ -5,8 +5,8 @@ ghost use Rattle.ix_vbyte.specs.Texts.{counted};
 ghost use Rattle.ix_text.specs.Terms.{IsTerm};
 ghost use Rattle.ix_file.specs.Refusals.{IsNumberFault};
 
-use crate::limits::MAX_TEXT_BYTES;
 use crate::{OpenError, Section};
+use ix_text::MAX_TERM_BYTES;
 use ix_vbyte::{VbError, decode};
 use std::str::from_utf8;
 
@@ -58,7 +58,7 @@ pub(crate) fn text(
         ++ rest) }
 {
     let (count, rest) = number(section, bytes)?;
-    if count == 0 || count > MAX_TEXT_BYTES {
+    if count == 0 || count > MAX_TERM_BYTES {
         return Err(wrong_size);
     }
     let (text, rest) = taken(section, count, rest)?;

@@ -6,10 +6,9 @@ ghost use Rattle.ix_text.specs.StopSets.{IsStopSet};
 ghost use Rattle.ix_file.specs.Sections.{stop_section};
 ghost use Rattle.ix_file.specs.declared.open_error.OpenError.TheVariants.{Memory};
 
-use crate::limits::MAX_STOP_TERMS;
 use crate::open::front::text;
 use crate::{OpenError, Section};
-use ix_text::StopList;
+use ix_text::{MAX_STOP_TERMS, StopList};
 use std::alloc::Global;
 
 /// How many more stop terms there may be than a fourth of the bytes of STOP: 128 texts have one byte and 18,304 have
@@ -54,7 +53,7 @@ fn push_term<'a>(
     if !is_above(term, terms.last()) {
         return Err(OpenError::StopOrder);
     }
-    if terms.len() >= MAX_STOP_TERMS {
+    if terms.len() >= MAX_STOP_TERMS as usize {
         return Err(OpenError::TooLarge);
     }
     terms.push(String::from_str(alloc, term)?)?;

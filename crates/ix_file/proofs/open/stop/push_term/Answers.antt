@@ -26,5 +26,5 @@ returns-clause-lawful c =
     let pushed : map bytes c.push.new.self.items ≡ map bytes terms ++ c.in_ok-term.term.now ∷ [] =
     ap (map bytes) c.in_ok-push.ensures.items ∙ map-append bytes terms (c.in_ok-from_str.field-0 ∷ [])
     ∙ ap (λ (t : List ℕ). map bytes terms ++ t ∷ []) c.in_ok-from_str.ensures.ok in
-    let few = c.if-len-ge-MAX_STOP_TERMS.false in
+    let few = c.if-len.false in
     rw pushed (stop_push (map bytes terms) c.in_ok-term.term.now c.requires (omega (arith, few, c.len.ensures, length-map terms bytes)) above c.in_ok-term.ensures.found.0)
