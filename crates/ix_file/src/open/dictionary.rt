@@ -12,7 +12,7 @@ ghost use Rattle.ix_file.specs.declared.open_error.OpenError.TheVariants.{Memory
 
 use crate::layout::{GROUP, MIN_ENTRY_BYTES};
 use crate::open::frame::Version;
-use crate::open::front::{number, taken};
+use crate::open::front::{read_bytes, read_number};
 use crate::open::terms::{ListPlace, Terms};
 use crate::{OpenError, Section};
 use ix_text::{MAX_TERM_BYTES, StopList};
@@ -158,11 +158,11 @@ fn read_counts(left: &[u8]) -> Result<(u32, u32, &[u8]), OpenError>
     ensures refused { OnErr result ((listing : Listing) (rest : List ℕ) → HasListedCounts listing →
         left.now ≢ (code_of listing.documents ++ code_of listing.size) ++ rest) }
 {
-    let (documents, behind) = number(Section::Dictionary, left)?;
+    let (documents, behind) = read_number(Section::Dictionary, left)?;
     if documents == 0 {
         return Err(OpenError::Zero);
     }
-    let (size, rest) = number(Section::Dictionary, behind)?;
+    let (size, rest) = read_number(Section::Dictionary, behind)?;
     Ok((documents, size, rest))
 }
 
@@ -188,7 +188,7 @@ fn read_term<'a>(
         left.now ≢ dictionary_term_bytes (version_in version) place before.now term ++ rest)) }
 {
     let cut = cut_term(version, place, before.as_bytes(), left)?;
-    let term = joined(buffer, cut.front, cut.own)?;
+    let term = join(buffer, cut.front, cut.own)?;
     let is_above = before < term.as_str();
     if !is_above {
         return Err(OpenError::TermOrder);
@@ -202,7 +202,7 @@ fn read_term<'a>(
 /// Two runs of bytes as one text, in place of what the buffer held.
 ///
 /// `Text` where they are not UTF-8 together; or `Memory`.
-fn joined(buffer: Vec<u8>, front: &[u8], own: &[u8]) -> Result<String, OpenError>
+fn join(buffer: Vec<u8>, front: &[u8], own: &[u8]) -> Result<String, OpenError>
     ensures found { IfOk result (λ text. string_bytes text ≡ front.now ++ own.now) }
     ensures refused { IfErr result (λ error. (error ≡ Memory) ⊎ ¬ (IsUtf8 (front.now ++ own.now))) }
 {
@@ -260,11 +260,11 @@ fn cut_whole<'a, 'b>(before: &'b [u8], left: &'a [u8]) -> Result<TermCut<'a, 'b>
     ensures refused { OnErr result ((term rest : List ℕ) → HasTermSize term →
         left.now ≢ counted term ++ rest) }
 {
-    let (size, bytes) = number(Section::Dictionary, left)?;
+    let (size, bytes) = read_number(Section::Dictionary, left)?;
     if size == 0 || size > MAX_TERM_BYTES {
         return Err(OpenError::TermSize);
     }
-    let (own, rest) = taken(Section::Dictionary, size, bytes)?;
+    let (own, rest) = read_bytes(Section::Dictionary, size, bytes)?;
     Ok(TermCut {
         front: &before[..0],
         own,
@@ -284,13 +284,13 @@ fn cut_front_coded<'a, 'b>(before: &'b [u8], left: &'a [u8]) -> Result<TermCut<'
     ensures refused { OnErr result ((term rest : List ℕ) → HasTermSize term →
         IsAscending (before.now ∷ term ∷ []) → left.now ≢ front_coded before.now term ++ rest) }
 {
-    let (shared, behind) = number(Section::Dictionary, left)?;
-    let (size, bytes) = number(Section::Dictionary, behind)?;
+    let (shared, behind) = read_number(Section::Dictionary, left)?;
+    let (size, bytes) = read_number(Section::Dictionary, behind)?;
     let front = longest_front(before, shared, size, bytes)?;
     if size > MAX_TERM_BYTES - shared {
         return Err(OpenError::TermSize);
     }
-    let (own, rest) = taken(Section::Dictionary, size, bytes)?;
+    let (own, rest) = read_bytes(Section::Dictionary, size, bytes)?;
     Ok(TermCut { front, own, rest })
 }
 

@@ -8,7 +8,7 @@ ghost use Rattle.ix_file.specs.Sections.{documents_section};
 ghost use Rattle.ix_file.specs.declared.open_error.OpenError.TheVariants.{Memory};
 
 use crate::layout::MIN_ROW_BYTES;
-use crate::open::front::{number, text};
+use crate::open::front::{read_number, read_text};
 use crate::{OpenError, Section};
 use ix_text::MAX_TOKENS;
 use std::alloc::Global;
@@ -69,7 +69,7 @@ fn read_row<'a>(section: &[u8], left: &'a [u8]) -> Result<(Row, &'a [u8]), OpenE
         row.tokens < 2 ^ 32 → left.now ≢ row_bytes row ++ rest) }
 {
     let (name, behind) = read_name(left)?;
-    let (tokens, rest) = number(Section::Documents, behind)?;
+    let (tokens, rest) = read_number(Section::Documents, behind)?;
     let row = Row {
         start: section.len() - behind.len() - name.len(),
         size: name.len() as u8,
@@ -85,7 +85,7 @@ fn read_name(left: &[u8]) -> Result<(&str, &[u8]), OpenError>
     ensures refused { OnErr result ((name rest : List ℕ) → IsName name → left.now ≢ counted name
         ++ rest) }
 {
-    let (name, rest) = text(Section::Documents, OpenError::Name, left)?;
+    let (name, rest) = read_text(Section::Documents, OpenError::Name, left)?;
     if !is_unbroken(name.as_bytes()) {
         return Err(OpenError::Name);
     }

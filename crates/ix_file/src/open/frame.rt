@@ -59,7 +59,7 @@ pub(crate) fn cut(bytes: &[u8]) -> Result<Frame<'_>, OpenError>
     let Some(version) = version_of(parts.mark) else {
         return Err(OpenError::Magic);
     };
-    if !ends(version, parts.end_mark) {
+    if !is_end_mark(version, parts.end_mark) {
         return Err(OpenError::Trailer);
     }
     let sections = cut_sections(parts.body, parts.sizes)?;
@@ -119,7 +119,7 @@ fn version_of(mark: &[u8]) -> Option<Version>
 }
 
 /// Whether the mark is that of the end of this version.
-fn ends(version: Version, mark: &[u8]) -> bool
+fn is_end_mark(version: Version, mark: &[u8]) -> bool
     ensures { IsTrue result ↔ (mark.now ≡ end_mark (version_in version)) }
 {
     match version {

@@ -14,7 +14,7 @@ use std::str::from_utf8;
 ///
 /// `Number`, with this section, where no code stands there.
 #[inline]
-pub(crate) fn number(section: Section, bytes: &[u8]) -> Result<(u32, &[u8]), OpenError>
+pub(crate) fn read_number(section: Section, bytes: &[u8]) -> Result<(u32, &[u8]), OpenError>
     ensures found { IfOk result (λ read. (read.0 < 2 ^ 32)
         × (bytes.now ≡ code_of read.0 ++ read.1.now)) }
     ensures fault { IfErr result (λ error. IsNumberFault section bytes.now error) }
@@ -31,7 +31,11 @@ pub(crate) fn number(section: Section, bytes: &[u8]) -> Result<(u32, &[u8]), Ope
 ///
 /// `Number` of `Cut`, with this section, where there are fewer.
 #[inline]
-pub(crate) fn taken(section: Section, count: u32, bytes: &[u8]) -> Result<(&[u8], &[u8]), OpenError>
+pub(crate) fn read_bytes(
+    section: Section,
+    count: u32,
+    bytes: &[u8],
+) -> Result<(&[u8], &[u8]), OpenError>
     ensures found { IfOk result (λ read. (length read.0.now ≡ count)
         × (bytes.now ≡ read.0.now ++ read.1.now)) }
     ensures fault { IfErr result (λ error. (error ≡ OpenError.Number section VbError.Cut)
@@ -47,7 +51,7 @@ pub(crate) fn taken(section: Section, count: u32, bytes: &[u8]) -> Result<(&[u8]
 ///
 /// `Number`, with this section, where the number is no code, or where there are fewer bytes; the error that is handed
 /// in where the number is not 1 to 255; `Text` where the bytes are not UTF-8.
-pub(crate) fn text(
+pub(crate) fn read_text(
     section: Section,
     wrong_size: OpenError,
     bytes: &[u8],
@@ -57,11 +61,11 @@ pub(crate) fn text(
     ensures refused { OnErr result ((text rest : List ℕ) → IsTerm text → bytes.now ≢ counted text
         ++ rest) }
 {
-    let (count, rest) = number(section, bytes)?;
+    let (count, rest) = read_number(section, bytes)?;
     if count == 0 || count > MAX_TERM_BYTES {
         return Err(wrong_size);
     }
-    let (text, rest) = taken(section, count, rest)?;
+    let (text, rest) = read_bytes(section, count, rest)?;
     let Ok(text) = from_utf8(text) else {
         return Err(OpenError::Text);
     };

@@ -11,7 +11,7 @@ ghost use Rattle.ix_file.specs.OpenedGrams as opened;
 ghost use Rattle.ix_file.specs.Sections.{grams_section};
 ghost use Rattle.ix_file.specs.declared.open_error.OpenError.TheVariants.{Memory};
 
-use crate::open::front::{number, text};
+use crate::open::front::{read_number, read_text};
 use crate::open::pairs::{GramPair, check_total, has_gram, pair_of};
 use crate::open::terms::Terms;
 use crate::{OpenError, Section};
@@ -83,13 +83,13 @@ fn read_gram<'a>(
     ensures refused { IfErr result (λ error. (entry : GramEntry) (rest : List ℕ) →
         IsRightEntry (terms_in terms.now) entry → left.now ≢ opened.gram_bytes entry ++ rest) }
 {
-    let Ok((gram, behind)) = text(Section::Grams, OpenError::Grams, left) else {
+    let Ok((gram, behind)) = read_text(Section::Grams, OpenError::Grams, left) else {
         return Err(OpenError::Grams);
     };
     let Some(pair) = pair_of(gram) else {
         return Err(OpenError::Grams);
     };
-    let Ok((count, gaps)) = number(Section::Grams, behind) else {
+    let Ok((count, gaps)) = read_number(Section::Grams, behind) else {
         return Err(OpenError::Grams);
     };
     if count == 0 {
@@ -126,7 +126,7 @@ fn read_numbers<'a>(
     let mut rest = left;
     let mut next = 0;
     for _ in 0..count {
-        let Ok((gap, behind)) = number(Section::Grams, rest) else {
+        let Ok((gap, behind)) = read_number(Section::Grams, rest) else {
             return Err(OpenError::Grams);
         };
         if !is_next(next, gap, pair, terms) {

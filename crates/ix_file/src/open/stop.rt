@@ -6,7 +6,7 @@ ghost use Rattle.ix_text.specs.StopSets.{IsStopSet};
 ghost use Rattle.ix_file.specs.Sections.{stop_section};
 ghost use Rattle.ix_file.specs.declared.open_error.OpenError.TheVariants.{Memory};
 
-use crate::open::front::text;
+use crate::open::front::read_text;
 use crate::{OpenError, Section};
 use ix_text::{MAX_STOP_TERMS, StopList};
 use std::alloc::Global;
@@ -49,7 +49,7 @@ fn push_term<'a>(
         ⊎ ((term rest : List ℕ) → IsStopSet (map string_bytes terms.old.items ++ term ∷ []) →
         left.now ≢ counted term ++ rest)) }
 {
-    let (term, rest) = text(Section::Stop, OpenError::TermSize, left)?;
+    let (term, rest) = read_text(Section::Stop, OpenError::TermSize, left)?;
     if !is_above(term, terms.last()) {
         return Err(OpenError::StopOrder);
     }

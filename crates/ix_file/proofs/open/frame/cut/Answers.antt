@@ -14,12 +14,12 @@ pub returns-in_default-clause-refused : goal.returns-in_default-clause-refused
 returns-in_default-clause-refused c version texts documents terms few small e =
     c.in_default.ensures version (frame_of _ _ _ _ _ _ c.split_frame-parts.ensures version texts documents terms e).mark_is
 
-pub returns-then-not-ends-clause-refused : goal.returns-then-not-ends-clause-refused
-returns-then-not-ends-clause-refused c version texts documents terms few small e =
+pub returns-then-not-is_end_mark-clause-refused : goal.returns-then-not-is_end_mark-clause-refused
+returns-then-not-is_end_mark-clause-refused c version texts documents terms few small e =
     let is = frame_of _ _ _ _ _ _ c.split_frame-parts.ensures version texts documents terms e in
     let same = one_mark version (version_in c.in-Some.version) (sym is.mark_is ∙ c.in-Some.ensures) in
-    let ends = c.ends.ensures.1 (is.final_is ∙ ap end_mark same) in
-    cc (ends, c.if-not-ends.true)
+    let ends = c.is_end_mark.ensures.1 (is.final_is ∙ ap end_mark same) in
+    cc (ends, c.if-not-is_end_mark.true)
 
 pub returns-in_err-sections-clause-refused : goal.returns-in_err-sections-clause-refused
 returns-in_err-sections-clause-refused c =
@@ -44,5 +44,5 @@ returns-clause-found c =
       body_is = c.in_ok-sections.ensures.found.0;
       sizes_are = c.in_ok-sections.ensures.found.1;
       numbers_are = c.read_counts-documents.ensures;
-      final_is = c.ends.ensures.0 c.if-not-ends.false;
+      final_is = c.is_end_mark.ensures.0 c.if-not-is_end_mark.false;
     })

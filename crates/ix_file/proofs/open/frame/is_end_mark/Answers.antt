@@ -1,7 +1,7 @@
 use Rattle.ix_file.specs.IndexText.{end_mark}
 use Rattle.ix_file.specs.Sections.{Plain, FrontCoded}
 use Rattle.ix_file.proofs.FrameReading.{same_mark}
-use Rattle.ix_file.proofs.open.frame.ends.Goals as goal
+use Rattle.ix_file.proofs.open.frame.is_end_mark.Goals as goal
 
 pub returns-in-Plain : goal.returns-in-Plain
 unfolding end_mark

@@ -1,7 +1,7 @@
 use Rattle.std.proofs.Common.{◌<◌, ◌≤◌, length, sym, subst, IsUtf8, ⊎_elim, arith}
 use Rattle.std.proofs.lemmas.Result.{err_from_is_err_and}
 use Rattle.ix_file.proofs.FrontLemmas.{counted_split, cut_text, too_few}
-use Rattle.ix_file.proofs.open.front.text.Goals as goal
+use Rattle.ix_file.proofs.open.front.read_text.Goals as goal
 
 pub returns-then-count-eq0-clause-refused : goal.returns-then-count-eq0-clause-refused
 returns-then-count-eq0-clause-refused c text rest is e =
