@@ -47,7 +47,6 @@ pub mod PostingReading
 pub mod RowReading
 pub mod SectionLemmas
 pub mod SectionSizes
-pub mod ShortGaps
 pub mod SpellLemmas
 pub mod StopReading
 pub mod TablesFound

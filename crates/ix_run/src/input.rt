@@ -9,7 +9,7 @@ ghost use Rattle.ix_run.specs.CodeFaults.{IsCodeFault, IsTextFault};
 ghost use Rattle.ix_run.specs.declared.run_text_error.RunTextError.TheVariants.{Read as ReadRefused};
 
 use crate::RunTextError;
-use ix_vbyte::{ShortPosting, VbError, decode, short_posting};
+use ix_vbyte::{ShortPosting, VbError, decode, short_number, short_posting};
 use std::alloc::{AllocError, Global};
 use std::io::{ErrorKind, Read};
 
@@ -108,8 +108,6 @@ impl<R: Read> Input<R> {
     /// Takes a code of one byte or two, where one of a number that is not 0 is buffered, and answers that number and
     /// how many bytes it has. A number of 0: such a code does not stand next, or `limit` is below its bytes, and
     /// nothing was taken.
-    ///
-    /// Of the gaps between positions as many have one byte as two: so nothing branches on which of them it is.
     #[inline(always)]
     pub(crate) fn short_number(&mut self, limit: usize) -> (u32, usize)
         ensures taken { 0 < result.0
@@ -119,17 +117,13 @@ impl<R: Read> Input<R> {
         ensures kept { result.0 ≡ 0 → known_left R.remaining self.new
             ≡ known_left R.remaining self.old }
     {
-        let start = self.start;
-        if start + 1 < self.end {
-            let first = self.buffer[start];
-            let second = self.buffer[start + 1];
-            let (number, bytes) = short_code(first, second);
-            if first % 128 > 0 && first / 128 + second / 128 > 0 && bytes <= limit {
-                self.start = start + bytes;
-                return (number, bytes);
+        match short_number(&self.buffer[self.start..self.end]) {
+            Some((number, bytes)) if bytes <= limit => {
+                self.start += bytes;
+                (number, bytes)
             }
+            _ => (0, 0),
         }
-        (0, 0)
     }
 
     /// Takes a posting of one position whose gaps have short codes, where it is buffered with a byte or more behind it
@@ -172,20 +166,9 @@ impl<R: Read> Input<R> {
         ensures fault { IfErr result (λ error.
             IfSome (known_left R.remaining self.old) (λ bytes. IsCodeFault limit bytes error)) }
     {
-        let start = self.start;
-        if start < self.end && 0 < limit {
-            let first = self.buffer[start];
-            if first >= 128 {
-                self.start = start + 1;
-                return Ok((u32::from(first % 128), 1));
-            }
-            if first > 0 && start + 1 < self.end && 1 < limit {
-                let second = self.buffer[start + 1];
-                if second >= 128 {
-                    self.start = start + 2;
-                    return Ok((u32::from(first) * 128 + u32::from(second % 128), 2));
-                }
-            }
+        let short = self.short_number(limit);
+        if short.0 > 0 {
+            return Ok(short);
         }
         self.code_by_decode(limit)
     }
@@ -274,21 +257,6 @@ impl<R: Read> Input<R> {
         out.extend_from_slice(&self.buffer[self.start..self.start + count])?;
         self.start += count;
         Ok(())
-    }
-}
-
-/// The number whose code begins so, and how many bytes it has, where that is one byte or two.
-#[inline(always)]
-fn short_code(first: u8, second: u8) -> (u32, usize)
-    ensures one { 128 ≤ first → (result.0 ≡ first % 128) × (result.1 ≡ 1) }
-    ensures two { first < 128 → (result.0 ≡ first * 128 + second % 128) × (result.1 ≡ 2) }
-{
-    let high = u32::from(first % 128);
-    let low = u32::from(second % 128);
-    if first >= 128 {
-        (high, 1)
-    } else {
-        (high * 128 + low, 2)
     }
 }
 

@@ -1,14 +1,13 @@
 -- The top bits of some bytes as the bits of one number, and where its lowest ones stand.
-use Rattle.std.proofs.Common.{◌≡◌, ◌≢◌, ℕ, zero, suc, ◌+◌, ◌-◌, ◌*◌, ◌/◌, ◌%◌, ◌^◌, ◌<◌, ◌≤◌, cond, ltb, leb, List, [], ◌∷◌, ◌++◌, length, get_or, map, replicate, bit_and, refl, sym, ap, ap₂, ◌∙◌, subst, ⊎_elim, arith, w64}
+use Rattle.std.proofs.Common.{◌≡◌, ◌≢◌, ℕ, zero, suc, ◌+◌, ◌-◌, ◌*◌, ◌/◌, ◌%◌, ◌^◌, ◌<◌, ◌≤◌, cond, ltb, List, [], ◌∷◌, ◌++◌, length, get_or, bit_and, refl, sym, ap, ap₂, ◌∙◌, subst, ⊎_elim, arith, w64}
 use Rattle.std.specs.Int.{bit_at, trailing_zeros, from_le_bytes, bytes_low_first, byte_at}
-use Rattle.std.specs.Simd.Lanes.{zip2, mask_l, top}
-use Rattle.std.proofs.lemmas.Bool.{lt-ltb, le-ltb, lt-leb, le-leb, cases_lt, cases_eq, cases_order}
+use Rattle.std.proofs.lemmas.Bool.{lt-ltb, le-ltb, cases_lt, cases_eq, cases_order}
 use Rattle.std.proofs.lemmas.Nat.{and_block, le_bytes_8}
 use Rattle.std.proofs.lemmas.Nat.Bits.{bit_at-zero, bit_at-pow_same, bit_at-pow_other, bit_at_cat_low, bit_at_cat_high, bit_at-trailing_zeros, and_pow}
-use Rattle.std.proofs.Math.Nat.{div-div-eq-div-mul, pow-suc, suc-mul}
+use Rattle.std.proofs.Math.Nat.{div-div-eq-div-mul, pow-suc}
 use Rattle.ix_vbyte.specs.Ends.{end_of, marks_of}
-use Rattle.ix_vbyte.proofs.Ends.{by_mask, end_of-none, unmarked_first, marked_first}
-use lib.Bits.{and_zero_l, and_zero_r, and_self}
+use Rattle.ix_vbyte.proofs.Ends.{end_of-none, unmarked_first, marked_first}
+use lib.Bits.{and_zero_r}
 
 -- what is asked of a mark: it is the bit `place` of its group
 pub record IsMark (width mark place : ℕ) : Type 0 where

@@ -2,7 +2,7 @@
 use Rattle.std.proofs.Common.{◌≡◌, ℕ, ◌+◌, ◌-◌, ◌^◌, ◌<◌, ◌≤◌, List, [], ◌∷◌, ◌++◌, length, get_or, drop, All, Contains, refl, sym, ap, ◌∙◌, subst, arith}
 use Rattle.std.proofs.lemmas.List.{append_assoc, drop_at, length-append}
 use Rattle.std.proofs.lemmas.List.Elements.{All-contains, All-drop, All-tail}
-use Rattle.ix_vbyte.specs.Gaps.{Ascends, next_after}
+use Rattle.ix_vbyte.specs.Gaps.{next_after}
 use Rattle.ix_vbyte.specs.Postings.{Posting, ArePostings, IsPosting, documents_of, posting_bytes, list_bytes_from}
 use Rattle.ix_vbyte.specs.Skips.{AreSkips, IsSkip}
 use Rattle.ix_vbyte.specs.Walking.{ArePostingsFrom, from_document, postings_told}

@@ -1,11 +1,11 @@
 -- Postings of one position, from their first five bytes.
-use Rattle.std.proofs.Common.{append_assoc, ◌≡◌, ℕ, suc, ◌+◌, ◌-◌, ◌*◌, ◌/◌, ◌%◌, ◌^◌, ◌<◌, ◌≤◌, ◌⊎◌, List, [], ◌∷◌, ◌++◌, length, drop, get_or, sym, ap, ◌∙◌, arith, inl, inr}
+use Rattle.std.proofs.Common.{append_assoc, ◌≡◌, ℕ, zero, suc, refl, ◌+◌, ◌-◌, ◌*◌, ◌/◌, ◌%◌, ◌^◌, ◌<◌, ◌≤◌, ◌⊎◌, List, [], ◌∷◌, ◌++◌, length, drop, get_or, Option, None, Some, IfNone, sym, ap, ◌∙◌, arith, inl, inr}
 use Rattle.std.proofs.lemmas.Bool.{cases_lt}
 use Rattle.std.proofs.lemmas.List.{length-append}
 use Rattle.std.specs.Int.Digits.{digits_of}
 use Rattle.std.proofs.lemmas.Int.Digits.{digits_of_step}
 use Rattle.ix_vbyte.specs.Code.{code_of}
-use Rattle.ix_vbyte.specs.ShortPostings.{BeginsWithSingle, IsShortCode, single_bytes}
+use Rattle.ix_vbyte.specs.ShortPostings.{BeginsWithShort, BeginsWithSingle, IsShortCode, single_bytes}
 
 -- a marked byte is a code
 pub code_of-one : (first number : ℕ) → 128 ≤ first → first < 256 → number ≡ first % 128 → code_of number ≡ first ∷ []
@@ -57,7 +57,30 @@ short_spelled first second number size rest byte also is = elim (cases_lt first 
       }
 ]
 
--- ---- a posting that is there is found
+-- no byte stands behind the last
+pub get_or-past : (bytes : List ℕ) (place : ℕ) → length bytes ≤ place → get_or bytes place 0 ≡ 0
+get_or-past [] place le = refl
+get_or-past (byte ∷ bytes) zero le = absurd (omega arith)
+get_or-past (byte ∷ bytes) (suc place) le = get_or-past bytes place (omega arith)
+
+-- ---- a number that is there is found, and a posting
+
+pub short_found : (bytes : List ℕ) (number size : ℕ) → 0 < length bytes → get_or bytes 0 0 < 256 → get_or bytes 1 0 < 256 → IsShortCode (get_or bytes 0 0) (get_or bytes 1 0) number size → BeginsWithShort bytes number size
+short_found [] number size some byte also code = absurd (omega arith)
+short_found (a ∷ []) number size some byte also code = elim (cases_lt a 128) [
+  | inl low ↦ let two = code.two low in absurd (omega (arith, two.3))
+  | inr high ↦
+      let one = code.one high in
+      let is = code_of-one a number high byte (omega (arith, one.0)) in
+      record {
+        some = code.some;
+        spelled = ap (λ (xs : List ℕ). xs ++ []) (sym is) ∙ ap (λ (n : ℕ). code_of number ++ drop n (a ∷ [])) (sym one.1);
+        sized = one.1 ∙ ap length (sym is);
+      }
+]
+short_found (a ∷ b ∷ rest) number size some byte also code =
+    let short = short_spelled a b number size rest byte also code in
+    record { some = code.some; spelled = short.spelled; sized = short.sized }
 
 module _ (gap position size : ℕ) where
   pub found_behind_one : (bytes : List ℕ) → 5 ≤ length bytes → 128 < get_or bytes 0 0 → get_or bytes 0 0 < 256 → get_or bytes 1 0 ≡ 129 → get_or bytes 2 0 < 256 → get_or bytes 3 0 < 256
@@ -100,6 +123,11 @@ module _ (gap position size : ℕ) where
 
 -- ---- and where none is found, none is there
 
+-- what follows from what a clause says of a `None`
+pub IfNone_then : {X : Type 0} (r : Option X) {P Q : Type 0} → IfNone r P → (P → Q) → IfNone r Q
+IfNone_then None h f = f h
+IfNone_then (Some x) h f = tt
+
 -- two bytes begin no code of one byte or two but that of 0
 abbrev pub AreNoCode : ℕ → ℕ → Type 0
 AreNoCode first second = (first ≡ 0) ⊎ ((first ≡ 128) ⊎ ((first < 128) × (second < 128)))
@@ -117,7 +145,7 @@ code_begins number first second rest behind some fits e none = elim (cases_lt nu
       let all : first ∷ second ∷ rest ≡ (128 + number) ∷ behind = e ∙ ap (λ (xs : List ℕ). xs ++ behind) (one_byte number low) in
       let same : first ≡ 128 + number = cc in
       elim none [
-        | inl zero ↦ absurd (omega (arith, same, zero))
+        | inl none ↦ absurd (omega (arith, same, none))
         | inr (inl bare) ↦ absurd (omega (arith, same, bare, some))
         | inr (inr both) ↦ absurd (omega (arith, same, both.0))
       ]
@@ -126,11 +154,29 @@ code_begins number first second rest behind some fits e none = elim (cases_lt nu
       let same : first ≡ number / 128 = cc in
       let also : second ≡ 128 + number % 128 = cc in
       elim none [
-        | inl zero ↦ absurd (omega (arith, same, zero, high))
+        | inl none ↦ absurd (omega (arith, same, none, high))
         | inr (inl bare) ↦ absurd (omega (arith, same, bare, fits))
         | inr (inr both) ↦ absurd (omega (arith, also, both.1))
       ]
 ]
+
+pub none_begins : (bytes : List ℕ) (number : ℕ) (behind : List ℕ) → 0 < number → number < 2 ^ 14 → bytes ≡ code_of number ++ behind → ¬ (AreNoCode (get_or bytes 0 0) (get_or bytes 1 0))
+none_begins [] number behind some fits e none = elim (cases_lt number 128) [
+  | inl low ↦ absurd (omega (arith, ap length (e ∙ ap (λ (xs : List ℕ). xs ++ behind) (one_byte number low))))
+  | inr high ↦ absurd (omega (arith, ap length (e ∙ ap (λ (xs : List ℕ). xs ++ behind) (two_bytes number high fits))))
+]
+none_begins (a ∷ []) number behind some fits e none = elim (cases_lt number 128) [
+  | inl low ↦
+      let all : a ∷ [] ≡ (128 + number) ∷ behind = e ∙ ap (λ (xs : List ℕ). xs ++ behind) (one_byte number low) in
+      let same : a ≡ 128 + number = cc in
+      elim none [
+        | inl none ↦ absurd (omega (arith, same, none))
+        | inr (inl bare) ↦ absurd (omega (arith, same, bare, some))
+        | inr (inr both) ↦ absurd (omega (arith, same, both.0))
+      ]
+  | inr high ↦ absurd (omega (arith, ap length (e ∙ ap (λ (xs : List ℕ). xs ++ behind) (two_bytes number high fits))))
+]
+none_begins (a ∷ b ∷ rest) number behind some fits e none = code_begins number a b rest behind some fits e none
 
 -- the gap has one byte
 pub record IsBehindOne (bytes : List ℕ) : Type 0 where
@@ -171,7 +217,10 @@ module _ (gap position : ℕ) (behind : List ℕ) (gap_some : 0 < gap) (gap_fits
         inr (record { some = omega (arith, front, high); first = omega (arith, front, gap_fits); second = omega (arith, next); third = one; position = code_begins position d f rest behind position_some position_fits others })
   ]
 
--- ---- what a posting that was found leaves
+-- ---- what a number leaves that was found, and a posting
+
+pub short_within : (bytes : List ℕ) (number size : ℕ) → BeginsWithShort bytes number size → size ≤ length bytes
+short_within bytes number size begins = omega (arith, begins.sized, ap length begins.spelled, length-append (code_of number) (drop size bytes))
 
 module _ (bytes : List ℕ) (gap position size : ℕ) (begins : BeginsWithSingle bytes gap position size) where
   pub single_parts : bytes ≡ code_of gap ++ (code_of 1 ++ (code_of position ++ drop size bytes))

@@ -13,6 +13,12 @@ pub record BeginsWithSingle (bytes : List ℕ) (gap position size : ℕ) : Type 
   pub spelled : bytes ≡ single_bytes gap position ++ drop size bytes
   pub sized : size ≡ length (single_bytes gap position)
 
+-- The code of a number that is not 0 stands at the front, in so many bytes.
+pub record BeginsWithShort (bytes : List ℕ) (number size : ℕ) : Type 0 where
+  pub some : 0 < number
+  pub spelled : bytes ≡ code_of number ++ drop size bytes
+  pub sized : size ≡ length (code_of number)
+
 -- The code that two bytes begin with: its number, which is not 0, and how many of them it takes.
 pub record IsShortCode (first second number size : ℕ) : Type 0 where
   pub some : 0 < number

@@ -28,5 +28,5 @@ pub use laws::{
     ascending, codes_apart, counted_texts_come_back, gaps_are_differences, gaps_come_back,
     list_is_its_postings, list_is_short, one_code, postings_ascending, postings_come_back,
 };
-pub use short_postings::{ShortPosting, short_posting};
+pub use short_postings::{ShortPosting, short_number, short_posting};
 pub use skipping::skip_codes;

@@ -1,6 +1,8 @@
-//! Postings of one position whose gaps have short codes, at the front of bytes that may be anything.
+//! Numbers with short codes, and postings of one position whose gaps have such, at the front of bytes that may be
+//! anything.
 ghost use Rattle.std.specs.Prelude.{◌≡◌, ◌≢◌, ◌<◌, ◌≤◌, ◌^◌, ◌++◌, ◌⊎◌, ℕ, List, length, IfNone, IfSome};
-ghost use Rattle.ix_vbyte.specs.ShortPostings.{BeginsWithSingle, IsShortCode, single_bytes};
+ghost use Rattle.ix_vbyte.specs.Code.{code_of};
+ghost use Rattle.ix_vbyte.specs.ShortPostings.{BeginsWithShort, BeginsWithSingle, IsShortCode, single_bytes};
 
 /// How many bytes are looked at: two gaps of two bytes, and the number of positions.
 const SHORT: usize = 5;
@@ -61,6 +63,23 @@ pub fn short_posting(bytes: &[u8]) -> Option<ShortPosting>
         position_gap,
         size: 3 + size,
     })
+}
+
+/// The number whose code the bytes begin with, where it is below 2^14 and not 0, and how many bytes the code takes. None
+/// of any other bytes.
+///
+/// Of the gaps between positions as many have one byte as two: so nothing branches on which of them it is.
+#[inline(always)]
+pub fn short_number(bytes: &[u8]) -> Option<(u32, usize)>
+    ensures found { IfSome result (λ read. BeginsWithShort bytes.now read.0 read.1) }
+    ensures none { IfNone result ((number : ℕ) (rest : List ℕ) → 0 < number → number < 2 ^ 14
+        → bytes.now ≢ code_of number ++ rest) }
+{
+    match bytes {
+        [first, second, ..] => short_code(*first, *second),
+        [first] => short_code(*first, 0),
+        [] => None,
+    }
 }
 
 /// The number above 0 whose code of one byte or two these bytes begin with, and how many it takes.

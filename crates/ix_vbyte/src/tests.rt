@@ -1,7 +1,7 @@
 //! Worked codes, and every short string of bytes.
 use crate::{
     VbError, code_len, decode, encode, push_code, push_counted, push_gaps, push_posting,
-    short_posting,
+    short_number, short_posting,
 };
 use std::test::Fail;
 
@@ -84,6 +84,25 @@ fn other_postings_are_not_short(rt: HostRuntime) {
     ];
     for bytes in others {
         assert!(rt; short_posting(bytes).is_none(), "{bytes:?}");
+    }
+}
+
+#[test]
+fn short_numbers_are_found(rt: HostRuntime) {
+    let cases: [(&[u8], Option<(u32, usize)>); 10] = [
+        (b"\x81", Some((1, 1))),
+        (b"\xff\x00", Some((127, 1))),
+        (b"\x01\x80", Some((128, 2))),
+        (b"\x7f\xff\x81", Some((16383, 2))),
+        (b"", None),
+        (b"\x80\x81", None),
+        (b"\x00\x81", None),
+        (b"\x01", None),
+        (b"\x01\x00\x80", None),
+        (b"\x7f\x7f", None),
+    ];
+    for (bytes, want) in cases {
+        assert_eq!(rt; short_number(bytes), want, "{bytes:?}");
     }
 }
 

@@ -1,5 +1,5 @@
 //! The lists of an index text.
-ghost use Rattle.std.specs.Prelude.{◌≡◌, ◌≢◌, ◌⊎◌, ℕ, ◌+◌, ◌-◌, ◌*◌, ◌^◌, ◌<◌, ◌≤◌, ◌∷◌, ◌++◌, [], List, map, length, slice_range, All, IfOk, IfErr, IfSome, OnErr, OnOk};
+ghost use Rattle.std.specs.Prelude.{◌≡◌, ◌≢◌, ◌⊎◌, ℕ, ◌+◌, ◌-◌, ◌*◌, ◌^◌, ◌<◌, ◌≤◌, ◌∷◌, ◌++◌, [], List, map, length, slice_range, All, IfOk, IfErr, OnErr, OnOk};
 ghost use Rattle.ix_vbyte.specs.Code.{code_of};
 ghost use Rattle.ix_vbyte.specs.Gaps.{Ascends, gaps_of};
 ghost use Rattle.ix_vbyte.specs.Postings.{codes_of, posting_bytes};
@@ -20,7 +20,7 @@ use crate::open::terms::{ListPlace, Terms};
 use crate::{OpenError, Section};
 use ix_text::TokenTable;
 use ix_vbyte::cursor::Skip;
-use ix_vbyte::{VbError, decode, short_posting};
+use ix_vbyte::{VbError, decode, short_number, short_posting};
 use std::alloc::{AllocError, Global};
 
 /// How many bytes stand between two places at which a list may be entered, at least.
@@ -259,21 +259,6 @@ fn check_positions<'a>(
     Ok(left)
 }
 
-/// The number above 0 whose code of one or two bytes the rest of a list begins with, and what follows the code.
-#[inline(always)]
-fn short_gap(bytes: &[u8]) -> Option<(u32, &[u8])>
-    ensures { IfSome result (λ read. (0 < read.0) × (bytes.now ≡ code_of read.0 ++ read.1.now)) }
-{
-    match bytes {
-        [first, rest @ ..] if *first > 128 => Some((u32::from(*first - 128), rest)),
-        [first, second, rest @ ..] if *first > 0 && *first < 128 && *second >= 128 => {
-            let number = u32::from(*first) * 128 + u32::from(*second - 128);
-            Some((number, rest))
-        }
-        _ => None,
-    }
-}
-
 /// The number above 0 whose code the rest of a list begins with, and what follows the code.
 ///
 /// `ListLength` where the list ends within the code, and `Number` where it is faulty otherwise; `Zero` of 0.
@@ -286,8 +271,8 @@ fn gap_in_list(bytes: &[u8]) -> Result<(u32, &[u8]), OpenError>
     ensures refused { OnErr result ((n : ℕ) (rest : List ℕ) → 0 < n → n < 2 ^ 32 →
         bytes.now ≢ code_of n ++ rest) }
 {
-    match short_gap(bytes) {
-        Some(read) => Ok(read),
+    match short_number(bytes) {
+        Some((number, size)) => Ok((number, &bytes[size..])),
         None => any_gap_in_list(bytes),
     }
 }

@@ -1,8 +1,7 @@
-use Rattle.std.proofs.Common.{◌≡◌, ◌-◌, List, ℕ, length, sym, ap, ◌∙◌, subst}
+use Rattle.std.proofs.Common.{◌-◌, List, ℕ, length, sym, ap, ◌∙◌, subst}
 use Rattle.std.proofs.lemmas.List.{take_rest}
-use Rattle.ix_vbyte.specs.Skips.{AreSkips}
-use Rattle.ix_vbyte.specs.Walking.{ArePostingsFrom, from_document, postings_told}
-use Rattle.ix_vbyte.proofs.Places.{LeftAt, entered_at, entered_from, fewer_skips, left_at}
+use Rattle.ix_vbyte.specs.Walking.{from_document, postings_told}
+use Rattle.ix_vbyte.proofs.Places.{LeftAt, entered_at, entered_from, left_at}
 use Rattle.ix_vbyte.proofs.cursor.Postings.skip.Goals as goal
 
 pub overflow_sub-self : goal.overflow_sub-self
