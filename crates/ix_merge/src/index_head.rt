@@ -11,7 +11,7 @@ use ix_vbyte::cursor::Postings;
 use std::alloc::Global;
 
 /// Another stop list of the same terms.
-pub(crate) fn copied(alloc: Global, stop: &StopList) -> Result<StopList, Memory>
+pub(crate) fn copy_stop_list(alloc: Global, stop: &StopList) -> Result<StopList, Memory>
     ensures { IfOk result (λ copy. copy ≡ stop.now) }
 {
     let given = stop.terms();

@@ -1,6 +1,6 @@
 //! An opened index as a source of its postings.
 
-use crate::index_head::{copied, documents, last_document};
+use crate::index_head::{copy_stop_list, documents, last_document};
 use ix_file::Index;
 use ix_run::{ListError, Listed, RunHead, Source};
 use ix_text::Memory;
@@ -74,7 +74,7 @@ impl<'a> IndexSource<'a> {
         Ok(IndexSource {
             head: RunHead {
                 first,
-                stop: copied(alloc, index.stop())?,
+                stop: copy_stop_list(alloc, index.stop())?,
                 docs: documents(alloc, index)?,
             },
             index,

@@ -10,8 +10,8 @@ ghost use Rattle.ix_run.specs.RunText.{heading_bytes};
 ghost use Rattle.ix_run.specs.RunTextErrors.{IsRefusal};
 
 use crate::input::Input;
-use crate::rows::rows;
-use crate::stop_terms::stop_list;
+use crate::rows::read_rows;
+use crate::stop_terms::read_stop_list;
 use crate::{RunHead, RunTextError};
 use ix_text::{MAX_DOCUMENTS, MAX_TERM_BYTES};
 use std::alloc::Global;
@@ -41,13 +41,13 @@ pub(crate) fn read_head<R: Read>(
         × (known_left R.remaining input.new ≡ Some rest)) IsRefusal }
 {
     read_magic(alloc, input)?;
-    let first = fixed(alloc, input)?;
-    let count = fixed(alloc, input)?;
+    let first = read_fixed(alloc, input)?;
+    let count = read_fixed(alloc, input)?;
     if u64::from(first) + u64::from(count) > u64::from(MAX_DOCUMENTS) {
         return Err(RunTextError::TooLarge);
     }
-    let stop = stop_list(alloc, input)?;
-    let docs = rows(alloc, input, count)?;
+    let stop = read_stop_list(alloc, input)?;
+    let docs = read_rows(alloc, input, count)?;
     Ok(RunHead { first, stop, docs })
 }
 
@@ -72,7 +72,7 @@ fn read_magic<R: Read>(alloc: Global, input: &mut Input<R>) -> Result<(), RunTex
 }
 
 /// Takes a number of four bytes, the least significant first.
-fn fixed<R: Read>(alloc: Global, input: &mut Input<R>) -> Result<u32, RunTextError>
+fn read_fixed<R: Read>(alloc: Global, input: &mut Input<R>) -> Result<u32, RunTextError>
     ensures taken { IfOk result (λ number.
         Consumes (known_left R.remaining input.old) (known_left R.remaining input.new)
         (to_le_bytes w32 number)) }
@@ -89,7 +89,7 @@ fn fixed<R: Read>(alloc: Global, input: &mut Input<R>) -> Result<u32, RunTextErr
 /// Takes a text of 1 to 255 bytes behind the code of that number.
 ///
 /// `size_fault` where the number is another one; `Text` where the bytes are not UTF-8.
-pub(crate) fn counted_text<R: Read>(
+pub(crate) fn read_counted_text<R: Read>(
     alloc: Global,
     input: &mut Input<R>,
     size_fault: RunTextError,

@@ -12,7 +12,7 @@ ghost use Rattle.ix_run.specs.Inverted.{IsLawfulDocument, Occurrence, documents_
 ghost use Rattle.ix_run.specs.Heads.{row_of_doc};
 ghost use Rattle.ix_run.specs.Runs.{IsRunOf, IsTooLarge};
 
-use crate::dictionary::{coded_terms, post_all};
+use crate::dictionary::{code_terms, post_all};
 use crate::errors::RunError;
 use crate::head::{RunDoc, RunHead};
 use crate::run::Run;
@@ -38,10 +38,10 @@ pub fn invert(alloc: Global, docs: &[Doc<'_>], stop: &StopList, first: u32) -> R
     if docs.len() > most || first as usize > most - docs.len() {
         return Err(RunError::TooLarge);
     }
-    let stop_terms = copied(alloc, stop)?;
+    let stop_terms = copy_stop_list(alloc, stop)?;
     let mut dictionary = IndexMap::new(alloc);
     let rows = add_documents(alloc, &mut dictionary, docs, stop)?;
-    let terms = coded_terms(alloc, dictionary)?;
+    let terms = code_terms(alloc, dictionary)?;
     let head = RunHead {
         first,
         stop: stop_terms,
@@ -51,7 +51,7 @@ pub fn invert(alloc: Global, docs: &[Doc<'_>], stop: &StopList, first: u32) -> R
 }
 
 /// Another stop list of the same terms.
-fn copied(alloc: Global, stop: &StopList) -> Result<StopList, Memory>
+fn copy_stop_list(alloc: Global, stop: &StopList) -> Result<StopList, Memory>
     ensures same { IfOk result (λ copy. copy ≡ stop.now) }
     ensures lawful { IsStopSet stop.now }
 {

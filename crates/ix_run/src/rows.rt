@@ -9,7 +9,7 @@ ghost use Rattle.ix_run.specs.Pieces.{ArePiecesRead, EachFits, RowFits};
 ghost use Rattle.ix_run.specs.RunText.{row_bytes};
 ghost use Rattle.ix_run.specs.RunTextErrors.{IsRefusal};
 
-use crate::heading::{CODE_LIMIT, counted_text};
+use crate::heading::{CODE_LIMIT, read_counted_text};
 use crate::input::Input;
 use crate::{RunDoc, RunTextError};
 use ix_text::MAX_TOKENS;
@@ -17,7 +17,7 @@ use std::alloc::Global;
 use std::io::Read;
 
 /// Takes so many documents, of at most 2^28 tokens together.
-pub(crate) fn rows<R: Read>(
+pub(crate) fn read_rows<R: Read>(
     alloc: Global,
     input: &mut Input<R>,
     count: u32,
@@ -34,7 +34,7 @@ pub(crate) fn rows<R: Read>(
     let mut docs = Vec::new(alloc);
     let mut tokens = 0;
     for _ in 0..count {
-        let doc = row(alloc, input, tokens)?;
+        let doc = read_row(alloc, input, tokens)?;
         tokens += doc.tokens;
         docs.push(doc)?;
     }
@@ -44,7 +44,11 @@ pub(crate) fn rows<R: Read>(
 /// Takes a document where those before it have so many tokens.
 ///
 /// `Name` where its name has not 1 to 255 bytes, or holds a TAB or an LF; `TooLarge` where its tokens are too many.
-fn row<R: Read>(alloc: Global, input: &mut Input<R>, before: u32) -> Result<RunDoc, RunTextError>
+fn read_row<R: Read>(
+    alloc: Global,
+    input: &mut Input<R>,
+    before: u32,
+) -> Result<RunDoc, RunTextError>
     requires { before ≤ 2 ^ 28 }
     ensures taken { IfOk result (λ doc.
         Consumes (known_left R.remaining input.old) (known_left R.remaining input.new)
@@ -57,7 +61,7 @@ fn row<R: Read>(alloc: Global, input: &mut Input<R>, before: u32) -> Result<RunD
         → MatchResult result (λ doc. (row_of_doc doc ≡ row)
         × (known_left R.remaining input.new ≡ Some rest)) IsRefusal }
 {
-    let name = counted_text(alloc, input, RunTextError::Name)?;
+    let name = read_counted_text(alloc, input, RunTextError::Name)?;
     if !is_unbroken(name.as_str()) {
         return Err(RunTextError::Name);
     }

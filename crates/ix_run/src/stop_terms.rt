@@ -10,7 +10,7 @@ ghost use Rattle.ix_run.specs.RunText.{stop_bytes};
 ghost use Rattle.ix_run.specs.RunTextErrors.{IsRefusal};
 
 use crate::RunTextError;
-use crate::heading::{CODE_LIMIT, counted_text};
+use crate::heading::{CODE_LIMIT, read_counted_text};
 use crate::input::Input;
 use ix_text::{MAX_STOP_TERMS, StopList};
 use std::alloc::Global;
@@ -19,7 +19,7 @@ use std::io::Read;
 /// Takes the number of stop terms and the terms.
 ///
 /// `TooLarge` where the number is above 2^28; of each term `TermSize`, `Text` and `StopOrder`.
-pub(crate) fn stop_list<R: Read>(
+pub(crate) fn read_stop_list<R: Read>(
     alloc: Global,
     input: &mut Input<R>,
 ) -> Result<StopList, RunTextError>
@@ -36,12 +36,12 @@ pub(crate) fn stop_list<R: Read>(
     if count > MAX_STOP_TERMS {
         return Err(RunTextError::TooLarge);
     }
-    let terms = stop_terms(alloc, input, count)?;
+    let terms = read_stop_terms(alloc, input, count)?;
     Ok(StopList::from_sorted(terms))
 }
 
 /// Takes so many stop terms.
-fn stop_terms<R: Read>(
+fn read_stop_terms<R: Read>(
     alloc: Global,
     input: &mut Input<R>,
     count: u32,
@@ -79,7 +79,7 @@ fn stop_term<R: Read>(
         → MatchResult result (λ read. (string_bytes read ≡ text)
         × (known_left R.remaining input.new ≡ Some rest)) IsRefusal }
 {
-    let term = counted_text(alloc, input, RunTextError::TermSize)?;
+    let term = read_counted_text(alloc, input, RunTextError::TermSize)?;
     if !stands_above(before, term.as_str()) {
         return Err(RunTextError::StopOrder);
     }

@@ -67,10 +67,10 @@ returns-clause-taken g c =
     let full : c.in_ok-count.count ≡ length rows = omega (arith, length-map c.in_ok-docs.docs.items row_of_doc, c.in_ok-docs.ensures.all) in
     let old = known_left g.R.Read.remaining c.args.input.now in
     let one = known_left g.R.Read.remaining c.read_magic.new.input in
-    let two = known_left g.R.Read.remaining c.fixed.new.input in
-    let three = known_left g.R.Read.remaining c.fixed-2.new.input in
-    let four = known_left g.R.Read.remaining c.stop_list.new.input in
-    let last = known_left g.R.Read.remaining c.rows.new.input in
+    let two = known_left g.R.Read.remaining c.read_fixed.new.input in
+    let three = known_left g.R.Read.remaining c.read_fixed-2.new.input in
+    let four = known_left g.R.Read.remaining c.read_stop_list.new.input in
+    let last = known_left g.R.Read.remaining c.read_rows.new.input in
     let counted = subst (λ (n : ℕ). Consumes two three (to_le_bytes w32 n)) full c.in_ok-count.ensures.taken in
     head_taken old one two three four last heading c.in_ok-read_magic.ensures.taken c.in_ok-first.ensures.taken counted c.in_ok-stop.ensures.taken c.in_ok-docs.ensures.read.taken
 
@@ -92,6 +92,6 @@ returns-clause-accepted g c heading rest lawful e =
     let four = c.in_ok-stop.ensures.accepted heading.stop (after_stop heading rest) lawful.stop three.1 in
     let rows = map row_of_doc c.in_ok-docs.docs.items in
     let full : length rows ≡ c.in_ok-count.count = omega (arith, length-map c.in_ok-docs.docs.items row_of_doc, c.in_ok-docs.ensures.all) in
-    let five = pieces_all row_bytes RowFits (known_left g.R.Read.remaining c.stop_list.new.input) (known_left g.R.Read.remaining c.rows.new.input) rows c.in_ok-count.count c.in_ok-docs.ensures.read full
+    let five = pieces_all row_bytes RowFits (known_left g.R.Read.remaining c.read_stop_list.new.input) (known_left g.R.Read.remaining c.read_rows.new.input) rows c.in_ok-count.count c.in_ok-docs.ensures.read full
     heading.rows rest (sym three.0) (fits_from_rows heading.rows lawful.names lawful.few_tokens) four.1 in
     (same_heading c.in_ok-first.first c.in_ok-stop.stop rows heading two.0 four.0 five.0, five.1)

@@ -5,7 +5,7 @@ use Rattle.ix_text.specs.ByteOrder.{IsAscending}
 use Rattle.ix_text.specs.StopSets.{HasTermSize}
 use Rattle.ix_text.specs.Terms.{IsTerm}
 use Rattle.ix_run.proofs.Blocks.{map_take_more}
-use Rattle.ix_run.proofs.inversion.copied.Goals as goal
+use Rattle.ix_merge.proofs.index_head.copy_stop_list.Goals as goal
 
 pub loop-term-preserved : goal.loop-term-preserved
 loop-term-preserved c =

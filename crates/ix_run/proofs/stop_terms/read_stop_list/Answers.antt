@@ -8,7 +8,7 @@ use Rattle.ix_run.specs.Pieces.{StopTermFits}
 use Rattle.ix_run.proofs.PieceLemmas.{pieces_all}
 use Rattle.ix_run.proofs.SpelledLemmas.{number_refused, number_accepted}
 use Rattle.ix_run.proofs.StopTermLemmas.{ascending_from_fits, fits_from_stop_set}
-use Rattle.ix_run.proofs.stop_terms.stop_list.Goals as goal
+use Rattle.ix_run.proofs.stop_terms.read_stop_list.Goals as goal
 
 pub returns-in_err-count-clause-accepted : goal.returns-in_err-count-clause-accepted
 returns-in_err-count-clause-accepted g c stop rest set e =
@@ -39,5 +39,5 @@ returns-clause-accepted g c stop rest set e =
     let known = number_accepted (known_left g.R.Read.remaining c.args.input.now) (length stop) (flat_map counted stop) rest fits e middle c.in_ok-count.count c.in_ok-count.ensures.taken in
     let terms = map string_bytes c.in_ok-terms.terms.items in
     let full : length terms ≡ c.in_ok-count.count = omega (arith, length-map c.in_ok-terms.terms.items string_bytes, c.in_ok-terms.ensures.all) in
-    let all = pieces_all counted StopTermFits middle (known_left g.R.Read.remaining c.stop_terms.new.input) terms c.in_ok-count.count c.in_ok-terms.ensures.read full stop rest (sym known.0) (fits_from_stop_set stop set) known.1 in
+    let all = pieces_all counted StopTermFits middle (known_left g.R.Read.remaining c.read_stop_terms.new.input) terms c.in_ok-count.count c.in_ok-terms.ensures.read full stop rest (sym known.0) (fits_from_stop_set stop set) known.1 in
     (c.from_sorted.ensures ∙ all.0, all.1)

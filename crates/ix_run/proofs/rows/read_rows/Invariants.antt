@@ -5,7 +5,7 @@ use Rattle.ix_run.specs.Heads.{row_of_doc}
 use Rattle.ix_run.specs.Inputs.{known_left}
 use Rattle.ix_run.specs.Pieces.{ArePiecesRead, RowFits}
 use Rattle.ix_run.specs.RunText.{row_bytes}
-use Rattle.ix_run.proofs.rows.rows.Given as goal
+use Rattle.ix_run.proofs.rows.read_rows.Given as goal
 
 abbrev pub invariant-loop : goal.invariant-loop
 invariant-loop g l = record {

@@ -7,8 +7,8 @@ use Rattle.std.proofs.lemmas.Result.{err_from_is_err_and}
 use Rattle.std.specs.Prelude.{IsUtf8}
 use Rattle.ix_run.specs.Inputs.{known_left}
 use Rattle.ix_run.proofs.SpelledLemmas.{length_refused, length_in_range, bytes_refused, bytes_accepted}
-use Rattle.ix_run.proofs.heading.counted_text.Goals.{then-length-eq0-via-then-length-eq0, then-length-eq0-via-else-length-eq0+then-length-gt-MAX_TERM_BYTES}
-use Rattle.ix_run.proofs.heading.counted_text.Goals as goal
+use Rattle.ix_run.proofs.heading.read_counted_text.Goals.{then-length-eq0-via-then-length-eq0, then-length-eq0-via-else-length-eq0+then-length-gt-MAX_TERM_BYTES}
+use Rattle.ix_run.proofs.heading.read_counted_text.Goals as goal
 
 pub returns-in_err-length-clause-accepted : goal.returns-in_err-length-clause-accepted
 returns-in_err-length-clause-accepted g c text rest term e =

@@ -8,7 +8,7 @@ use Rattle.ix_run.specs.Inputs.{known_left}
 use Rattle.ix_run.specs.Pieces.{RowFits}
 use Rattle.ix_run.specs.RunText.{row_bytes}
 use Rattle.ix_run.proofs.PieceLemmas.{pieces_more, pieces_refused}
-use Rattle.ix_run.proofs.rows.rows.Goals as goal
+use Rattle.ix_run.proofs.rows.read_rows.Goals as goal
 
 pub returns-in_err-doc-clause-refused : goal.returns-in_err-doc-clause-refused
 returns-in_err-doc-clause-refused g c =
@@ -29,7 +29,7 @@ loop-preserved g c =
     let items : map row_of_doc c.push.new.self.items ≡ read ++ row_of_doc doc ∷ [] = ap (map row_of_doc) c.in_ok-push.ensures.items ∙ map_push row_of_doc loop.docs.items doc in
     record {
       read = rw items (pieces_more row_bytes RowFits (known_left g.R.Read.remaining c.args.input.now) (known_left g.R.Read.remaining loop.input) read c.args.count loop.invariant.read few
-          (known_left g.R.Read.remaining c.row.new.input) (row_of_doc doc) c.in_ok-doc.ensures.taken (record { name = c.in_ok-doc.ensures.name; few = omega (arith, loop.invariant.tokens, c.in_ok-doc.ensures.few) })
+          (known_left g.R.Read.remaining c.read_row.new.input) (row_of_doc doc) c.in_ok-doc.ensures.taken (record { name = c.in_ok-doc.ensures.name; few = omega (arith, loop.invariant.tokens, c.in_ok-doc.ensures.few) })
           (λ other rest fits e. c.in_ok-doc.ensures.accepted other rest fits.name (omega (arith, fits.few, loop.invariant.tokens)) e));
       size = omega (arith, c.in_ok-push.ensures.len, loop.invariant.size, c.push.new.self.ok.0, loop.docs.ok.0);
       tokens = rw items (omega (arith, loop.invariant.tokens, sum_by_push (λ row. row.tokens) read (row_of_doc doc)));

@@ -3,7 +3,7 @@ use Rattle.std.proofs.Common.{◌≡◌, length, map, string_bytes}
 use Rattle.ix_vbyte.specs.Texts.{counted}
 use Rattle.ix_run.specs.Inputs.{known_left}
 use Rattle.ix_run.specs.Pieces.{ArePiecesRead, StopTermFits}
-use Rattle.ix_run.proofs.stop_terms.stop_terms.Given as goal
+use Rattle.ix_run.proofs.stop_terms.read_stop_terms.Given as goal
 
 abbrev pub invariant-loop : goal.invariant-loop
 invariant-loop g l = record {

@@ -6,7 +6,7 @@ use Rattle.ix_vbyte.specs.Texts.{counted}
 use Rattle.ix_run.specs.Inputs.{known_left}
 use Rattle.ix_run.specs.Pieces.{StopTermFits}
 use Rattle.ix_run.proofs.PieceLemmas.{pieces_more, pieces_refused}
-use Rattle.ix_run.proofs.stop_terms.stop_terms.Goals as goal
+use Rattle.ix_run.proofs.stop_terms.read_stop_terms.Goals as goal
 
 pub returns-in_err-term-clause-refused : goal.returns-in_err-term-clause-refused
 returns-in_err-term-clause-refused g c =
