@@ -13,12 +13,12 @@ ghost use Rattle.ix_query.specs.QueryErrors.{Gives};
 use crate::error::QueryError;
 use crate::tree::{Items, Term, Tree};
 use ix_gram::{Pattern, PatternError};
-use ix_text::{StopList, term_of};
+use ix_text::{MAX_TERM_BYTES, StopList, term_of};
 use std::alloc::{AllocError, Global};
 use unicode_segmentation::UnicodeSegmentation;
 
 // The most bytes that a term may have.
-const LONGEST: usize = 255;
+const LONGEST: usize = MAX_TERM_BYTES as usize;
 
 fn has_star(text: &str) -> bool
     ensures { result ≡ list_any is_star text.now }
