@@ -11,7 +11,7 @@ use Rattle.ix_live.specs.declared.live_error.LiveError.TheVariants as live
 use Rattle.ix_script.specs.Groups.{IsCutAtPublish}
 use Rattle.ix_script.specs.PrintedAnswers.{answer_lines, lines_of}
 use Rattle.ix_script.specs.Runs.{Answered, Progress, Runs, is_some_name, published, some_found}
-use Rattle.ix_script.specs.Scripts.{ArePublished, IsPrinted, IsReason, lacking, refused, unpublished, unwritten}
+use Rattle.ix_script.specs.Scripts.{AreBehindGroup, ArePublished, IsPrinted, IsReason, lacking, refused, unpublished, unwritten}
 use Rattle.ix_script.specs.Steps.{Publish, Step, Text}
 use Rattle.ix_script.specs.Stops.{IsUnprinted, RefusesChanges, RefusesGroup}
 use Rattle.ix_script.specs.Stretches.{CarriesOut, Stops}
@@ -97,9 +97,14 @@ more_is_published f steps place count before (inl are) within =
 more_is_published f steps place count before (inr is) within = inr (omega (arith, is, length-drop place steps, within))
 
 -- what is behind a group
-behind_group : (steps group : List Step) (rest : Option (List Step)) → IsCutAtPublish steps group rest → (more : List Step) × (steps ≡ group ++ more)
-behind_group steps group None cut = ([], cut.0 ∙ sym (append-nil group))
-behind_group steps group (Some rest) cut = (Publish ∷ rest, cut.0)
+behind_group : (steps group : List Step) (rest : Option (List Step)) → IsCutAtPublish steps group rest → (more : List Step) × (steps ≡ group ++ more) × AreBehindGroup more
+behind_group steps group None cut = ([], cut.0 ∙ sym (append-nil group), inl refl)
+behind_group steps group (Some rest) cut = (Publish ∷ rest, cut.0, inr (rest, refl))
+
+-- and so is what is left of it, with that behind it
+left_of_group : (rest more : List Step) → AreBehindGroup rest → AreBehindGroup more → AreBehindGroup (rest ++ more)
+left_of_group rest more (inl none) behind = subst (λ l. AreBehindGroup (l ++ more)) (sym none) behind
+left_of_group rest more (inr (later, next)) behind = inr (later ++ more, ap (λ l. l ++ more) next)
 
 -- what is so at an error is so at the same error, handed on
 pub handed_on : {T : Type 0} (P : RunError → Type 0) (result : Result T RunError) (told : RunError) → IsErrAnd result (λ error. error ≡ told) → P told → IfErr result P
@@ -152,7 +157,7 @@ module _ (holds : Text → Text → Type 0) (stop : List Text) where
     reason_then first done rest now error are (lacking is all) = lacking is (published_then first done are all)
     reason_then first done rest now error are (refused all why) = refused (published_then first done are all) why
     reason_then first done rest now error are (unpublished is later next) = unpublished is later next
-    reason_then first done rest now error are (unwritten is) = unwritten is
+    reason_then first done rest now error are (unwritten is ends) = unwritten is ends
 
     -- a stretch that ends with its publish, and then one that is stopped
     pub carries_then_stops : (steps more : List Step) (before between : Progress) (old middle new : Option Text) (found : Bool) (error : RunError) → ArePublished steps
@@ -170,9 +175,9 @@ module _ (holds : Text → Text → Type 0) (stop : List Text) where
     }
 
     -- more steps behind those that were not carried out
-    reason_behind : (done rest more : List Step) (now : Progress) (error : RunError) → IsReason holds workers stop done rest now error → IsReason holds workers stop done (rest ++ more) now error
-    reason_behind done rest more now error (lacking is all) = lacking is all
-    reason_behind done rest more now error (refused all why) = refused all record {
+    reason_behind : (done rest more : List Step) (now : Progress) (error : RunError) → AreBehindGroup more → IsReason holds workers stop done rest now error → IsReason holds workers stop done (rest ++ more) now error
+    reason_behind done rest more now error behind (lacking is all) = lacking is all
+    reason_behind done rest more now error behind (refused all why) = refused all record {
       earlier = why.earlier;
       step = why.step;
       later = why.later ++ more;
@@ -181,13 +186,13 @@ module _ (holds : Text → Text → Type 0) (stop : List Text) where
       changed = why.changed;
       refused = why.refused;
     }
-    reason_behind done rest more now error (unpublished is later next) = unpublished is (later ++ more) (ap (λ l. l ++ more) next)
-    reason_behind done rest more now error (unwritten is) = unwritten is
+    reason_behind done rest more now error behind (unpublished is later next) = unpublished is (later ++ more) (ap (λ l. l ++ more) next)
+    reason_behind done rest more now error behind (unwritten is ends) = unwritten is (left_of_group rest more ends behind)
 
-    -- a stretch that is stopped is stopped with more behind it
-    stops_before : (steps more all : List Step) (before : Progress) (old new : Option Text) (error : RunError) → all ≡ steps ++ more → Stops holds workers stop steps before old new error
+    -- a group that is stopped is stopped with more behind it
+    stops_before : (steps more all : List Step) (before : Progress) (old new : Option Text) (error : RunError) → all ≡ steps ++ more → AreBehindGroup more → Stops holds workers stop steps before old new error
         → Stops holds workers stop all before old new error
-    stops_before steps more all before old new error is stops = record {
+    stops_before steps more all before old new error is behind stops = record {
       done = stops.done;
       rest = stops.rest ++ more;
       now = stops.now;
@@ -195,13 +200,13 @@ module _ (holds : Text → Text → Type 0) (stop : List Text) where
       cut = is ∙ ap (λ l. l ++ more) stops.cut ∙ append_assoc stops.done stops.rest more;
       ran = stops.ran;
       printed = stops.printed;
-      reason = reason_behind stops.done stops.rest more stops.now error stops.reason;
+      reason = reason_behind stops.done stops.rest more stops.now error behind stops.reason;
     }
 
     -- where the group in front is stopped, so are the steps
     pub group_stops : (steps group : List Step) (rest : Option (List Step)) (before : Progress) (old new : Option Text) (error : RunError) → IsCutAtPublish steps group rest
         → Stops holds workers stop group before old new error → Stops holds workers stop steps before old new error
-    group_stops steps group rest before old new error cut stops = let behind = behind_group steps group rest cut in stops_before group behind.0 steps before old new error behind.1 stops
+    group_stops steps group rest before old new error cut stops = let (more, is, behind) = behind_group steps group rest cut in stops_before group more steps before old new error is behind stops
 
     -- nothing was done
     stops_at_once : (steps : List Step) (before : Progress) (known : Option Text) (error : RunError) → IsReason holds workers stop [] steps before error → Stops holds workers stop steps before known known error
@@ -236,7 +241,7 @@ module _ (holds : Text → Text → Type 0) (stop : List Text) where
       cut = sym (append-nil steps);
       ran = ran;
       printed = why;
-      reason = unwritten refl;
+      reason = unwritten refl (inl refl);
     }
     group_unwritten steps before after answers old new Memory ran why = record {
       done = [];

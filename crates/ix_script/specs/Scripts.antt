@@ -27,13 +27,18 @@ pub record IsCarriedOut (holds : Text → Text → Type 0) (stop : List Text) (s
 abbrev pub ArePublished : List Step → Type 0
 ArePublished steps = (steps ≡ []) ⊎ ((earlier : List Step) × (steps ≡ earlier ++ Publish ∷ []))
 
+-- what is before these steps ends where a group does: a publish is the first of them, or there are none
+abbrev pub AreBehindGroup : List Step → Type 0
+AreBehindGroup rest = (rest ≡ []) ⊎ ((later : List Step) × (rest ≡ Publish ∷ later))
+
 -- Why the steps behind those that were carried out were not: memory was refused; an addition or a removal was, before the
--- next publish; the publish that comes next was; or the answers could not be written.
+-- next publish; the publish that comes next was; or the answers of the last group, which was carried out whole, could not be
+-- written.
 pub data IsReason (holds : Text → Text → Type 0) (workers : ℕ) (stop : List Text) (done rest : List Step) (now : Progress) (error : RunError) : Type 0 where
   lacking : error ≡ Memory → ArePublished done → IsReason holds workers stop done rest now error
   refused : ArePublished done → RefusesChanges holds workers stop rest now error → IsReason holds workers stop done rest now error
   unpublished : error ≡ Live live.Memory → (later : List Step) → rest ≡ Publish ∷ later → IsReason holds workers stop done rest now error
-  unwritten : error ≡ Write → IsReason holds workers stop done rest now error
+  unwritten : error ≡ Write → AreBehindGroup rest → IsReason holds workers stop done rest now error
 
 -- what the output gained: the lines, or a beginning of them where it refused
 abbrev pub IsPrinted : Text → Option Text → Option Text → RunError → Type 0
