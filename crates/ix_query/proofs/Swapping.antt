@@ -1,7 +1,8 @@
 -- Lists of which two places were exchanged.
-use Rattle.std.specs.List.{SwappedAt}
-use Rattle.std.proofs.Common.{◌≡◌, ℕ, ◌<◌, List, Option, Some, inl, inr, length, get_or, slice_get, sym, ap, ◌∙◌, arith}
+use Rattle.std.proofs.Common.{◌≡◌, ℕ, ◌<◌, ◌+◌, ◌-◌, List, [], ◌∷◌, ◌++◌, Option, Some, inl, inr, length, length-append, get_or, slice_get, sym, ap, ◌∙◌, arith}
+use Rattle.std.proofs.Math.Seq.{get_or-append_seam}
 use Rattle.std.proofs.lemmas.Bool.{cases_lt}
+use Rattle.std.proofs.lemmas.List.{get_or_append_left, get_or_past}
 use Rattle.std.proofs.lemmas.List.Edits.{Swapped}
 use Rattle.std.proofs.lemmas.Option.{slice_get_within, slice_get-get_or, get_or_from_slice_get}
 use Rattle.ix_query.specs.Finding.{ArePlaced}
@@ -18,13 +19,41 @@ pub record AreSwapped {X : Type 0} (xs ys : List X) (a b : ℕ) : Type 0 where
   pub second : b < length xs
   pub each : (d : X) → Swapped (λ i. get_or xs i d) (λ i. get_or ys i d) a b
 
-pub swapped_of : {X : Type 0} (xs ys : List X) (a b : ℕ) → length ys ≡ length xs → a < length xs → b < length xs → SwappedAt xs ys a b → AreSwapped xs ys a b
-swapped_of xs ys a b long first second at = record {
-  long = long;
-  first = first;
-  second = second;
-  each = λ d. let (p, q, r, _) = at in (p d, q d, λ m na nb. r m d na nb);
+-- what stands at a place was taken out, and the last one moved there: with what was taken at the end, the two are exchanged
+pub removed_of : {X : Type 0} (xs ys : List X) (i last : ℕ) (x : X) → i < length xs → length xs ≡ last + 1 → length ys ≡ last → x ≡ get_or xs i x
+    → ((d : X) → i < last → get_or ys i d ≡ get_or xs last d)
+    → ((k : ℕ) (d : X) → ¬ (k ≡ i) → k < last → get_or ys k d ≡ get_or xs k d)
+    → AreSwapped xs (ys ++ x ∷ []) i last
+removed_of {X} xs ys i last x within long short is moved stay = record {
+  long = omega (arith, long, short, length-append ys (x ∷ []));
+  first = within;
+  second = omega (arith, long);
+  each = λ d. (there d, end d, λ k na nb. beside k d na nb);
 }
+  where
+    seam : (k : ℕ) (d : X) → k ≡ length ys → get_or (ys ++ x ∷ []) k d ≡ x
+    seam k d here = ap (λ (j : ℕ). get_or (ys ++ x ∷ []) j d) here ∙ get_or-append_seam ys x [] d
+
+    taken : (d : X) → get_or xs i d ≡ x
+    taken d = get_or_from_slice_get xs i (get_or xs i x) d (slice_get-get_or xs i x within) ∙ sym is
+
+    there : (d : X) → get_or (ys ++ x ∷ []) i d ≡ get_or xs last d
+    there d = elim (cases_lt i last) [
+      | inl below ↦ get_or_append_left ys (x ∷ []) d i (omega (arith, below, short)) ∙ moved d below
+      | inr from ↦ seam i d (omega (arith, from, within, long, short)) ∙ sym (taken d) ∙ ap (λ (j : ℕ). get_or xs j d) (omega (arith, from, within, long))
+    ]
+
+    end : (d : X) → get_or (ys ++ x ∷ []) last d ≡ get_or xs i d
+    end d = seam last d (sym short) ∙ sym (taken d)
+
+    beside : (k : ℕ) (d : X) → ¬ (k ≡ i) → ¬ (k ≡ last) → get_or (ys ++ x ∷ []) k d ≡ get_or xs k d
+    beside k d na nb = elim (cases_lt k last) [
+      | inl below ↦ get_or_append_left ys (x ∷ []) d k (omega (arith, below, short)) ∙ stay k d na below
+      | inr from ↦ elim (cases_lt k (length xs)) [
+        | inl low ↦ absurd (nb (omega (arith, from, low, long)))
+        | inr past ↦ get_or_past (ys ++ x ∷ []) k d (omega (arith, past, long, short, length-append ys (x ∷ []))) ∙ sym (get_or_past xs k d past)
+      ]
+    ]
 
 pub swapped_back : {X : Type 0} (xs ys : List X) (a b : ℕ) → AreSwapped xs ys a b → AreSwapped ys xs a b
 swapped_back xs ys a b swapped = record {

@@ -167,8 +167,7 @@ fn meet_of<'a>(index: &'a Index<'_>, present: Vec<Leaf<'a>>, absent: Vec<Leaf<'a
         × ¬ (HasOne HasNumber absent.entry.items n)) }
 {
     let mut others = present;
-    let count = others.len();
-    if count == 0 {
+    if others.is_empty() {
         return Meet {
             first: every_document(index),
             others,
@@ -176,14 +175,7 @@ fn meet_of<'a>(index: &'a Index<'_>, present: Vec<Leaf<'a>>, absent: Vec<Leaf<'a
         };
     }
     let lead = fewest(others.as_slice());
-    others.swap(lead, count - 1);
-    let Some(first) = others.pop() else {
-        return Meet {
-            first: every_document(index),
-            others,
-            absent,
-        };
-    };
+    let first = others.swap_remove(lead);
     Meet {
         first,
         others,

@@ -43,7 +43,7 @@ impl<'a> Reader<'a> {
         Reader { current, rest }
     }
 
-    /// How many postings are left.
+    /// How many postings are left, the one at hand among them.
     #[inline]
     pub(crate) fn len(&self) -> usize {
         match &self.current {

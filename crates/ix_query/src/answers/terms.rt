@@ -213,19 +213,12 @@ fn join_terms<'a>(index: &'a Index<'_>, placed: Placed<'a>) -> Leaf<'a>
         mut starts,
     } = placed;
     let _room = starts.pop();
-    let count = lists.len();
-    if count == 0 {
+    if lists.is_empty() {
         return every_document(index);
     }
     let lead = fewest(lists.as_slice());
-    lists.swap(lead, count - 1);
-    places.swap(lead, count - 1);
-    let Some(first) = lists.pop() else {
-        return every_document(index);
-    };
-    let Some(offset) = places.pop() else {
-        return every_document(index);
-    };
+    let first = lists.swap_remove(lead);
+    let offset = places.swap_remove(lead);
     Leaf::Phrase(Phrase {
         first,
         offset,

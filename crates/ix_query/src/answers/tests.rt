@@ -4,6 +4,7 @@ mod seeking;
 mod text;
 
 use super::answer;
+use crate::error::QueryError;
 use crate::query::Query;
 use crate::scans::scan;
 use ix_file::Index;
@@ -130,22 +131,24 @@ fn sixty_four_nots(rt: HostRuntime) -> Result<(), Fail> {
     Ok(())
 }
 
-/// The answer to a query and what the plain program finds are one list.
+/// Whether the text is a query. Where it is, its answer and what the plain program finds are one list.
 fn compare(
     rt: &impl Abort,
     alloc: Global,
     collection: &Collection<'_>,
     index: &Index<'_>,
     query: &str,
-) -> Result<(), Fail> {
+) -> Result<bool, Fail> {
     let documents = collection.docs();
     assert!(rt; documents.len() < 1000);
     let stop = index.stop();
-    let Ok(tree) = Query::parse(alloc, query, stop) else {
-        return Ok(());
+    let tree = match Query::parse(alloc, query, stop) {
+        Ok(tree) => tree,
+        Err(QueryError::Memory) => return Err(QueryError::Memory.into()),
+        Err(_) => return Ok(false),
     };
     let wanted = scan(alloc, documents, stop, &tree)?;
     let numbers = answer(alloc, index, &tree)?;
     assert_eq!(rt; numbers.as_slice(), wanted.as_slice(), "{query}");
-    Ok(())
+    Ok(true)
 }

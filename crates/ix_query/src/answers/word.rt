@@ -43,10 +43,13 @@ impl<'a> Word<'a> {
         }
     }
 
-    /// How many documents are left behind the one at hand.
+    /// How many documents are left, the one at hand among them.
     #[inline]
     pub(crate) fn len(&self) -> usize {
-        self.rest.len()
+        match self.current {
+            Some(_) => self.rest.len().saturating_add(1),
+            None => self.rest.len(),
+        }
     }
 }
 

@@ -4,7 +4,17 @@ use super::text::index_text;
 use ix_file::Index;
 use ix_text::{Collection, StopList};
 use std::alloc::{AllocError, Global};
+use std::process::Abort;
 use std::test::Fail;
+
+/// How many collections there are.
+const COLLECTIONS: usize = 50;
+
+/// How many queries are answered from each.
+const QUERIES: usize = 40;
+
+/// How many texts are drawn for one query at the most: about one in three is no query.
+const DRAWS: usize = 200;
 
 /// Numbers that follow from one another, the same in each run.
 #[derive(Drop)]
@@ -49,7 +59,7 @@ fn collection_text(alloc: Global, numbers: &mut Random) -> Result<String, AllocE
     Ok(text)
 }
 
-/// A query of one word, phrase, NEAR or pattern.
+/// The text of one word, phrase, NEAR or pattern. It is no query where a stop word or a distance of 0 does not let it be.
 fn leaf(alloc: Global, numbers: &mut Random) -> Result<String, AllocError> {
     let (one, other, third) = (numbers.word(), numbers.word(), numbers.word());
     let distance = numbers.below(4);
@@ -63,7 +73,7 @@ fn leaf(alloc: Global, numbers: &mut Random) -> Result<String, AllocError> {
     }
 }
 
-/// A query of some of these.
+/// A text of some of these.
 fn query_text(alloc: Global, numbers: &mut Random) -> Result<String, AllocError> {
     let a = leaf(alloc, numbers)?;
     let b = leaf(alloc, numbers)?;
@@ -81,21 +91,40 @@ fn query_text(alloc: Global, numbers: &mut Random) -> Result<String, AllocError>
     }
 }
 
+/// Draws texts until one is a query, and compares its answer with its scan. `Fail` where none of the texts is a query.
+fn compare_next(
+    rt: &impl Abort,
+    alloc: Global,
+    collection: &Collection<'_>,
+    index: &Index<'_>,
+    numbers: &mut Random,
+) -> Result<(), Fail> {
+    for _ in 0..DRAWS {
+        let query = query_text(alloc, numbers)?;
+        if compare(rt, alloc, collection, index, &query)? {
+            return Ok(());
+        }
+    }
+    Err("a query among the texts".into())
+}
+
 #[test]
 fn answers_are_scans_of_generated_collections(rt: HostRuntime) -> Result<(), Fail> {
     let alloc = rt.alloc();
     let stop = StopList::read(alloc, "to\n")?;
     let mut numbers = Random { state: 2024 };
-    for round in 0..50u32 {
+    let mut compared = 0u64;
+    for round in 0..COLLECTIONS {
         let text = collection_text(alloc, &mut numbers)?;
         let collection = Collection::read(alloc, text.as_str().as_bytes())?;
         let version = if round % 2 == 0 { b'1' } else { b'2' };
         let bytes = index_text(alloc, collection.docs(), &stop, version)?;
         let index = Index::open(alloc, &bytes)?;
-        for _ in 0..40 {
-            let query = query_text(alloc, &mut numbers)?;
-            compare(&rt, alloc, &collection, &index, &query)?;
+        for _ in 0..QUERIES {
+            compare_next(&rt, alloc, &collection, &index, &mut numbers)?;
+            compared = compared.saturating_add(1);
         }
     }
+    assert_eq!(rt; compared, 2_000);
     Ok(())
 }

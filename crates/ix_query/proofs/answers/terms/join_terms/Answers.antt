@@ -1,36 +1,38 @@
-use Rattle.std.proofs.Common.{◌∷◌, [], ap, ◌∙◌, arith, length, length-append}
+use Rattle.std.proofs.Common.{[], ◌∷◌, ◌++◌, ◌-◌, ◌∙◌, ◌≡◌, ap, arith, get_or, length, length-append, refl}
+use Rattle.std.proofs.lemmas.Bool.Decides.{nat_tests}
 use Rattle.ix_query.proofs.FindLemmas.{placed_first, placed_holes, any_place, nil_of_length}
-use Rattle.ix_query.proofs.Swapping.{swapped_of, placed_swapped}
+use Rattle.ix_query.proofs.Swapping.{removed_of, placed_swapped}
 use Rattle.ix_query.proofs.answers.terms.join_terms.Goals as goal
 
-pub returns-then-count-eq0 : goal.returns-then-count-eq0
-returns-then-count-eq0 c = λ entries placed.
-    placed_holes c.args.index.now.parts entries c.args.placed.lists.items c.args.placed.places.items _ (nil_of_length c.args.placed.lists.items (omega arith)) c.args.placed.each_placed c.every_document.ensures placed
-
-pub returns-in_default : goal.returns-in_default
-returns-in_default c = λ entries placed.
-    let cases = c.in_default.ensures.cases in
-    let long = c.swap.new.self.ok.0 in
-    let same = c.swap.ensures.len in
-    placed_holes c.args.index.now.parts entries c.args.placed.lists.items c.args.placed.places.items _ (nil_of_length c.args.placed.lists.items (omega arith)) c.args.placed.each_placed c.every_document-in_default.ensures placed
-
-pub returns-in_default-pop : goal.returns-in_default-pop
-returns-in_default-pop c = λ entries placed.
-    let cases = c.in_default-pop.ensures.cases in
-    let long = c.swap-2.new.self.ok.0 in
-    let some = ap length c.in-Some.ensures.items ∙ length-append c.pop.new.self.items (c.in-Some.first ∷ []) in
-    let one = c.swap.ensures.len in
-    let two = c.swap-2.ensures.len in
-    let same = c.args.placed.each_placed in
-    absurd (omega arith)
+pub returns-then-is_empty : goal.returns-then-is_empty
+returns-then-is_empty c = λ entries placed.
+    let none : length c.args.placed.lists.items ≡ 0 = grind (arith, nat_tests, c.if-is_empty.ensures, c.if-is_empty.true, c.args.placed.lists.ok.0) in
+    placed_holes c.args.index.now.parts entries c.args.placed.lists.items c.args.placed.places.items _ (nil_of_length c.args.placed.lists.items none) c.args.placed.each_placed c.every_document.ensures placed
 
 pub returns : goal.returns
 returns c = λ entries placed.
-    let lead = rw c.as_slice.ensures.value at c.fewest-lead.ensures in
-    let one = c.swap.ensures.len in
-    let two = c.swap-2.ensures.len in
+    let lists = c.args.placed.lists.items in
+    let places = c.args.placed.places.items in
+    let lists_old = c.args.placed.lists.ok.0 in
+    let lists_new = c.swap_remove-first.new.self.ok.0 in
+    let places_old = c.args.placed.places.ok.0 in
+    let places_new = c.swap_remove-offset.new.self.ok.0 in
     let same = c.args.placed.each_placed in
-    let lists = swapped_of c.args.placed.lists.items c.swap.new.self.items _ _ (let a = c.args.placed.lists.ok.0 in let b = c.swap.new.self.ok.0 in omega arith) lead (omega arith) c.swap.ensures.by_index in
-    let places = swapped_of c.args.placed.places.items c.swap-2.new.self.items _ _ (let a = c.args.placed.places.ok.0 in let b = c.swap-2.new.self.ok.0 in omega arith) (omega arith) (omega arith) c.swap-2.ensures.by_index in
-    any_place _ _ _ (placed_first c.args.index.now.parts entries c.swap.new.self.items c.pop.new.self.items c.in-Some.first c.swap-2.new.self.items c.pop-2.new.self.items c.in-Some-pop.offset c.in-Some.ensures.items c.in-Some-pop.ensures.items (omega arith)
-    (placed_swapped c.args.index.now.parts entries (length entries) _ _ _ _ _ _ lists places placed))
+    let lead = rw c.as_slice.ensures.value at c.fewest-lead.ensures in
+    let one = c.swap_remove-first.ensures in
+    let two = c.swap_remove-offset.ensures in
+    let others = c.swap_remove-first.new.self.items in
+    let offsets = c.swap_remove-offset.new.self.items in
+    let first = c.swap_remove-first.result in
+    let offset = c.swap_remove-offset.result in
+    let last = length others in
+    let taken = removed_of lists others c.fewest-lead.result last first lead (omega (arith, one.len, lists_old, lists_new)) refl one.value
+    (λ d low. one.by_index.0 d (omega (arith, low, one.len, lists_old, lists_new)) ∙ ap (λ k. get_or lists k d) (omega (arith, one.len, lists_old, lists_new)))
+    (λ k d other low. one.by_index.1 k d other (omega (arith, low, one.len, lists_old, lists_new))) in
+    let offset_taken = removed_of places offsets c.fewest-lead.result last offset (omega (arith, lead, same)) (omega (arith, same, one.len, lists_old, lists_new))
+    (omega (arith, same, one.len, two.len, lists_old, lists_new, places_old, places_new)) two.value
+    (λ d low. two.by_index.0 d (omega (arith, low, same, one.len, lists_old, lists_new, places_old)) ∙ ap (λ k. get_or places k d) (omega (arith, same, one.len, lists_old, lists_new, places_old)))
+    (λ k d other low. two.by_index.1 k d other (omega (arith, low, same, one.len, lists_old, lists_new, places_old))) in
+    any_place _ _ _ (placed_first c.args.index.now.parts entries (others ++ first ∷ []) others first (offsets ++ offset ∷ []) offsets offset refl refl
+    (omega (arith, taken.long, offset_taken.long, same))
+    (placed_swapped c.args.index.now.parts entries (length entries) _ _ _ _ _ _ taken offset_taken placed))
