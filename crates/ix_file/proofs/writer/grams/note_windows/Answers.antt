@@ -1,4 +1,4 @@
-use Rattle.std.proofs.Common.{◌++◌, ◌∷◌, [], ◌∙◌, sym}
+use Rattle.std.proofs.Common.{◌++◌, ◌∷◌, []}
 use Rattle.ix_file.proofs.GramNotes.{one_window_more, wanted_of, windows-none, windows-whole}
 use Rattle.ix_file.proofs.TermPairs.{paired, under_way-start, under_way-step, under_way-end}
 use Rattle.ix_file.proofs.writer.grams.note_windows.Goals as goal
