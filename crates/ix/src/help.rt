@@ -17,8 +17,6 @@ Commands, in the order in which they are met:
             ix ask examples/mail.txt 'contract AND NOT hotel'
   build     builds an index of a collection, to be searched as often as one likes
             ix build examples/mail.txt mail.ix
-  live      carries out a script that adds documents, removes them and asks in between
-            ix live mail.live
   search    prints the names of the documents of an index that answer a query
             ix search mail.ix 'contract AND NOT hotel'
   terms     prints the terms of an index that match a pattern
@@ -29,6 +27,8 @@ Commands, in the order in which they are met:
             ix merge mail.ix mail.run
   upgrade   writes an index anew, in the newest version of the format
             ix upgrade mail.ix mail-2.ix
+  live      carries out a script that adds documents, removes them and asks in between
+            ix live mail.live
 
 `ix COMMAND --help` and `ix help COMMAND` tell more of a command.
 

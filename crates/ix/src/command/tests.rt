@@ -6,24 +6,24 @@ mod live;
 mod merging;
 mod runs;
 mod saving;
+mod system;
 mod worked;
 
-use super::{command, command_over};
+use super::command_over;
 use crate::files::{FileSource, FileTarget, ReadFault, WriteFault};
 use crate::help::{
     HELP, HELP_ON_ASK, HELP_ON_BUILD, HELP_ON_LIVE, HELP_ON_RUN, HELP_ON_SEARCH, HELP_ON_TERMS,
     HELP_ON_UPGRADE,
 };
 use indexes::{EMPTY, FIVE_FRONT_CODED, FIVE_PLAIN, LONG_TEXT, ONE, RED, STOPPED};
-use ix_build::SystemFiles;
 use runs::NoRuns;
 use std::alloc::Global;
+use std::io;
 use std::io::{ErrorKind, Write};
 use std::process::Abort;
 use std::sync::Wait;
 use std::test::Fail;
 use std::thread::Threads;
-use std::{env, fs, io};
 
 /// Files that a test makes up: each has a path and bytes. There is no memory for the path `large`.
 #[derive(Drop)]
@@ -394,20 +394,5 @@ fn writes_that_are_refused(rt: HostRuntime) -> Result<(), Fail> {
         );
         assert_eq!(rt; status, 2);
     }
-    Ok(())
-}
-
-#[test]
-fn a_file_of_the_system(rt: HostRuntime) -> Result<(), Fail> {
-    let folder = env::temp_dir(&rt)?;
-    let path = format!(in rt.alloc(); "{}/ix-test-five", folder.as_path().display())?;
-    fs::write(&rt, path.as_str(), FIVE)?;
-    let mut out = Vec::new(rt.alloc());
-    let mut err = Vec::new(rt.alloc());
-    let words = ["ask", path.as_str(), "NOT x"];
-    let status = command(&rt, &SystemFiles { rt: &rt }, &words, &mut out, &mut err);
-    fs::remove_file(&rt, path.as_str())?;
-    assert!(rt; out.as_slice() == b"b\nc\n".as_slice() && err.is_empty());
-    assert_eq!(rt; status, 0);
     Ok(())
 }
