@@ -11,7 +11,7 @@ use crate::files::{FileSource, ReadFault};
 use crate::refusal::Refusal;
 use ix_ask::{EngineRefusal, ask};
 use ix_build::Plan;
-use ix_text::{StopError, StopList};
+use ix_text::{MAX_TEXT_BYTES, StopError, StopList};
 use std::alloc::Global;
 use std::io::Write;
 use std::str;
@@ -20,7 +20,7 @@ use std::thread::Threads;
 
 /// One byte more than a collection text or a stop text may have, so that a longer one, be it
 /// without an end, is refused for its size and takes no more memory.
-pub const ROOM: usize = (1 << 28) + 1;
+pub const ROOM: usize = MAX_TEXT_BYTES + 1;
 
 /// Writes the names of the documents in the collection file that answer the query, and answers how
 /// many there are, whatever the plan. The words of the stop file, where one is named, are left out.

@@ -10,13 +10,15 @@ ghost use Rattle.ix.specs.Commands.{terms_shape, upgrade_shape};
 
 use clap::builder::ValueParser;
 use clap::{Arg, Command};
+use ix_text::{MAX_DOCUMENTS, MAX_TEXT_BYTES};
 use std::alloc::{AllocError, Global};
 
-/// The greatest number that a document may have, and one more.
-const MAX_DOCUMENTS: i64 = 1 << 28;
+/// How many documents a block may have, and the greatest number that may be its first one's: as many as an index may
+/// have.
+const MOST_DOCUMENTS: i64 = MAX_DOCUMENTS as i64;
 
-/// The greatest number of bytes of a block: as many as a collection may have.
-const MAX_BYTES: i64 = 1 << 28;
+/// How many bytes the texts of a block may have: as many as a collection text.
+const MOST_BYTES: i64 = MAX_TEXT_BYTES as i64;
 
 /// How many workers a build may have.
 const MAX_WORKERS: i64 = 64;
@@ -54,8 +56,8 @@ fn ask<'a>(alloc: Global) -> Result<Command<'a>, AllocError>
 {
     let plain = Command::new(alloc, "ask");
     let with_stop = plain.arg(option(alloc, "stop"))?;
-    let with_block = with_stop.arg(number(alloc, "block", 1, MAX_DOCUMENTS))?;
-    let with_bytes = with_block.arg(number(alloc, "bytes", 1, MAX_BYTES))?;
+    let with_block = with_stop.arg(number(alloc, "block", 1, MOST_DOCUMENTS))?;
+    let with_bytes = with_block.arg(number(alloc, "bytes", 1, MOST_BYTES))?;
     let with_workers = with_bytes.arg(number(alloc, "workers", 1, MAX_WORKERS))?;
     let with_collection = with_workers.arg(operand(alloc, "COLLECTION"))?;
     let with_query = with_collection.arg(operand(alloc, "QUERY"))?;
@@ -67,8 +69,8 @@ fn build<'a>(alloc: Global) -> Result<Command<'a>, AllocError>
 {
     let plain = Command::new(alloc, "build");
     let with_stop = plain.arg(option(alloc, "stop"))?;
-    let with_block = with_stop.arg(number(alloc, "block", 1, MAX_DOCUMENTS))?;
-    let with_bytes = with_block.arg(number(alloc, "bytes", 1, MAX_BYTES))?;
+    let with_block = with_stop.arg(number(alloc, "block", 1, MOST_DOCUMENTS))?;
+    let with_bytes = with_block.arg(number(alloc, "bytes", 1, MOST_BYTES))?;
     let with_workers = with_bytes.arg(number(alloc, "workers", 1, MAX_WORKERS))?;
     let with_runs = with_workers.arg(option(alloc, "runs"))?;
     let with_collection = with_runs.arg(operand(alloc, "COLLECTION"))?;
@@ -81,8 +83,8 @@ fn live<'a>(alloc: Global) -> Result<Command<'a>, AllocError>
 {
     let plain = Command::new(alloc, "live");
     let with_stop = plain.arg(option(alloc, "stop"))?;
-    let with_block = with_stop.arg(number(alloc, "block", 1, MAX_DOCUMENTS))?;
-    let with_bytes = with_block.arg(number(alloc, "bytes", 1, MAX_BYTES))?;
+    let with_block = with_stop.arg(number(alloc, "block", 1, MOST_DOCUMENTS))?;
+    let with_bytes = with_block.arg(number(alloc, "bytes", 1, MOST_BYTES))?;
     let with_workers = with_bytes.arg(number(alloc, "workers", 1, MAX_WORKERS))?;
     let with_searchers = with_workers.arg(number(alloc, "searchers", 1, MAX_SEARCHERS))?;
     let with_script = with_searchers.arg(operand(alloc, "SCRIPT"))?;
@@ -113,7 +115,7 @@ fn run<'a>(alloc: Global) -> Result<Command<'a>, AllocError>
 {
     Command::new(alloc, "run")
         .arg(option(alloc, "stop"))?
-        .arg(number(alloc, "first", 0, MAX_DOCUMENTS))?
+        .arg(number(alloc, "first", 0, MOST_DOCUMENTS))?
         .arg(operand(alloc, "COLLECTION"))?
         .arg(operand(alloc, "RUN"))
 }
