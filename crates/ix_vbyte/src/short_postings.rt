@@ -67,8 +67,6 @@ pub fn short_posting(bytes: &[u8]) -> Option<ShortPosting>
 
 /// The number whose code the bytes begin with, where it is below 2^14 and not 0, and how many bytes the code takes. None
 /// of any other bytes.
-///
-/// Of the gaps between positions as many have one byte as two: so nothing branches on which of them it is.
 #[inline(always)]
 pub fn short_number(bytes: &[u8]) -> Option<(u32, usize)>
     ensures found { IfSome result (λ read. BeginsWithShort bytes.now read.0 read.1) }
@@ -76,13 +74,29 @@ pub fn short_number(bytes: &[u8]) -> Option<(u32, usize)>
         → bytes.now ≢ code_of number ++ rest) }
 {
     match bytes {
-        [first, second, ..] => short_code(*first, *second),
-        [first] => short_code(*first, 0),
+        [first, second, ..] => foreseen_code(*first, *second),
+        [first] => foreseen_code(*first, 0),
         [] => None,
     }
 }
 
-/// The number above 0 whose code of one byte or two these bytes begin with, and how many it takes.
+/// The number above 0 whose code of one byte or two these bytes begin with, and how many it takes, by a branch for each.
+#[inline(always)]
+fn foreseen_code(first: u8, second: u8) -> Option<(u32, usize)>
+    ensures found { IfSome result (λ code. IsShortCode first second code.0 code.1) }
+    ensures none { IfNone result ((first ≡ 0)
+        ⊎ ((first ≡ 128) ⊎ ((first < 128) × (second < 128)))) }
+{
+    if first > 128 {
+        return Some((u32::from(first - 128), 1));
+    }
+    if first == 0 || first == 128 || second < 128 {
+        return None;
+    }
+    Some((u32::from(first) * 128 + u32::from(second - 128), 2))
+}
+
+/// The same, where nothing branches on how many it takes.
 #[inline(always)]
 fn short_code(first: u8, second: u8) -> Option<(u32, usize)>
     ensures found { IfSome result (λ code. IsShortCode first second code.0 code.1) }
