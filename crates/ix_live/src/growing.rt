@@ -13,13 +13,10 @@ use crate::segment::Place;
 use crate::table::merge_alike;
 use ix_build::Plan;
 use ix_file::Volume;
-use ix_text::{Collection, StopList};
+use ix_text::{Collection, MAX_TOKENS, StopList};
 use std::alloc::Global;
 use std::sync::Wait;
 use std::thread::Threads;
-
-/// The most tokens that a live index may have.
-pub const MOST_TOKENS: u32 = 1 << 28;
 
 /// A segment that stands for all from `left` on and for documents more, of which are so many tokens.
 #[derive(Drop)]
@@ -60,7 +57,7 @@ pub fn grow<R: Threads + Wait + Sync>(
         Err(error) => return Err(error),
     };
     let more = token_count(&volume);
-    if more > MOST_TOKENS - tokens {
+    if more > MAX_TOKENS - tokens {
         return Err(LiveError::TooLarge);
     }
     let (left, segment) = merge_alike(alloc, table, volume)?;

@@ -136,6 +136,9 @@ impl Indexer {
 
     /// Ends the indexer, once no searcher takes a version any more. What is pending is dropped, and no searcher answers
     /// from now on.
+    ///
+    /// There is no clause: the indexer is gone and nothing comes back, so a clause would have no value to speak of. That
+    /// a searcher finds no version any more is for its own call to tell, which then answers `Memory`.
     pub fn close<R: Wait>(self, rt: &R) {
         let Self {
             writer,

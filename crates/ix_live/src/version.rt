@@ -24,14 +24,11 @@ use crate::segment::Place;
 use arrayvec::ArrayVec;
 use ix_build::Plan;
 use ix_query::Query;
-use ix_text::{Collection, Memory, StopList};
+use ix_text::{Collection, MAX_DOCUMENTS, Memory, StopList};
 use std::alloc::Global;
 use std::marker::Model;
 use std::sync::{Arc, Wait};
 use std::thread::Threads;
-
-/// The most documents that a live index may have.
-const MOST_DOCUMENTS: u32 = 1 << 28;
 
 /// A live index at one point of its history. Contracts see its stop set, its history and the pieces of its documents.
 #[derive(Drop)]
@@ -135,7 +132,7 @@ impl Version {
         if count == 0 {
             return Ok(());
         }
-        if count > (MOST_DOCUMENTS - self.count) as usize {
+        if count > (MAX_DOCUMENTS - self.count) as usize {
             return Err(LiveError::TooLarge);
         }
         let table = self.segments.as_slice();
