@@ -12,7 +12,7 @@ use Rattle.std.proofs.lemmas.Map.Keys.{Less-from_sorted}
 use Rattle.std.proofs.lemmas.Option.{get_or_from_slice_get, slice_get-get_or, slice_get-map, slice_get_cases, slice_get_within}
 use Rattle.ix_text.specs.ByteOrder.{IsAscending}
 use Rattle.ix_text.specs.Collections.{Collection, IsVocabulary}
-use Rattle.ix_text.specs.Parts.{ArePartsOf, DictionaryEntry, HasPosition, IsEntryOf, IsPosting, Parts, Posting, terms_of}
+use Rattle.ix_text.specs.Parts.{ArePartsOf, DictionaryEntry, HasPosition, IsEntryOf, IsTermPosting, Parts, Posting, terms_of}
 use Rattle.ix_file.specs.Opened.{document_counts}
 use Rattle.ix_gram.specs.Expanding.{AreMatches, IsMatch}
 use Rattle.ix_gram.specs.Patterns.{Matches}
@@ -195,7 +195,7 @@ counted_entry collection entry is = record {
     told : (number : ℕ) → Contains (map (λ posting. posting.0) entry.postings) number → IsIn collection entry.term number
     told number has =
         let (posting, among, same) = contained_from_map (λ (p : Posting). p.0) entry.postings number has in
-        let each : IsPosting posting = All-contains IsPosting entry.postings posting is.ordered.each among in
+        let each : IsTermPosting posting = All-contains IsTermPosting entry.postings posting is.ordered.each among in
         let (position, positioned) = contains_first posting.1 each.0 in
         (position, (is.posted number position).0 (record { positions = posting.1; among = subst (λ n. Contains entry.postings (n, posting.1)) same among; positioned = positioned }))
 

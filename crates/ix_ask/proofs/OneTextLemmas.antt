@@ -9,7 +9,7 @@ use Rattle.std.specs.Ordering.{nat_cmp}
 use Rattle.ix_text.proofs.AscendingLists.{all_below, contained_from_map, contains_cases, contains_first, contains_later, contains_map, contains_none, not_below_itself, one_ascending}
 use Rattle.ix_text.proofs.PartsLemmas.{same_entry_fields, same_parts_fields}
 use Rattle.ix_text.specs.Collections.{Collection}
-use Rattle.ix_text.specs.Parts.{ArePartsOf, ArePostings, DictionaryEntry, HasPosition, IsEntryOf, IsPosting, Parts, Posting, terms_of}
+use Rattle.ix_text.specs.Parts.{ArePartsOf, AreTermPostings, DictionaryEntry, HasPosition, IsEntryOf, IsTermPosting, Parts, Posting, terms_of}
 use Rattle.ix_file.proofs.GramLists.{one_gram_list, one_vocabulary}
 use Rattle.ix_file.specs.IndexText.{IsIndexText, layout}
 use Rattle.ix_file.specs.Sections.{Version}
@@ -58,11 +58,11 @@ one_posting (x ∷ postings) up e f has also same =
     ]
 
 -- each number of the one list is one of the other
-numbers_there : (one other : List Posting) → All IsPosting one → ((number position : ℕ) → HasPosition one number position → HasPosition other number position)
+numbers_there : (one other : List Posting) → All IsTermPosting one → ((number position : ℕ) → HasPosition one number position → HasPosition other number position)
     → (number : ℕ) → Contains (map number_of one) number → Contains (map number_of other) number
 numbers_there one other each moves number has =
     let (posting, there, is) = contained_from_map number_of one number has in
-    let some = (All-contains IsPosting one posting each there).0 in
+    let some = (All-contains IsTermPosting one posting each there).0 in
     let position = get_or posting.1 0 0 in
     let held : HasPosition one posting.0 position = record { positions = posting.1; among = there; positioned = Contains-get_or posting.1 0 0 some } in
     let moved = moves posting.0 position held in
@@ -77,7 +77,7 @@ positions_there one other up moves e f has also same position in_e =
     subst (λ (posting : Posting). Contains posting.1 position) is moved.positioned
 
 -- which number has which position tells the list
-one_list : (one other : List Posting) → ArePostings one → ArePostings other → ((number position : ℕ) → HasPosition one number position ↔ HasPosition other number position) → one ≡ other
+one_list : (one other : List Posting) → AreTermPostings one → AreTermPostings other → ((number position : ℕ) → HasPosition one number position ↔ HasPosition other number position) → one ≡ other
 one_list one other p q same =
     let there = λ (n k : ℕ). (same n k).0 in
     let back = λ (n k : ℕ). (same n k).1 in
@@ -85,7 +85,7 @@ one_list one other p q same =
     let up_other = sorted_from_strictly_increasing (map number_of other) q.ascending in
     let numbers = one_ascending nat_cmp_total (map number_of one) (map number_of other) up_one up_other (λ n. (numbers_there one other p.each there n, numbers_there other one q.each back n)) in
     one_by_map number_of one other numbers (λ e f has also alike.
-    let sorted = λ (xs : List Posting) (x : Posting) (all : All IsPosting xs) (in_xs : Contains xs x). sorted_from_strictly_increasing x.1 (All-contains IsPosting xs x all in_xs).1 in
+    let sorted = λ (xs : List Posting) (x : Posting) (all : All IsTermPosting xs) (in_xs : Contains xs x). sorted_from_strictly_increasing x.1 (All-contains IsTermPosting xs x all in_xs).1 in
     let positions = one_ascending nat_cmp_total e.1 f.1 (sorted one e p.each has) (sorted other f q.each also)
     (λ k. (positions_there one other up_other there e f has also alike k, positions_there other one up_one back f e also has (sym alike) k)) in
     ap₂ (λ (n : ℕ) (ps : List ℕ). let posting : Posting = (n, ps) in posting) alike positions)

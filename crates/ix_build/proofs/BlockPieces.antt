@@ -6,7 +6,7 @@ use Rattle.std.proofs.lemmas.List.{length-map, map-append}
 use Rattle.std.proofs.lemmas.List.Elements.{All-head, All-cons, All-nil, All-map, All-weaker, All-contains}
 use Rattle.std.proofs.lemmas.List.Sums.{sum_by-cons, sum_by-append}
 use Rattle.std.proofs.lemmas.Option.{slice_get-map}
-use Rattle.ix_text.specs.Collections.{Collection, Document, NamedText, collection_of, token_count}
+use Rattle.ix_text.specs.Collections.{Collection, Document, NamedText, collection_of, token_total}
 use Rattle.ix_text.specs.Parts.{DocumentRow, row_of}
 use Rattle.ix_text.proofs.PartsLawful.{sum_by-map}
 use Rattle.ix_run.specs.Heads.{Heading}
@@ -139,7 +139,7 @@ no_difference stop blocks differ =
     differ.stops.differ
     (All-contains Same headings differ.stops.one all differ.stops.among ∙ sym (All-contains Same headings differ.stops.other all differ.stops.among_too))
 
-tokens : (first : ℕ) (stop : List (List ℕ)) (blocks : List (List NamedText)) → tokens_under (headings_from first stop blocks) ≡ token_count (collection_of stop (all_in blocks))
+tokens : (first : ℕ) (stop : List (List ℕ)) (blocks : List (List NamedText)) → tokens_under (headings_from first stop blocks) ≡ token_total (collection_of stop (all_in blocks))
 tokens first stop [] = ap (λ (l : List Document). sum_by (λ d. length d.tokens) l) (sym (documents_none stop))
 tokens first stop (block ∷ blocks) =
     let size : Document → ℕ = λ d. length d.tokens in
@@ -152,7 +152,7 @@ tokens first stop (block ∷ blocks) =
     let joined = ap (λ (l : List Document). sum_by size l) (documents_joined stop block (all_in blocks)) in
     omega (arith, here, rest, more, both, joined)
 
-pub not_too_large : (stop : List (List ℕ)) (blocks : List (List NamedText)) → token_count (collection_of stop (all_in blocks)) ≤ 2 ^ 28 → AreTooLarge (headings_from 0 stop blocks) → ⊥
+pub not_too_large : (stop : List (List ℕ)) (blocks : List (List NamedText)) → token_total (collection_of stop (all_in blocks)) ≤ 2 ^ 28 → AreTooLarge (headings_from 0 stop blocks) → ⊥
 not_too_large stop blocks few large = let all = tokens 0 stop blocks in omega (arith, all, few, large.many)
 
 -- ---- their concatenation

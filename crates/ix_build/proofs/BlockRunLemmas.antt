@@ -3,7 +3,7 @@ use Rattle.std.proofs.Common.{◌≡◌, ℕ, ◌-◌, ◌^◌, ◌≤◌, List,
 use Rattle.std.specs.Prelude.{slice_range, sum_by}
 use Rattle.std.proofs.lemmas.List.{drop-map, length-drop, length-map, length-take, take-map}
 use Rattle.std.proofs.lemmas.List.Sums.{sum_by-take-drop, sum_by-take-le}
-use Rattle.ix_text.specs.Collections.{Document, NamedText, collection_of, token_count}
+use Rattle.ix_text.specs.Collections.{Document, NamedText, collection_of, token_total}
 use Rattle.ix_text.specs.TokenLists.{token_list}
 use Rattle.ix_run.specs.Runs.{IsTooLarge}
 
@@ -26,7 +26,7 @@ document : List (List ℕ) → NamedText → Document
 document stop d = record { name = d.name; tokens = token_list stop d.text }
 
 -- a block of few documents, which have few tokens, has a run
-pub block_is_small : {X : Type 0} (stop : List (List ℕ)) (f : X → NamedText) (docs : List X) (from to : ℕ) → from ≤ to → to ≤ length docs → length docs ≤ 2 ^ 28 → token_count (collection_of stop (map f docs)) ≤ 2 ^ 28
+pub block_is_small : {X : Type 0} (stop : List (List ℕ)) (f : X → NamedText) (docs : List X) (from to : ℕ) → from ≤ to → to ≤ length docs → length docs ≤ 2 ^ 28 → token_total (collection_of stop (map f docs)) ≤ 2 ^ 28
     → IsTooLarge from (collection_of stop (map f (slice_range docs from to))) → ⊥
 unfolding collection_of document
 block_is_small stop f docs from to order within few few_tokens (inl numbers) =

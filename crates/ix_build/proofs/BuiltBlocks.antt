@@ -5,7 +5,7 @@ use Rattle.std.proofs.lemmas.List.{append_assoc, drop_at, length-map, take_at}
 use Rattle.std.proofs.lemmas.Option.{none-some, same_Some}
 use Rattle.ix_board.proofs.Endings.{get-map}
 use Rattle.ix_board.proofs.SliceGets.{get-within}
-use Rattle.ix_text.specs.Collections.{NamedText, collection_of, token_count}
+use Rattle.ix_text.specs.Collections.{NamedText, collection_of, token_total}
 use Rattle.ix_text.specs.Parts.{row_of}
 use Rattle.ix_file.specs.Endings.{WritesIndexText}
 use Rattle.ix_run.specs.Heads.{Heading}
@@ -139,7 +139,7 @@ module _ (texts : List NamedText) (stop : List (List ℕ)) (bounds : List ℕ) (
         })
 
     -- a merge of them is not refused for what they are
-    pub blocks_refused : {E : Type 0} → token_count (collection_of stop texts) ≤ 2 ^ 28 → (error : MergeError E) → IsRefusal (headings_of runs) error → MayComeOfMerge error
+    pub blocks_refused : {E : Type 0} → token_total (collection_of stop texts) ≤ 2 ^ 28 → (error : MergeError E) → IsRefusal (headings_of runs) error → MayComeOfMerge error
     blocks_refused {E} few error refusal = by error (subst (λ (hs : List Heading). IsRefusal hs error) headings_are refusal)
       where
         by : (e : MergeError E) → IsRefusal (headings_from 0 stop blocks) e → MayComeOfMerge e
@@ -148,7 +148,7 @@ module _ (texts : List NamedText) (stop : List (List ℕ)) (bounds : List ℕ) (
         by StopDiffers differ = no_difference stop blocks differ
         by (Source place e) refused = tt
         by TooLarge large =
-            let P : List NamedText → Type 0 = λ l. token_count (collection_of stop l) ≤ 2 ^ 28 in
+            let P : List NamedText → Type 0 = λ l. token_total (collection_of stop l) ≤ 2 ^ 28 in
             not_too_large stop blocks (subst P (sym whole) few) large
         by Write refused = tt
         by Memory refused = tt

@@ -5,7 +5,7 @@ use Rattle.std.proofs.lemmas.List.{length-map}
 use Rattle.std.proofs.lemmas.Option.{none-some, same_Some, slice_get_within}
 use Rattle.ix_board.proofs.Endings.{get-map}
 use Rattle.ix_board.proofs.SliceGets.{get-within}
-use Rattle.ix_text.specs.Collections.{NamedText, collection_of, token_count}
+use Rattle.ix_text.specs.Collections.{NamedText, collection_of, token_total}
 use Rattle.ix_text.specs.Parts.{row_of}
 use Rattle.ix_file.specs.Endings.{WritesIndexText}
 use Rattle.ix_run.specs.Heads.{Heading, heading_of, parts_with}
@@ -95,7 +95,7 @@ module _ (texts : List NamedText) (stop : List (List ℕ)) (bounds : List ℕ) (
   heads_are = sym runs.1 ∙ headings_are texts stop bounds blocks whole bounds_are some runs.0 before now are
 
   -- they are not refused for what they are
-  pub heads_merge : token_count (collection_of stop texts) ≤ 2 ^ 28 → MayBeMerged (map heading_of heads)
+  pub heads_merge : token_total (collection_of stop texts) ≤ 2 ^ 28 → MayBeMerged (map heading_of heads)
   heads_merge few error refusal =
       blocks_refused texts stop bounds blocks whole bounds_are some runs.0 before now are few error
       (subst (λ (hs : List Heading). IsRefusal hs error) (sym runs.1) refusal)

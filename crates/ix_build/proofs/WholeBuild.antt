@@ -1,6 +1,6 @@
 -- Building by makers of the blocks of a cut: what it writes, which errors come, and what they leave.
 use Rattle.std.proofs.Common.{◌≡◌, ℕ, ◌+◌, ◌<◌, ◌≤◌, ◌^◌, List, [], ◌∷◌, length, All, Option, ap, inl, arith, length-append}
-use Rattle.ix_text.specs.Collections.{NamedText, collection_of, token_count}
+use Rattle.ix_text.specs.Collections.{NamedText, collection_of, token_total}
 use Rattle.ix_file.specs.Endings.{WritesIndexText}
 use Rattle.ix_run.specs.Runs.{RunValue}
 use Rattle.ix_build.specs.AlikeFronts.{LeavesAlikeFront}
@@ -48,7 +48,7 @@ module _ (cut : Cut) (texts : List NamedText) (bounds : List ℕ) (are : AreBoun
     all_written built =
         blocks_written texts stop bounds are.blocks are.of_cut.whole are.bounds_are some_block built.runs before now (runs_are built.runs built.made) built.written
 
-    pub may_come : token_count (collection_of stop texts) ≤ 2 ^ 28 → (error : ByError) → FailsToBuild asked_of GivesRun StaysMakerOf makers count after before now error → MayComeOfBlocks error
+    pub may_come : token_total (collection_of stop texts) ≤ 2 ^ 28 → (error : ByError) → FailsToBuild asked_of GivesRun StaysMakerOf makers count after before now error → MayComeOfBlocks error
     may_come few (Thread worker) fails = tt
     may_come few (Make place make.Refused) fails = none_refused texts stop bounds makers after each count place size fails.0
     may_come few (Make place make.Memory) fails = tt

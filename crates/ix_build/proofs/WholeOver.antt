@@ -2,7 +2,7 @@
 use Rattle.std.proofs.Common.{◌≡◌, ℕ, ◌+◌, ◌<◌, ◌≤◌, ◌^◌, List, [], length, map, Option, refl, ap, subst, inl, inr, arith}
 use Rattle.std.specs.Prelude.{None, Some, slice_get, slice_set}
 use Rattle.std.specs.Io.KnownBytes.{Keeps}
-use Rattle.ix_text.specs.Collections.{NamedText, collection_of, token_count}
+use Rattle.ix_text.specs.Collections.{NamedText, collection_of, token_total}
 use Rattle.ix_text.specs.Sizes.{AreSmall}
 use Rattle.ix_text.proofs.SizeLemmas.{tokens_no_more_than_bytes}
 use Rattle.ix_file.specs.Endings.{WritesIndexText}
@@ -29,7 +29,7 @@ keeps_itself None = tt
 keeps_itself (Some bytes) = refl
 
 -- small documents have few tokens
-pub few_tokens : (stop : List (List ℕ)) (texts : List NamedText) → AreSmall texts → token_count (collection_of stop texts) ≤ 2 ^ 28
+pub few_tokens : (stop : List (List ℕ)) (texts : List NamedText) → AreSmall texts → token_total (collection_of stop texts) ≤ 2 ^ 28
 few_tokens stop texts small =
     let few = tokens_no_more_than_bytes stop texts in
     let short = small.short in
@@ -83,7 +83,7 @@ module _ (cut : Cut) (texts : List NamedText) (bounds : List ℕ) (are : AreBoun
     pub as_many_heads : length heads ≡ count
     as_many_heads = let many = of_blocks.as_many in omega (arith, many, size)
 
-    pub over_merge : token_count (collection_of stop texts) ≤ 2 ^ 28 → MayBeMerged (map heading_of heads)
+    pub over_merge : token_total (collection_of stop texts) ≤ 2 ^ 28 → MayBeMerged (map heading_of heads)
     over_merge few = heads_merge texts stop bounds are.blocks are.of_cut.whole are.bounds_are (some_block cut texts bounds are) heads long of_blocks.each before now few
 
     pub over_left : LeavesFront (map heading_of heads) before now → LeavesAlikeFront (collection_of stop texts) before now

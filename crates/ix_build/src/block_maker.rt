@@ -1,7 +1,7 @@
 //! A maker of runs, which inverts blocks of documents.
 
 ghost use Rattle.std.specs.Prelude.{◌≡◌, ◌+◌, ◌^◌, ◌≤◌, [], map, length, Some, IfSome, IfNone, slice_get};
-ghost use Rattle.ix_text.specs.Collections.{collection_of, token_count};
+ghost use Rattle.ix_text.specs.Collections.{collection_of, token_total};
 ghost use Rattle.ix_text.specs.Docs.{named_text};
 ghost use Rattle.ix_text.specs.Sizes.{AreSmall};
 ghost use Rattle.ix_build.specs.Blocks.{AscendUpTo};
@@ -23,7 +23,7 @@ pub(crate) struct BlockMaker<'a> {
     pub(crate) asked: Vec<Asked>,
     ghost ascending: { AscendUpTo (length docs.now) bounds.now },
     ghost few_documents: { length docs.now ≤ 2 ^ 28 },
-    ghost few_tokens: { token_count (collection_of stop.now (map named_text docs.now)) ≤ 2 ^ 28 },
+    ghost few_tokens: { token_total (collection_of stop.now (map named_text docs.now)) ≤ 2 ^ 28 },
 }
 
 impl<'a> BlockMaker<'a> {

@@ -12,9 +12,9 @@ use Rattle.ix_file.specs.IndexText.{magic}
 use Rattle.ix_file.specs.Sections.{FrontCoded, stop_section, documents_section, postings_section}
 use Rattle.ix_file.specs.Told.{told_first, settled_front}
 use Rattle.ix_file.specs.SectionSteps.{Begins}
-use Rattle.ix_file.specs.Telling.{SectionsTold, IsTold}
+use Rattle.ix_file.specs.Telling.{HoldTold, IsTold}
 use Rattle.ix_file.specs.declared.put_error.PutError.{PutError}
-use Rattle.ix_file.specs.declared.sections.Sections.{Sections}
+use Rattle.ix_file.specs.declared.sections.WriterSections.{WriterSections}
 use Rattle.ix_file.proofs.DictionaryLemmas.{dictionary_none}
 
 -- one element more of a section
@@ -62,7 +62,7 @@ short_term f xs i d within terms =
     omega (arith, term.short, ap length (get_or-map f xs i d [] within))
 
 -- the first of what is told
-pub kept_first : (sections : Sections) (stop : List (List ℕ)) (rows : List DocumentRow) → Begins sections stop rows → SectionsTold sections (told_first stop rows)
+pub kept_first : (sections : WriterSections) (stop : List (List ℕ)) (rows : List DocumentRow) → Begins sections stop rows → HoldTold sections (told_first stop rows)
 unfolding postings_section
 kept_first sections stop rows begins = record {
   stop = begins.stop_terms;
@@ -84,7 +84,7 @@ unfolding postings_section
 settled_front-first stop rows = append-nil (magic FrontCoded)
 
 -- nothing went out yet
-pub told_at_first : (known : Option (List ℕ)) (sections : Sections) (stop : List (List ℕ)) (rows : List DocumentRow) → Begins sections stop rows → IsTold known known sections (told_first stop rows)
+pub told_at_first : (known : Option (List ℕ)) (sections : WriterSections) (stop : List (List ℕ)) (rows : List DocumentRow) → Begins sections stop rows → IsTold known known sections (told_first stop rows)
 told_at_first known sections stop rows begins = record {
   ready = begins.ready;
   kept = kept_first sections stop rows begins;
@@ -97,7 +97,7 @@ ok_of_no_error (Ok value) none p = p
 ok_of_no_error (Err error) none p = absurd (cc)
 
 -- who was refused is not ready
-pub not_refused : {P : Type 0} (old new : Sections) (error : PutError) → new ≡ record old { refusal = Some error } → new.refusal ≡ None → P
+pub not_refused : {P : Type 0} (old new : WriterSections) (error : PutError) → new ≡ record old { refusal = Some error } → new.refusal ≡ None → P
 not_refused old new error set ready =
     let no : Some error ≡ None = sym (ap (λ s. s.refusal) set) ∙ ready in
     absurd (cc)

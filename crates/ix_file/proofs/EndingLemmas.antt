@@ -14,10 +14,10 @@ use Rattle.ix_file.specs.GramTables.{HoldsGrams}
 use Rattle.ix_file.specs.IndexText.{IsIndexText, end_mark, layout, tail}
 use Rattle.ix_file.specs.SectionSteps.{Closes, KeepsTold}
 use Rattle.ix_file.specs.Sections.{FrontCoded, postings_section, stop_section, documents_section, dictionary_section, grams_section}
-use Rattle.ix_file.specs.Telling.{IsDictionaryOf, SectionsTold, Spells, IsClosable}
+use Rattle.ix_file.specs.Telling.{IsDictionaryOf, HoldTold, Spells, IsClosable}
 use Rattle.ix_file.specs.Told.{Told, entries_of, parts_of, settled_front}
 use Rattle.ix_file.specs.declared.put_error.PutError.{PutError}
-use Rattle.ix_file.specs.declared.sections.Sections.{Sections}
+use Rattle.ix_file.specs.declared.sections.WriterSections.{WriterSections}
 use Rattle.ix_file.specs.declared.writer.trailer.Trailer.{Trailer}
 use Rattle.ix_file.proofs.DictionaryLemmas.{dictionary_closed}
 use Rattle.ix_file.proofs.TellingLemmas.{kept_again, refusal_set}
@@ -61,11 +61,11 @@ eight_appended out one two three four five six seven eight a b c d e f g h a' b'
     regroup = simp append_assoc
 
 -- the trailer of what is kept, field by field
-pub trailer_is : (sections : Sections) (stop documents dictionary grams length_of_grams : ℕ) → stop ≡ length sections.stop.items → documents ≡ length sections.documents.items → dictionary ≡ length sections.dictionary.bytes.items → grams ≡ length_of_grams → (let t : Trailer = record { postings = sections.postings; stop = stop; documents = documents; dictionary = dictionary; grams = grams; rows = sections.rows; entries = sections.dictionary.count } in t) ≡ trailer_of sections length_of_grams
+pub trailer_is : (sections : WriterSections) (stop documents dictionary grams length_of_grams : ℕ) → stop ≡ length sections.stop.items → documents ≡ length sections.documents.items → dictionary ≡ length sections.dictionary.bytes.items → grams ≡ length_of_grams → (let t : Trailer = record { postings = sections.postings; stop = stop; documents = documents; dictionary = dictionary; grams = grams; rows = sections.rows; entries = sections.dictionary.count } in t) ≡ trailer_of sections length_of_grams
 trailer_is sections stop documents dictionary grams length_of_grams p q r s = cc
 
 -- GRAMS and the trailer, as they were appended
-pub is_ending : (sections : Sections) (terms : List (List ℕ)) (grams ending : List ℕ) (trailer : Trailer) → AppendsGrams terms [] grams → trailer ≡ trailer_of sections (length grams) → ending ≡ grams ++ trailer_bytes trailer → IsEnding sections terms ending
+pub is_ending : (sections : WriterSections) (terms : List (List ℕ)) (grams ending : List ℕ) (trailer : Trailer) → AppendsGrams terms [] grams → trailer ≡ trailer_of sections (length grams) → ending ≡ grams ++ trailer_bytes trailer → IsEnding sections terms ending
 is_ending sections terms grams ending trailer appended same spelled = record {
   grams = appended.grams;
   of_terms = appended.of_terms;
@@ -74,7 +74,7 @@ is_ending sections terms grams ending trailer appended same spelled = record {
 
 -- ---- the tail of the text
 -- what is kept at the end: all entries are in the dictionary
-pub record IsClosed (sections : Sections) (told : Told) : Type 0 where
+pub record IsClosed (sections : WriterSections) (told : Told) : Type 0 where
   pub stop : sections.stop.items ≡ stop_section told.stop
   pub documents : sections.documents.items ≡ documents_section told.rows
   pub rows : sections.rows ≡ length told.rows
@@ -82,10 +82,10 @@ pub record IsClosed (sections : Sections) (told : Told) : Type 0 where
   pub grams : HoldsGrams sections.grams (terms_of (entries_of told))
   pub postings : sections.postings ≡ length (postings_section (entries_of told))
 
-pub closed : (old taken new : Sections) (refusal : Option PutError) (told : Told) → SectionsTold old told → IsClosable told → taken ≡ record old { refusal = refusal } → Closes taken new → IsClosed new told
+pub closed : (old taken new : WriterSections) (refusal : Option PutError) (told : Told) → HoldTold old told → IsClosable told → taken ≡ record old { refusal = refusal } → Closes taken new → IsClosed new told
 closed old taken new refusal told kept may e closes =
-    let P : Sections → Type 0 = λ s. SectionsTold s told in
-    let again : SectionsTold taken told = kept_again old taken told kept (refusal_set old taken refusal e) in
+    let P : WriterSections → Type 0 = λ s. HoldTold s told in
+    let again : HoldTold taken told = kept_again old taken told kept (refusal_set old taken refusal e) in
     record {
       stop = ap (λ v. v.items) closes.front.stop ∙ again.stop;
       documents = ap (λ v. v.items) closes.front.documents ∙ again.documents;
@@ -108,7 +108,7 @@ told_trailer told grams =
       entries = length (entries_of told);
     }
 
-trailer_told : (sections : Sections) (told : Told) (grams : List GramEntry) → IsClosed sections told → trailer_of sections (length (grams_section grams)) ≡ told_trailer told grams
+trailer_told : (sections : WriterSections) (told : Told) (grams : List GramEntry) → IsClosed sections told → trailer_of sections (length (grams_section grams)) ≡ told_trailer told grams
 unfolding told_trailer
 trailer_told sections told grams of =
     let stop : length sections.stop.items ≡ length (stop_section told.stop) = ap length of.stop in
@@ -131,7 +131,7 @@ tail_of_trailer told grams =
     (to_le_bytes w32 (length (entries_of told))) (end_mark FrontCoded)
 
 -- the four parts behind POSTINGS are the tail
-tail_spelled : (sections : Sections) (told : Told) (ending : List ℕ) (is : IsEnding sections (terms_of (entries_of told)) ending) → IsClosed sections told → sections.stop.items ++ sections.documents.items ++ sections.dictionary.bytes.items ++ ending ≡ tail FrontCoded (parts_of told) is.grams
+tail_spelled : (sections : WriterSections) (told : Told) (ending : List ℕ) (is : IsEnding sections (terms_of (entries_of told)) ending) → IsClosed sections told → sections.stop.items ++ sections.documents.items ++ sections.dictionary.bytes.items ++ ending ≡ tail FrontCoded (parts_of told) is.grams
 tail_spelled sections told ending is of =
     ap₂ (λ stop documents. stop ++ documents ++ sections.dictionary.bytes.items ++ ending) of.stop of.documents
     ∙ ap₂ (λ dictionary bytes. stop_section told.stop ++ documents_section told.rows ++ dictionary ++ bytes) of.dictionary.bytes is.spelled
@@ -147,7 +147,7 @@ pub front_of_layout : (before now : Option (List ℕ)) (told : Told) (grams : Li
 front_of_layout before now told grams part = subst (λ bytes. AppendsFront before now bytes) (sym (layout_of told grams)) (front_more before now (settled_front told) (tail FrontCoded (parts_of told) grams) part)
 
 -- the whole text went out
-pub finished : (before sent new : Option (List ℕ)) (pending : List ℕ) (sections : Sections) (told : Told) (ending : List ℕ) → Spells before sent pending (settled_front told) → pending ≡ [] → IsClosed sections told → IsEnding sections (terms_of (entries_of told)) ending → Appends sent new (sections.stop.items ++ sections.documents.items ++ sections.dictionary.bytes.items ++ ending) → IsFinished before new told
+pub finished : (before sent new : Option (List ℕ)) (pending : List ℕ) (sections : WriterSections) (told : Told) (ending : List ℕ) → Spells before sent pending (settled_front told) → pending ≡ [] → IsClosed sections told → IsEnding sections (terms_of (entries_of told)) ending → Appends sent new (sections.stop.items ++ sections.documents.items ++ sections.dictionary.bytes.items ++ ending) → IsFinished before new told
 finished before sent new pending sections told ending spells none of is gained =
     let front : Appends before sent (settled_front told) = all_spelled before sent pending (settled_front told) spells none in
     let back : Appends sent new (tail FrontCoded (parts_of told) is.grams) = subst (λ bytes. Appends sent new bytes) (tail_spelled sections told ending is of) gained in
@@ -158,7 +158,7 @@ finished before sent new pending sections told ending spells none of is gained =
     }
 
 -- a front of the tail went out behind what is settled
-pub front_of_tail : (before sent new : Option (List ℕ)) (pending : List ℕ) (sections : Sections) (told : Told) (ending : List ℕ) (grams : List GramEntry) → Spells before sent pending (settled_front told) → pending ≡ [] → IsClosed sections told → IsEnding sections (terms_of (entries_of told)) ending → AreGramsOfTerms (terms_of (entries_of told)) grams → AppendsFront sent new (sections.stop.items ++ sections.documents.items ++ sections.dictionary.bytes.items ++ ending) → AppendsFront before new (layout FrontCoded (parts_of told) grams)
+pub front_of_tail : (before sent new : Option (List ℕ)) (pending : List ℕ) (sections : WriterSections) (told : Told) (ending : List ℕ) (grams : List GramEntry) → Spells before sent pending (settled_front told) → pending ≡ [] → IsClosed sections told → IsEnding sections (terms_of (entries_of told)) ending → AreGramsOfTerms (terms_of (entries_of told)) grams → AppendsFront sent new (sections.stop.items ++ sections.documents.items ++ sections.dictionary.bytes.items ++ ending) → AppendsFront before new (layout FrontCoded (parts_of told) grams)
 front_of_tail before sent new pending sections told ending grams spells none of is others part =
     let front : Appends before sent (settled_front told) = all_spelled before sent pending (settled_front told) spells none in
     let same : is.grams ≡ grams = one_of_terms (terms_of (entries_of told)) is.grams grams is.of_terms others in
@@ -180,12 +180,12 @@ finished_keeps before sent new told is keeps = record {
 }
 
 -- the text that is settled is spelled on where nothing that was told changes
-pub spells_on : (before now : Option (List ℕ)) (old taken new : Sections) (refusal : Option PutError) (text : List ℕ) → Spells before now old.pending.items text → taken ≡ record old { refusal = refusal } → Closes taken new → Spells before now new.pending.items text
+pub spells_on : (before now : Option (List ℕ)) (old taken new : WriterSections) (refusal : Option PutError) (text : List ℕ) → Spells before now old.pending.items text → taken ≡ record old { refusal = refusal } → Closes taken new → Spells before now new.pending.items text
 spells_on before now old taken new refusal text spells e closes =
     subst (λ bytes. Spells before now bytes text) (sym (ap (λ v. v.items) closes.pending ∙ ap (λ s. s.pending.items) e)) spells
 
 -- what is kept stays where only the grams were put in order
-pub ending_kept : (old new last : Sections) (told : Told) (ending : List ℕ) → IsClosed old told → IsEnding old (terms_of (entries_of told)) ending → KeepsTold new last → new ≡ record old { grams = new.grams } → (last.stop.items ++ last.documents.items ++ last.dictionary.bytes.items ++ ending ≡ old.stop.items ++ old.documents.items ++ old.dictionary.bytes.items ++ ending)
+pub ending_kept : (old new last : WriterSections) (told : Told) (ending : List ℕ) → IsClosed old told → IsEnding old (terms_of (entries_of told)) ending → KeepsTold new last → new ≡ record old { grams = new.grams } → (last.stop.items ++ last.documents.items ++ last.dictionary.bytes.items ++ ending ≡ old.stop.items ++ old.documents.items ++ old.dictionary.bytes.items ++ ending)
 ending_kept old new last told ending of is keeps e =
     let stop : last.stop ≡ old.stop = keeps.front.stop ∙ ap (λ s. s.stop) e in
     let documents : last.documents ≡ old.documents = keeps.front.documents ∙ ap (λ s. s.documents) e in
@@ -193,7 +193,7 @@ ending_kept old new last told ending of is keeps e =
     cc
 
 -- and it is spelled on where the ending was made
-pub spells_ending : (before now : Option (List ℕ)) (old new : Sections) (text : List ℕ) → Spells before now old.pending.items text → new ≡ record old { grams = new.grams } → Spells before now new.pending.items text
+pub spells_ending : (before now : Option (List ℕ)) (old new : WriterSections) (text : List ℕ) → Spells before now old.pending.items text → new ≡ record old { grams = new.grams } → Spells before now new.pending.items text
 spells_ending before now old new text spells e =
     let same : new.pending.items ≡ old.pending.items = ap (λ s. s.pending.items) e in
     subst (λ bytes. Spells before now bytes text) (sym same) spells

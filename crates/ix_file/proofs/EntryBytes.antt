@@ -5,7 +5,7 @@ use Rattle.std.proofs.lemmas.List.Concat.{length-flat_map}
 use Rattle.std.proofs.lemmas.List.Elements.{All-head, All-tail, All-weaker}
 use Rattle.std.proofs.lemmas.List.Sums.{sum_by-cons}
 use Rattle.std.specs.List.{common_prefix_len}
-use Rattle.ix_text.specs.Parts.{Parts, Posting, DictionaryEntry, DocumentRow, GramEntry, IsGramEntry, IsPosting, terms_of}
+use Rattle.ix_text.specs.Parts.{Parts, Posting, DictionaryEntry, DocumentRow, GramEntry, IsGramEntry, IsTermPosting, terms_of}
 use Rattle.ix_text.specs.PartsLaws.{AreLawful}
 use Rattle.ix_text.specs.Terms.{IsTerm}
 use Rattle.ix_text.proofs.PartsLawful.{lawful_parts}
@@ -64,10 +64,10 @@ posting_long gap posting some =
     let third = gaps_long 0 posting.1 some in
     simp length-append (omega (arith, first, second, third))
 
-list_long : (next : ℕ) (postings : List Posting) → 0 < length postings → All IsPosting postings → 3 ≤ length (list_bytes_from next postings)
+list_long : (next : ℕ) (postings : List Posting) → 0 < length postings → All IsTermPosting postings → 3 ≤ length (list_bytes_from next postings)
 list_long next [] some are = absurd (omega arith)
 list_long next (p ∷ ps) some are =
-    omega (arith, posting_long (p.0 + 1 - next) p (All-head IsPosting p ps are).0, length-append (posting_bytes (p.0 + 1 - next) p) (list_bytes_from (p.0 + 1) ps))
+    omega (arith, posting_long (p.0 + 1 - next) p (All-head IsTermPosting p ps are).0, length-append (posting_bytes (p.0 + 1 - next) p) (list_bytes_from (p.0 + 1) ps))
 
 lists_long : (parts : Parts) → AreLawful parts → length parts.entries * 3 ≤ length (postings_section parts.entries)
 unfolding postings_section

@@ -7,7 +7,7 @@ use Rattle.std.proofs.lemmas.Slice.Eq.{slice_eq-Decides}
 use Rattle.std.proofs.lemmas.Nat.{le_bytes_4, le_bytes_8, from_le_bytes-to_le_bytes_4, from_le_bytes-to_le_bytes_8}
 use Rattle.std.specs.Int.{to_le_bytes, from_le_bytes, w32, w64}
 use Rattle.ix_vbyte.proofs.Pieces.{fronts_apart}
-use Rattle.ix_file.specs.Frames.{SectionTexts, eight, four, joined_sections, lengths, counts, framed, IsCutInto}
+use Rattle.ix_file.specs.Frames.{FileSectionTexts, eight, four, joined_sections, lengths, counts, framed, IsCutInto}
 use Rattle.ix_file.specs.IndexText.{magic, end_mark}
 use Rattle.ix_file.specs.Sections.{Version, Plain, FrontCoded}
 use Rattle.ix_file.proofs.TextLaws.{length-magic, length-end_mark}
@@ -32,20 +32,20 @@ four_apart m n xs ys small low e =
     let r = fronts_apart (to_le_bytes w32 m) (to_le_bytes w32 n) xs ys refl e in
     (sym (from_le_bytes-to_le_bytes_4 m small) ∙ ap (from_le_bytes w32) r.0 ∙ from_le_bytes-to_le_bytes_4 n low, r.1)
 
-pub length-lengths : (texts : SectionTexts) → length (lengths texts) ≡ 40
+pub length-lengths : (texts : FileSectionTexts) → length (lengths texts) ≡ 40
 length-lengths texts = simp (length-append, length-eight) refl
 
-length-numbers : (texts : SectionTexts) (documents terms : ℕ) → length (lengths texts ++ counts documents terms) ≡ 48
+length-numbers : (texts : FileSectionTexts) (documents terms : ℕ) → length (lengths texts ++ counts documents terms) ≡ 48
 length-numbers texts documents terms = simp (length-append, length-eight, length-four) refl
 
-pub record IsFrameOf (mark body sizes numbers final : List ℕ) (version : Version) (texts : SectionTexts) (documents terms : ℕ) : Type 0 where
+pub record IsFrameOf (mark body sizes numbers final : List ℕ) (version : Version) (texts : FileSectionTexts) (documents terms : ℕ) : Type 0 where
   pub mark_is : mark ≡ magic version
   pub body_is : body ≡ joined_sections texts
   pub sizes_are : sizes ≡ lengths texts
   pub numbers_are : numbers ≡ counts documents terms
   pub final_is : final ≡ end_mark version
 
-pub frame_of : (bytes mark body sizes numbers final : List ℕ) → IsCutInto bytes mark body sizes numbers final → (version : Version) (texts : SectionTexts) (documents terms : ℕ) → bytes ≡ framed version texts documents terms → IsFrameOf mark body sizes numbers final version texts documents terms
+pub frame_of : (bytes mark body sizes numbers final : List ℕ) → IsCutInto bytes mark body sizes numbers final → (version : Version) (texts : FileSectionTexts) (documents terms : ℕ) → bytes ≡ framed version texts documents terms → IsFrameOf mark body sizes numbers final version texts documents terms
 unfolding framed
 frame_of bytes mark body sizes numbers final is version texts documents terms e =
     let trailer = lengths texts ++ counts documents terms in
@@ -59,7 +59,7 @@ frame_of bytes mark body sizes numbers final is version texts documents terms e 
     let fourth = fronts_apart sizes (lengths texts) numbers (counts documents terms) (is.sizes_length ∙ sym (length-lengths texts)) third.0 in
     record { mark_is = first.0; body_is = second.0; sizes_are = fourth.0; numbers_are = fourth.1; final_is = third.1 }
 
-pub framed_from : (bytes mark body sizes numbers final : List ℕ) → IsCutInto bytes mark body sizes numbers final → (version : Version) (texts : SectionTexts) (documents terms : ℕ) → IsFrameOf mark body sizes numbers final version texts documents terms → bytes ≡ framed version texts documents terms
+pub framed_from : (bytes mark body sizes numbers final : List ℕ) → IsCutInto bytes mark body sizes numbers final → (version : Version) (texts : FileSectionTexts) (documents terms : ℕ) → IsFrameOf mark body sizes numbers final version texts documents terms → bytes ≡ framed version texts documents terms
 unfolding framed
 framed_from bytes mark body sizes numbers final cut version texts documents terms is =
     let join : List ℕ → List ℕ → List ℕ = λ xs ys. xs ++ ys in
@@ -78,7 +78,7 @@ pub counts_apart : (documents terms m n : ℕ) → documents < 2 ^ 32 → m < 2 
 counts_apart documents terms m n low small e = (four_apart documents m (four terms) (four n) low small e).0
 
 -- fewer bytes than a frame has
-pub length-framed : (version : Version) (texts : SectionTexts) (documents terms : ℕ) → 64 ≤ length (framed version texts documents terms)
+pub length-framed : (version : Version) (texts : FileSectionTexts) (documents terms : ℕ) → 64 ≤ length (framed version texts documents terms)
 unfolding framed
 length-framed version texts documents terms =
     let trailer = lengths texts ++ counts documents terms in

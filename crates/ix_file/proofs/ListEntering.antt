@@ -4,13 +4,13 @@ use Rattle.std.proofs.lemmas.List.{append_assoc, length-append}
 use Rattle.std.proofs.lemmas.List.Elements.{All-head, All-push, All-tail, All-weaker}
 use Rattle.std.proofs.lemmas.Option.{get_or_from_slice_get}
 use Rattle.ix_vbyte.specs.Gaps.{next_after}
-use Rattle.ix_vbyte.specs.Postings.{ArePostings, IsPosting as IsPostingBelow, documents_of, list_bytes, list_bytes_from, posting_bytes}
+use Rattle.ix_vbyte.specs.Postings.{ArePostings, IsTermPosting as IsPostingBelow, documents_of, list_bytes, list_bytes_from, posting_bytes}
 use Rattle.ix_vbyte.specs.Skips.{AreSkips, AreSkipsIn, IsSkip}
 use Rattle.ix_vbyte.specs.declared.skips.Skip.{Skip}
 use Rattle.ix_vbyte.proofs.Gaps.{Ascends-rising}
 use Rattle.ix_vbyte.proofs.Postings.{posting_apart}
 use Rattle.ix_vbyte.proofs.Sizes.{postings_from}
-use Rattle.ix_text.specs.Parts.{DocumentRow, IsPosting, Posting}
+use Rattle.ix_text.specs.Parts.{DocumentRow, IsTermPosting, Posting}
 use Rattle.ix_text.specs.TokenLaws.{IsPostingIn}
 use Rattle.ix_file.specs.LongLists.{IsLongIn}
 use Rattle.ix_file.specs.ReadLists.{list_in}
@@ -45,7 +45,7 @@ pub place_stands : (rows : List DocumentRow) (next done count : ℕ) (bytes left
     → ArePostings 0 (2 ^ 32 - 1) postings → length postings ≡ count → bytes ≡ list_bytes postings → IsSkip postings (record { next = next; left = count - done; size = length left })
 place_stands rows next done count bytes left front postings few have within are counted coded =
     let lawful : ArePostings 0 (2 ^ 32 - 1) front =
-    postings_from (2 ^ 32 - 1) front (Ascends-rising 0 (length rows) (documents_of front) have.ascend) (All-weaker (IsPostingIn rows) IsPosting (λ posting inside. inside.is) front have.each)
+    postings_from (2 ^ 32 - 1) front (Ascends-rising 0 (length rows) (documents_of front) have.ascend) (All-weaker (IsPostingIn rows) IsTermPosting (λ posting inside. inside.is) front have.each)
     (λ k d below. posting_small rows (get_or front k d) few (have.each k d below)) in
     let read : length front ≡ done = have.counted in
     let go = goes 0 front postings left lawful are (omega (arith, read, counted, within)) (sym have.coded ∙ coded) in

@@ -6,7 +6,7 @@ use Rattle.ix_vbyte.specs.Gaps.{Ascends, next_after}
 use Rattle.ix_vbyte.specs.Postings.{documents_of, list_bytes, list_bytes_from, posting_bytes}
 use Rattle.ix_vbyte.proofs.Gaps.{Ascends-from, Ascends-push, Ascends-rising, next_after-push}
 use Rattle.ix_vbyte.proofs.Postings.{list_bytes_from-push}
-use Rattle.ix_text.specs.Parts.{DocumentRow, IsPosting, Posting}
+use Rattle.ix_text.specs.Parts.{DocumentRow, IsTermPosting, Posting}
 use Rattle.ix_text.specs.TokenLaws.{IsPostingIn}
 use Rattle.ix_text.specs.TokenNumbers.{numbers_of_posting, numbers_of_postings}
 use Rattle.ix_text.proofs.TokensApart.{numbers_of_postings-push}
@@ -54,7 +54,7 @@ postings_all rows next count bytes left postings have some none = record {
   are = record {
     some = omega (arith, have.counted, some);
     ascending = Ascends-rising 0 (length rows) (documents_of postings) have.ascend;
-    each = All-weaker (IsPostingIn rows) IsPosting (λ posting inside. inside.is) postings have.each;
+    each = All-weaker (IsPostingIn rows) IsTermPosting (λ posting inside. inside.is) postings have.each;
   };
   each = have.each;
   coded = have.coded ∙ ap (λ bs. list_bytes postings ++ bs) (nil_from_length left none) ∙ append-nil (list_bytes postings);

@@ -15,9 +15,9 @@ use Rattle.ix_file.specs.Sections.{FrontCoded, postings_section}
 use Rattle.ix_file.specs.Told.{Told, entries_of, settled_front, listed, with_postings, position_total}
 use Rattle.ix_file.specs.GramTables.{HoldsGrams}
 use Rattle.ix_file.specs.SectionSteps.{Counts, KeepsTold}
-use Rattle.ix_file.specs.Telling.{IsDictionaryOf, IsListOfEntry, SectionsTold, Spells, MayPost, MayList, CanList}
+use Rattle.ix_file.specs.Telling.{IsDictionaryOf, IsListOfEntry, HoldTold, Spells, MayPost, MayList, CanList}
 use Rattle.ix_file.specs.declared.put_error.PutError.{PutError}
-use Rattle.ix_file.specs.declared.sections.Sections.{Sections}
+use Rattle.ix_file.specs.declared.sections.WriterSections.{WriterSections}
 use Rattle.ix_file.proofs.TellingLemmas.{postings_section-push, position_total-push, terms_of-push, kept_again, refusal_set}
 
 -- ---- lists one after another
@@ -63,13 +63,13 @@ terms_of-listed done entry postings = terms_of-push done entry ∙ sym (terms_of
 
 -- ---- what is kept
 -- the list at hand is that of the entry at hand
-list_of_entry : (sections : Sections) (told : Told) (entry : DictionaryEntry) → SectionsTold sections told → told.at_hand ≡ Some entry → IsListOfEntry sections.list entry
+list_of_entry : (sections : WriterSections) (told : Told) (entry : DictionaryEntry) → HoldTold sections told → told.at_hand ≡ Some entry → IsListOfEntry sections.list entry
 list_of_entry sections told entry kept is =
     let P : Option DictionaryEntry → Type 0 = λ o. MatchOption o (sections.list.documents ≡ 0) (IsListOfEntry sections.list) in
     subst P is kept.list
 
 -- the list of the same entry with postings more
-list_listed : (old new : Sections) (entry : DictionaryEntry) (postings : List Posting) (documents next : ℕ) (bytes : List ℕ) → IsListOfEntry old.list entry → Counts old new documents next (length bytes) → documents ≡ length postings → next ≡ next_after (next_of entry) (documents_of postings) → bytes ≡ list_bytes_from (next_of entry) postings → IsListOfEntry new.list (listed postings entry)
+list_listed : (old new : WriterSections) (entry : DictionaryEntry) (postings : List Posting) (documents next : ℕ) (bytes : List ℕ) → IsListOfEntry old.list entry → Counts old new documents next (length bytes) → documents ≡ length postings → next ≡ next_after (next_of entry) (documents_of postings) → bytes ≡ list_bytes_from (next_of entry) postings → IsListOfEntry new.list (listed postings entry)
 list_listed old new entry postings documents next bytes of step count last coded = record {
   term = ap (λ v. v.items) step.term ∙ of.term;
   documents = step.documents ∙ ap₂ (λ n m. n + m) of.documents count ∙ sym (length-append entry.postings postings);
@@ -88,7 +88,7 @@ coded_short told postings documents next bytes may =
     let short : length (list_bytes_from (next_of may.entry) postings) ≤ 15 * position_count postings = list_short (next_of may.entry) (2 ^ 32 - 1) postings may.follow (omega arith) in
     omega (arith, ap length may.coded)
 
-kept_listed_some : (old new : Sections) (stop : List (List ℕ)) (rows : List DocumentRow) (done : List DictionaryEntry) (entry : DictionaryEntry) (postings : List Posting) (documents next : ℕ) (bytes : List ℕ) → SectionsTold old (record { stop = stop; rows = rows; done = done; at_hand = Some entry }) → Counts old new documents next (length bytes) → length postings ≤ position_count postings → length bytes ≤ 15 * position_count postings → position_total (done ++ entry ∷ []) + position_count postings ≤ 2 ^ 28 → documents ≡ length postings → next ≡ next_after (next_of entry) (documents_of postings) → bytes ≡ list_bytes_from (next_of entry) postings → SectionsTold new (record { stop = stop; rows = rows; done = done; at_hand = Some (listed postings entry) })
+kept_listed_some : (old new : WriterSections) (stop : List (List ℕ)) (rows : List DocumentRow) (done : List DictionaryEntry) (entry : DictionaryEntry) (postings : List Posting) (documents next : ℕ) (bytes : List ℕ) → HoldTold old (record { stop = stop; rows = rows; done = done; at_hand = Some entry }) → Counts old new documents next (length bytes) → length postings ≤ position_count postings → length bytes ≤ 15 * position_count postings → position_total (done ++ entry ∷ []) + position_count postings ≤ 2 ^ 28 → documents ≡ length postings → next ≡ next_after (next_of entry) (documents_of postings) → bytes ≡ list_bytes_from (next_of entry) postings → HoldTold new (record { stop = stop; rows = rows; done = done; at_hand = Some (listed postings entry) })
 kept_listed_some old new stop rows done entry postings documents next bytes kept step each short few count last coded =
     let added = list_bytes_from (next_of entry) postings in
     let same : length bytes ≡ length added = ap length coded in
@@ -116,11 +116,11 @@ kept_listed_some old new stop rows done entry postings documents next bytes kept
     }
 
 -- what is kept follows postings
-pub kept_listed : (old new : Sections) (told : Told) (postings : List Posting) (documents next : ℕ) (bytes : List ℕ) → SectionsTold old told → MayList told postings documents next bytes → Counts old new documents next (length bytes) → SectionsTold new (with_postings told postings)
+pub kept_listed : (old new : WriterSections) (told : Told) (postings : List Posting) (documents next : ℕ) (bytes : List ℕ) → HoldTold old told → MayList told postings documents next bytes → Counts old new documents next (length bytes) → HoldTold new (with_postings told postings)
 kept_listed old new told postings documents next bytes kept may step =
     let at : Option DictionaryEntry → Told = λ o. record { stop = told.stop; rows = told.rows; done = told.done; at_hand = o } in
-    let P : Option DictionaryEntry → Type 0 = λ o. SectionsTold old (at o) in
-    let Q : Option DictionaryEntry → Type 0 = λ o. SectionsTold new (at (option_map (listed postings) o)) in
+    let P : Option DictionaryEntry → Type 0 = λ o. HoldTold old (at o) in
+    let Q : Option DictionaryEntry → Type 0 = λ o. HoldTold new (at (option_map (listed postings) o)) in
     let few : position_total (told.done ++ may.entry ∷ []) + position_count postings ≤ 2 ^ 28 = subst (λ o. position_total (told.done ++ option_to_list o) + position_count postings ≤ 2 ^ 28) may.at_hand may.few in
     subst Q (sym may.at_hand)
     (kept_listed_some old new told.stop told.rows told.done may.entry postings documents next bytes (subst P may.at_hand kept) step
@@ -151,13 +151,13 @@ front_of_list before now pending told postings documents next bytes may spells =
 
 -- ---- whole calls
 -- only the refusal differs from what such a list may be told to, and numbers stay in range with it
-pub record FitsList (sections : Sections) (documents : ℕ) (bytes : List ℕ) : Type 0 where
+pub record FitsList (sections : WriterSections) (documents : ℕ) (bytes : List ℕ) : Type 0 where
   pub documents_fit : sections.list.documents + documents < 2 ^ 32
   pub list_fits : sections.list.bytes + length bytes < 2 ^ 32
   pub postings_fit : sections.postings + length bytes < 2 ^ 32
   pub size_fits : length bytes < 2 ^ 32
 
-pub fits_list : (old now : Sections) (documents next : ℕ) (bytes : List ℕ) → CanList old documents next bytes → KeepsTold old now → FitsList now documents bytes
+pub fits_list : (old now : WriterSections) (documents next : ℕ) (bytes : List ℕ) → CanList old documents next bytes → KeepsTold old now → FitsList now documents bytes
 fits_list old now documents next bytes can same =
     let kept = kept_again old now can.told can.kept same in
     let short : length bytes ≤ 15 * position_count can.postings = coded_short can.told can.postings documents next bytes can.may in
@@ -171,7 +171,7 @@ fits_list old now documents next bytes can same =
 
 -- ---- a posting is a list of one
 -- a posting may be told as the list of it, behind what is kept
-pub one_posting : (sections : Sections) (told : Told) (document : ℕ) (positions : List ℕ) → SectionsTold sections told → MayPost told document (length positions) → document < 2 ^ 32 - 1 → 0 < length positions → Ascends 0 (2 ^ 32 - 1) positions → MayList told ((document, positions) ∷ []) 1 (document + 1) (posting_bytes (document + 1 - sections.list.next) (document, positions))
+pub one_posting : (sections : WriterSections) (told : Told) (document : ℕ) (positions : List ℕ) → HoldTold sections told → MayPost told document (length positions) → document < 2 ^ 32 - 1 → 0 < length positions → Ascends 0 (2 ^ 32 - 1) positions → MayList told ((document, positions) ∷ []) 1 (document + 1) (posting_bytes (document + 1 - sections.list.next) (document, positions))
 one_posting sections told document positions kept may low some ascending =
     let next : sections.list.next ≡ next_of may.entry = (list_of_entry sections told may.entry kept may.at_hand).next in
     let above : next_of may.entry ≤ document = may.follows in
@@ -190,12 +190,12 @@ one_posting sections told document positions kept may low some ascending =
     }
 
 -- the same of a call that was taken up
-pub posting_may : (old taken : Sections) (refusal : Option PutError) (told : Told) (document : ℕ) (positions : List ℕ) → SectionsTold old told → MayPost told document (length positions) → document < 2 ^ 32 - 1 → 0 < length positions → Ascends 0 (2 ^ 32 - 1) positions → taken ≡ record old { refusal = refusal } → MayList told ((document, positions) ∷ []) 1 (document + 1) (posting_bytes (document + 1 - taken.list.next) (document, positions))
+pub posting_may : (old taken : WriterSections) (refusal : Option PutError) (told : Told) (document : ℕ) (positions : List ℕ) → HoldTold old told → MayPost told document (length positions) → document < 2 ^ 32 - 1 → 0 < length positions → Ascends 0 (2 ^ 32 - 1) positions → taken ≡ record old { refusal = refusal } → MayList told ((document, positions) ∷ []) 1 (document + 1) (posting_bytes (document + 1 - taken.list.next) (document, positions))
 posting_may old taken refusal told document positions kept may low some ascending e =
     one_posting taken told document positions (kept_again old taken told kept (refusal_set old taken refusal e)) may low some ascending
 
 -- what is spelled follows bytes that are pending
-pub spelled_listed : (before now : Option (List ℕ)) (old taken : Sections) (pending : List ℕ) (refusal : Option PutError) (told : Told) (postings : List Posting) (documents next : ℕ) (bytes : List ℕ) → Spells before now old.pending.items (settled_front told) → taken ≡ record old { refusal = refusal } → pending ≡ taken.pending.items ++ bytes → MayList told postings documents next bytes → Spells before now pending (settled_front (with_postings told postings))
+pub spelled_listed : (before now : Option (List ℕ)) (old taken : WriterSections) (pending : List ℕ) (refusal : Option PutError) (told : Told) (postings : List Posting) (documents next : ℕ) (bytes : List ℕ) → Spells before now old.pending.items (settled_front told) → taken ≡ record old { refusal = refusal } → pending ≡ taken.pending.items ++ bytes → MayList told postings documents next bytes → Spells before now pending (settled_front (with_postings told postings))
 spelled_listed before now old taken pending refusal told postings documents next bytes spells e more may = record {
   gone = spells.gone;
   gained = spells.gained;
@@ -205,22 +205,22 @@ spelled_listed before now old taken pending refusal told postings documents next
 }
 
 -- what is kept follows a whole call
-pub list_kept : (old taken sent counted new : Sections) (refusal : Option PutError) (told : Told) (postings : List Posting) (documents next : ℕ) (bytes : List ℕ) → SectionsTold old told → MayList told postings documents next bytes → taken ≡ record old { refusal = refusal } → KeepsTold taken sent → Counts sent counted documents next (length bytes) → KeepsTold counted new → SectionsTold new (with_postings told postings)
+pub list_kept : (old taken sent counted new : WriterSections) (refusal : Option PutError) (told : Told) (postings : List Posting) (documents next : ℕ) (bytes : List ℕ) → HoldTold old told → MayList told postings documents next bytes → taken ≡ record old { refusal = refusal } → KeepsTold taken sent → Counts sent counted documents next (length bytes) → KeepsTold counted new → HoldTold new (with_postings told postings)
 list_kept old taken sent counted new refusal told postings documents next bytes kept may e sending step after =
     kept_again counted new (with_postings told postings)
     (kept_listed sent counted told postings documents next bytes (kept_again taken sent told (kept_again old taken told kept (refusal_set old taken refusal e)) sending) may step) after
 
-pub posting_kept : (old taken staged sent new : Sections) (refusal : Option PutError) (told : Told) (postings : List Posting) (documents next : ℕ) (bytes : List ℕ) → SectionsTold old told → MayList told postings documents next bytes → taken ≡ record old { refusal = refusal } → Counts taken staged documents next (length bytes) → KeepsTold staged sent → KeepsTold sent new → SectionsTold new (with_postings told postings)
+pub posting_kept : (old taken staged sent new : WriterSections) (refusal : Option PutError) (told : Told) (postings : List Posting) (documents next : ℕ) (bytes : List ℕ) → HoldTold old told → MayList told postings documents next bytes → taken ≡ record old { refusal = refusal } → Counts taken staged documents next (length bytes) → KeepsTold staged sent → KeepsTold sent new → HoldTold new (with_postings told postings)
 posting_kept old taken staged sent new refusal told postings documents next bytes kept may e step sending after =
     kept_again sent new (with_postings told postings)
     (kept_again staged sent (with_postings told postings) (kept_listed taken staged told postings documents next bytes (kept_again old taken told kept (refusal_set old taken refusal e)) may step) sending) after
 
 -- what is spelled when a call is taken up
-pub taken_spells : (before now : Option (List ℕ)) (old taken : Sections) (refusal : Option PutError) (text : List ℕ) → Spells before now old.pending.items text → taken ≡ record old { refusal = refusal } → Spells before now taken.pending.items text
+pub taken_spells : (before now : Option (List ℕ)) (old taken : WriterSections) (refusal : Option PutError) (text : List ℕ) → Spells before now old.pending.items text → taken ≡ record old { refusal = refusal } → Spells before now taken.pending.items text
 taken_spells before now old taken refusal text spells e = subst (λ bytes. Spells before now bytes text) (sym (ap (λ s. s.pending.items) e)) spells
 
 -- what was told stays over two steps
-pub keeps_then : (old middle new : Sections) → KeepsTold old middle → KeepsTold middle new → KeepsTold old new
+pub keeps_then : (old middle new : WriterSections) → KeepsTold old middle → KeepsTold middle new → KeepsTold old new
 keeps_then old middle new first second = record {
   front = record { stop = second.front.stop ∙ first.front.stop; documents = second.front.documents ∙ first.front.documents; rows = second.front.rows ∙ first.front.rows };
   dictionary = second.dictionary ∙ first.dictionary;

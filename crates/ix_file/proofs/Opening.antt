@@ -5,7 +5,7 @@ use Rattle.ix_text.specs.Parts.{ArePartsOf, AreGramsOf, GramEntry, Parts, terms_
 use Rattle.ix_text.specs.PartsLaws.{AreLawful}
 use Rattle.ix_text.proofs.CollectionTold.{has_collection}
 use Rattle.ix_text.proofs.PartsLawful.{lawful_parts}
-use Rattle.ix_file.specs.Frames.{SectionTexts, framed}
+use Rattle.ix_file.specs.Frames.{FileSectionTexts, framed}
 use Rattle.ix_file.specs.Grams.{AreGramsOfTerms}
 use Rattle.ix_file.specs.IndexText.{IsIndexText}
 use Rattle.ix_file.specs.Opened.{IsIndexOf, Opened}
@@ -22,7 +22,7 @@ pub record IsOpenedFrom (opened : Opened) (bytes : List ℕ) : Type 0 where
   pub is : IsIndexOf opened opened.version collection
   pub text : IsIndexText opened.version collection bytes
 
-pub opened_from : (bytes : List ℕ) (opened : Opened) (texts : SectionTexts) (documents terms : ℕ) → bytes ≡ framed opened.version texts documents terms → AreLawful opened.parts → AreGramsOfTerms (terms_of opened.parts.entries) opened.grams
+pub opened_from : (bytes : List ℕ) (opened : Opened) (texts : FileSectionTexts) (documents terms : ℕ) → bytes ≡ framed opened.version texts documents terms → AreLawful opened.parts → AreGramsOfTerms (terms_of opened.parts.entries) opened.grams
     → AreSectionsOf opened.version opened.parts opened.grams texts documents terms → IsOpenedFrom opened bytes
 opened_from bytes opened texts documents terms e lawful of_terms spelled =
     let has = has_collection opened.parts lawful in
@@ -84,14 +84,14 @@ framed_text version collection bytes text =
     }
 
 -- an index text is cut
-pub never_uncut : (bytes : List ℕ) → ((version : Version) (texts : SectionTexts) (documents terms : ℕ) → documents ≤ 2 ^ 28 → terms < 2 ^ 32 → bytes ≡ framed version texts documents terms → ⊥)
+pub never_uncut : (bytes : List ℕ) → ((version : Version) (texts : FileSectionTexts) (documents terms : ℕ) → documents ≤ 2 ^ 28 → terms < 2 ^ 32 → bytes ≡ framed version texts documents terms → ⊥)
     → (version : Version) (collection : Collection) → IsIndexText version collection bytes → ⊥
 never_uncut bytes refused version collection text =
     let is = framed_text version collection bytes text in
     refused version (sections_of version is.parts is.grams) (length is.parts.rows) (length is.parts.entries) is.few_documents is.few_terms is.framed
 
 -- and what it was cut into is read
-pub never_refused : (bytes : List ℕ) (version : Version) (texts : SectionTexts) (documents terms : ℕ) → length bytes < 2 ^ 64 → documents ≤ 2 ^ 28 → terms < 2 ^ 32 → bytes ≡ framed version texts documents terms
+pub never_refused : (bytes : List ℕ) (version : Version) (texts : FileSectionTexts) (documents terms : ℕ) → length bytes < 2 ^ 64 → documents ≤ 2 ^ 28 → terms < 2 ^ 32 → bytes ≡ framed version texts documents terms
     → ((parts : Parts) (grams : List GramEntry) → AreLawful parts → AreGramsOfTerms (terms_of parts.entries) grams → AreSectionsOf version parts grams texts documents terms → ⊥)
     → (another : Version) (collection : Collection) → IsIndexText another collection bytes → ⊥
 never_refused bytes version texts documents terms short few_documents few_terms e refused another collection text =

@@ -5,7 +5,7 @@ use Rattle.std.proofs.lemmas.List.Elements.{All-head, All-tail, All-weaker}
 use Rattle.std.proofs.lemmas.List.Sums.{sum_by-cons, sum_by-le, get_or-le-sum_by, common_prefix_len-le}
 use Rattle.std.specs.List.{common_prefix_len}
 use Rattle.ix_text.specs.Collections.{Collection, IsLawful}
-use Rattle.ix_text.specs.Parts.{Parts, Posting, DictionaryEntry, DocumentRow, ArePartsOf, IsPosting}
+use Rattle.ix_text.specs.Parts.{Parts, Posting, DictionaryEntry, DocumentRow, ArePartsOf, IsTermPosting}
 use Rattle.ix_text.specs.PartsLaws.{AreLawful, position_count}
 use Rattle.ix_text.specs.Terms.{IsTerm}
 use Rattle.ix_text.proofs.PartsCounted.{positions_counted}
@@ -80,10 +80,10 @@ length-postings_section parts small = omega (arith, small.few_positions, lists_s
 -- ---- DICTIONARY
 
 -- each document of a term has a position
-documents_few : (postings : List Posting) → All IsPosting postings → length postings ≤ position_count postings
+documents_few : (postings : List Posting) → All IsTermPosting postings → length postings ≤ position_count postings
 documents_few [] are = omega arith
 documents_few (p ∷ ps) are =
-    omega (arith, (All-head IsPosting p ps are).0, documents_few ps (All-tail IsPosting p ps are), sum_by-cons (λ (posting : Posting). length posting.1) p ps)
+    omega (arith, (All-head IsTermPosting p ps are).0, documents_few ps (All-tail IsTermPosting p ps are), sum_by-cons (λ (posting : Posting). length posting.1) p ps)
 
 -- what the dictionary says of the term is small
 pub record IsSmallEntry (entry : DictionaryEntry) : Type 0 where

@@ -9,7 +9,7 @@ use Rattle.ix_text.specs.StopSets.{IsStopSet}
 use Rattle.ix_text.specs.Terms.{IsTerm}
 use Rattle.ix_text.specs.TokenLaws.{AreInOrder, IsPostingIn}
 use Rattle.ix_text.proofs.TokensApart.{lawful_if_distinct, lawful_without_terms}
-use Rattle.ix_file.specs.Frames.{SectionTexts}
+use Rattle.ix_file.specs.Frames.{FileSectionTexts}
 use Rattle.ix_file.specs.Grams.{AreGramsOfTerms}
 use Rattle.ix_file.specs.Listings.{AreLaidOut, AreListings, Listing, listing_in, listing_of, listings_in, listings_section, sizes_sum}
 use Rattle.ix_file.specs.LongLists.{IsLongIn}
@@ -26,7 +26,7 @@ use Rattle.ix_file.proofs.ListsFound.{AreFew, IsListed, each_listed, entries_dis
 use Rattle.ix_file.proofs.OpenedLemmas.{terms_in}
 
 -- what the readings of the sections answered
-pub record AreRead (version : Version) (texts : SectionTexts) (tables : Tables) (document_count term_count : ℕ) : Type 0 where
+pub record AreRead (version : Version) (texts : FileSectionTexts) (tables : Tables) (document_count term_count : ℕ) : Type 0 where
   pub stop_set : IsStopSet tables.stop
   pub stop : texts.stop ≡ stop_section tables.stop
   pub rows : AreRows (rows_in texts.documents tables.rows.items)
@@ -50,7 +50,7 @@ pub listed_terms : (rows : List PlacedTerm) → map (λ listing. listing.term) (
 listed_terms [] = refl
 listed_terms (row ∷ rows) = ap (λ terms. term_in row ∷ terms) (listed_terms rows)
 
-module _ (version : Version) (texts : SectionTexts) (tables : Tables) (document_count term_count : ℕ) (read : AreRead version texts tables document_count term_count) where
+module _ (version : Version) (texts : FileSectionTexts) (tables : Tables) (document_count term_count : ℕ) (read : AreRead version texts tables document_count term_count) where
   abbrev rows : List DocumentRow
   rows = rows_in texts.documents tables.rows.items
 
@@ -118,11 +118,11 @@ module _ (version : Version) (texts : SectionTexts) (tables : Tables) (document_
 
   same_texts : (postings stop documents dictionary grams : List ℕ) → texts.postings ≡ postings → texts.stop ≡ stop → texts.documents ≡ documents → texts.dictionary ≡ dictionary → texts.grams ≡ grams → texts ≡ record { postings = postings; stop = stop; documents = documents; dictionary = dictionary; grams = grams }
   same_texts postings stop documents dictionary grams a b c d e =
-      let with_a : List ℕ → SectionTexts = λ x. record { postings = x; stop = texts.stop; documents = texts.documents; dictionary = texts.dictionary; grams = texts.grams } in
-      let with_b : List ℕ → SectionTexts = λ x. record { postings = postings; stop = x; documents = texts.documents; dictionary = texts.dictionary; grams = texts.grams } in
-      let with_c : List ℕ → SectionTexts = λ x. record { postings = postings; stop = stop; documents = x; dictionary = texts.dictionary; grams = texts.grams } in
-      let with_d : List ℕ → SectionTexts = λ x. record { postings = postings; stop = stop; documents = documents; dictionary = x; grams = texts.grams } in
-      let with_e : List ℕ → SectionTexts = λ x. record { postings = postings; stop = stop; documents = documents; dictionary = dictionary; grams = x } in
+      let with_a : List ℕ → FileSectionTexts = λ x. record { postings = x; stop = texts.stop; documents = texts.documents; dictionary = texts.dictionary; grams = texts.grams } in
+      let with_b : List ℕ → FileSectionTexts = λ x. record { postings = postings; stop = x; documents = texts.documents; dictionary = texts.dictionary; grams = texts.grams } in
+      let with_c : List ℕ → FileSectionTexts = λ x. record { postings = postings; stop = stop; documents = x; dictionary = texts.dictionary; grams = texts.grams } in
+      let with_d : List ℕ → FileSectionTexts = λ x. record { postings = postings; stop = stop; documents = documents; dictionary = x; grams = texts.grams } in
+      let with_e : List ℕ → FileSectionTexts = λ x. record { postings = postings; stop = stop; documents = documents; dictionary = dictionary; grams = x } in
       ap with_a a ∙ ap with_b b ∙ ap with_c c ∙ ap with_d d ∙ ap with_e e
 
   pub sections_found : AreSectionsOf version (parts_in texts tables) (grams_in texts.grams tables.grams.items) texts document_count term_count

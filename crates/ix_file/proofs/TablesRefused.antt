@@ -6,7 +6,7 @@ use Rattle.std.proofs.lemmas.List.Elements.{All-head, All-map, All-tail, All-wea
 use Rattle.std.proofs.lemmas.List.Folds.{drop_split, flat_map-map}
 use Rattle.std.proofs.lemmas.List.Sums.{sum_by-cons}
 use Rattle.ix_text.specs.ByteOrder.{IsAscending}
-use Rattle.ix_text.specs.Parts.{ArePostings, DictionaryEntry, DocumentRow, GramEntry, Parts, Posting, terms_of}
+use Rattle.ix_text.specs.Parts.{AreTermPostings, DictionaryEntry, DocumentRow, GramEntry, Parts, Posting, terms_of}
 use Rattle.ix_text.specs.PartsLaws.{AreLawful, IsLawfulTerm}
 use Rattle.ix_text.specs.StopSets.{IsStopSet}
 use Rattle.ix_text.specs.Terms.{IsTerm}
@@ -17,7 +17,7 @@ use Rattle.ix_text.proofs.PartsLawful.{sum_by-map}
 use Rattle.ix_text.proofs.TokensApart.{lawful_distinct}
 use Rattle.ix_vbyte.specs.Postings.{list_bytes}
 use Rattle.ix_vbyte.proofs.Pieces.{fronts_apart}
-use Rattle.ix_file.specs.Frames.{SectionTexts}
+use Rattle.ix_file.specs.Frames.{FileSectionTexts}
 use Rattle.ix_file.specs.Grams.{AreGramsOfTerms}
 use Rattle.ix_file.specs.Listings.{AreLaidOut, AreListings, HasListedCounts, Listing, listing_in, listing_of, listings_in, listings_section, sizes_sum}
 use Rattle.ix_file.specs.Opened.{lists_of}
@@ -37,7 +37,7 @@ use Rattle.ix_file.proofs.TablesFound.{listed_terms}
 
 -- the postings of an entry lie in the documents
 pub record LieIn (rows : List DocumentRow) (entry : DictionaryEntry) : Type 0 where
-  pub are : ArePostings entry.postings
+  pub are : AreTermPostings entry.postings
   pub each : All (IsPostingIn rows) entry.postings
 
 lie_in : (parts : Parts) (entry : DictionaryEntry) → IsLawfulTerm parts entry → LieIn parts.rows entry
@@ -97,35 +97,35 @@ sizes_of entries =
 
 -- ---- each section
 
-module _ (version : Version) (texts : SectionTexts) (document_count term_count : ℕ) (parts : Parts) (grams : List GramEntry) (lawful : AreLawful parts) (of_terms : AreGramsOfTerms (terms_of parts.entries) grams) (is : AreSectionsOf version parts grams texts document_count term_count) where
+module _ (version : Version) (texts : FileSectionTexts) (document_count term_count : ℕ) (parts : Parts) (grams : List GramEntry) (lawful : AreLawful parts) (of_terms : AreGramsOfTerms (terms_of parts.entries) grams) (is : AreSectionsOf version parts grams texts document_count term_count) where
   pub no_stop : ((stop : List (List ℕ)) → IsStopSet stop → texts.stop ≡ stop_section stop → ⊥) → ⊥
   no_stop refused =
-      refused parts.stop (record { few = lawful.few_stop_terms; ascending = lawful.stop_ascending; terms = lawful.stop_terms }) (ap (λ (t : SectionTexts). t.stop) is.spelled)
+      refused parts.stop (record { few = lawful.few_stop_terms; ascending = lawful.stop_ascending; terms = lawful.stop_terms }) (ap (λ (t : FileSectionTexts). t.stop) is.spelled)
 
   pub no_rows : ((rows : List DocumentRow) → AreRows rows → length rows ≡ document_count → texts.documents ≡ documents_section rows → ⊥) → ⊥
-  no_rows refused = refused parts.rows (record { names = lawful.names; few_tokens = lawful.few_tokens }) (sym is.document_count) (ap (λ (t : SectionTexts). t.documents) is.spelled)
+  no_rows refused = refused parts.rows (record { names = lawful.names; few_tokens = lawful.few_tokens }) (sym is.document_count) (ap (λ (t : FileSectionTexts). t.documents) is.spelled)
 
   pub no_listings : (stop : List (List ℕ)) → texts.stop ≡ stop_section stop
       → ((listings : List Listing) → AreListings stop listings → length listings ≡ term_count → sizes_sum listings ≡ length texts.postings → texts.dictionary ≡ listings_section version listings → ⊥) → ⊥
   no_listings stop spelled refused =
-      let same : parts.stop ≡ stop = stop_told parts.stop stop (sym (ap (λ (t : SectionTexts). t.stop) is.spelled) ∙ spelled) in
+      let same : parts.stop ≡ stop = stop_told parts.stop stop (sym (ap (λ (t : FileSectionTexts). t.stop) is.spelled) ∙ spelled) in
       refused (map listing_of parts.entries) (subst (λ (s : List (List ℕ)). AreListings s (map listing_of parts.entries)) same (lawful_listings parts lawful))
       (length-map parts.entries listing_of ∙ sym is.term_count)
-      (sizes_of parts.entries ∙ sym (ap (λ (t : SectionTexts). length t.postings) is.spelled))
-      (ap (λ (t : SectionTexts). t.dictionary) is.spelled ∙ dictionary_listings version parts.entries)
+      (sizes_of parts.entries ∙ sym (ap (λ (t : FileSectionTexts). length t.postings) is.spelled))
+      (ap (λ (t : FileSectionTexts). t.dictionary) is.spelled ∙ dictionary_listings version parts.entries)
 
   postings : texts.postings ≡ flat_map (λ entry. list_bytes entry.postings) parts.entries
   unfolding postings_section
-  postings = ap (λ (t : SectionTexts). t.postings) is.spelled
+  postings = ap (λ (t : FileSectionTexts). t.postings) is.spelled
 
   same_listings : (rows : List PlacedTerm) → texts.dictionary ≡ listings_section version (listings_in rows) → map listing_of parts.entries ≡ listings_in rows
   same_listings rows spelled =
-      listings_told version (map listing_of parts.entries) (listings_in rows) (sym (dictionary_listings version parts.entries) ∙ sym (ap (λ (t : SectionTexts). t.dictionary) is.spelled) ∙ spelled)
+      listings_told version (map listing_of parts.entries) (listings_in rows) (sym (dictionary_listings version parts.entries) ∙ sym (ap (λ (t : FileSectionTexts). t.dictionary) is.spelled) ∙ spelled)
 
   pub no_lists : (documents : List DocumentRow) (rows : List PlacedTerm) → texts.documents ≡ documents_section documents → texts.dictionary ≡ listings_section version (listings_in rows) → AreLaidOut rows → sizes_sum (listings_in rows) ≡ length texts.postings
       → ((lists : List (List Posting)) → AreListsIn documents texts.postings rows lists → ⊥) → ⊥
   no_lists documents rows spelled dictionary laid sum refused =
-      let same : parts.rows ≡ documents = rows_told parts.rows documents (sym (ap (λ (t : SectionTexts). t.documents) is.spelled) ∙ spelled) in
+      let same : parts.rows ≡ documents = rows_told parts.rows documents (sym (ap (λ (t : FileSectionTexts). t.documents) is.spelled) ∙ spelled) in
       let lists = lists_of parts.entries in
       refused lists (subst (λ (ds : List DocumentRow). AreListsIn ds texts.postings rows lists) same (record {
         each = listed_from parts.rows texts.postings 0 rows parts.entries (laid_out rows laid) (omega (arith, sum)) (same_listings rows dictionary) postings (All-weaker (IsLawfulTerm parts) (LieIn parts.rows) (lie_in parts) parts.entries lawful.terms);
@@ -136,4 +136,4 @@ module _ (version : Version) (texts : SectionTexts) (document_count term_count :
   no_grams rows spelled refused =
       let terms : terms_of parts.entries ≡ map term_in rows =
       sym (listing_terms parts.entries) ∙ ap (map (λ (listing : Listing). listing.term)) (same_listings rows spelled) ∙ listed_terms rows in
-      refused grams (subst (λ (ts : List (List ℕ)). AreGramsOfTerms ts grams) terms of_terms) (ap (λ (t : SectionTexts). t.grams) is.spelled)
+      refused grams (subst (λ (ts : List (List ℕ)). AreGramsOfTerms ts grams) terms of_terms) (ap (λ (t : FileSectionTexts). t.grams) is.spelled)

@@ -13,9 +13,9 @@ use Rattle.ix_file.specs.Sections.{FrontCoded, postings_section}
 use Rattle.ix_file.specs.Told.{Told, entries_of, settled_front, with_term, position_total}
 use Rattle.ix_file.specs.GramTables.{HoldsGrams}
 use Rattle.ix_file.specs.SectionSteps.{Closes, Opens, KeepsTold}
-use Rattle.ix_file.specs.Telling.{IsDictionaryOf, IsListOfEntry, SectionsTold, Spells, IsClosable, CanClose}
+use Rattle.ix_file.specs.Telling.{IsDictionaryOf, IsListOfEntry, HoldTold, Spells, IsClosable, CanClose}
 use Rattle.ix_file.specs.declared.put_error.PutError.{PutError}
-use Rattle.ix_file.specs.declared.sections.Sections.{Sections}
+use Rattle.ix_file.specs.declared.sections.WriterSections.{WriterSections}
 use Rattle.ix_file.proofs.DictionaryLemmas.{dictionary_closed, entries_closed}
 
 -- an entry without postings
@@ -57,7 +57,7 @@ terms_of-push done entry = map-append (λ e. e.term) done (entry ∷ [])
 
 -- ---- the steps
 -- what is kept follows a term
-pub kept_opened : (old middle new : Sections) (told : Told) (term : List ℕ) → SectionsTold old told → IsClosable told → Closes old middle → length term ≤ 255 → Opens middle new term → SectionsTold new (with_term told term)
+pub kept_opened : (old middle new : WriterSections) (told : Told) (term : List ℕ) → HoldTold old told → IsClosable told → Closes old middle → length term ≤ 255 → Opens middle new term → HoldTold new (with_term told term)
 kept_opened old middle new told term kept may closes short opens =
     let entries = entries_of told in
     let dictionary : IsDictionaryOf middle.dictionary entries = dictionary_closed old.dictionary middle.dictionary old.list told.done told.at_hand kept.dictionary kept.list may closes.entry closes.no_entry in
@@ -86,7 +86,7 @@ kept_opened old middle new told term kept may closes short opens =
     }
 
 -- what is kept stays told where it stays
-pub kept_again : (old new : Sections) (told : Told) → SectionsTold old told → KeepsTold old new → SectionsTold new told
+pub kept_again : (old new : WriterSections) (told : Told) → HoldTold old told → KeepsTold old new → HoldTold new told
 kept_again old new told kept same = record {
   stop = ap (λ v. v.items) same.front.stop ∙ kept.stop;
   documents = ap (λ v. v.items) same.front.documents ∙ kept.documents;
@@ -112,7 +112,7 @@ spelled_term before now pending told term spells = subst (λ text. Spells before
 
 -- ---- whole calls
 -- only the refusal changes where a call is taken up, or has done its work
-pub refusal_set : (old new : Sections) (refusal : Option PutError) → new ≡ record old { refusal = refusal } → KeepsTold old new
+pub refusal_set : (old new : WriterSections) (refusal : Option PutError) → new ≡ record old { refusal = refusal } → KeepsTold old new
 refusal_set old new refusal e = record {
   front = record { stop = ap (λ s. s.stop) e; documents = ap (λ s. s.documents) e; rows = ap (λ s. s.rows) e };
   dictionary = ap (λ s. s.dictionary) e;
@@ -121,24 +121,24 @@ refusal_set old new refusal e = record {
   postings = ap (λ s. s.postings) e;
 }
 
-pub term_spelled : (before now : Option (List ℕ)) (old taken middle new : Sections) (refusal : Option PutError) (told : Told) (term : List ℕ) → Spells before now old.pending.items (settled_front told) → taken ≡ record old { refusal = refusal } → Closes taken middle → Opens middle new term → Spells before now new.pending.items (settled_front (with_term told term))
+pub term_spelled : (before now : Option (List ℕ)) (old taken middle new : WriterSections) (refusal : Option PutError) (told : Told) (term : List ℕ) → Spells before now old.pending.items (settled_front told) → taken ≡ record old { refusal = refusal } → Closes taken middle → Opens middle new term → Spells before now new.pending.items (settled_front (with_term told term))
 term_spelled before now old taken middle new refusal told term spells e closes opens =
     let same : new.pending.items ≡ old.pending.items = ap (λ v. v.items) (opens.pending ∙ closes.pending) ∙ ap (λ s. s.pending.items) e in
     spelled_term before now new.pending.items told term (subst (λ bytes. Spells before now bytes (settled_front told)) (sym same) spells)
 
-pub term_kept : (old taken middle opened new : Sections) (refusal : Option PutError) (told : Told) (term : List ℕ) → SectionsTold old told → IsClosable told → length term ≤ 255 → taken ≡ record old { refusal = refusal } → Closes taken middle → Opens middle opened term → KeepsTold opened new → SectionsTold new (with_term told term)
+pub term_kept : (old taken middle opened new : WriterSections) (refusal : Option PutError) (told : Told) (term : List ℕ) → HoldTold old told → IsClosable told → length term ≤ 255 → taken ≡ record old { refusal = refusal } → Closes taken middle → Opens middle opened term → KeepsTold opened new → HoldTold new (with_term told term)
 term_kept old taken middle opened new refusal told term kept may short e closes opens after =
     kept_again opened new (with_term told term) (kept_opened taken middle opened told term (kept_again old taken told kept (refusal_set old taken refusal e)) may closes short opens) after
 
 -- the term at hand is short
-pub short_at_hand : (old taken : Sections) (refusal : Option PutError) → CanClose old → taken ≡ record old { refusal = refusal } → length taken.list.term.items < 2 ^ 32
+pub short_at_hand : (old taken : WriterSections) (refusal : Option PutError) → CanClose old → taken ≡ record old { refusal = refusal } → length taken.list.term.items < 2 ^ 32
 short_at_hand old taken refusal can e =
     let short : length old.list.term.items ≤ 255 = can.kept.short in
     let same : length taken.list.term.items ≡ length old.list.term.items = ap (λ s. length s.list.term.items) e in
     omega arith
 
 -- the grams of the terms so far, which are few
-pub grams_told : (old taken closed : Sections) (refusal : Option PutError) → CanClose old → taken ≡ record old { refusal = refusal } → Closes taken closed → (terms : List (List ℕ)) × HoldsGrams closed.grams terms × (length terms < 2 ^ 32 - 1)
+pub grams_told : (old taken closed : WriterSections) (refusal : Option PutError) → CanClose old → taken ≡ record old { refusal = refusal } → Closes taken closed → (terms : List (List ℕ)) × HoldsGrams closed.grams terms × (length terms < 2 ^ 32 - 1)
 grams_told old taken closed refusal can e closes =
     let told = can.told in
     let kept = can.kept in

@@ -8,7 +8,7 @@ use Rattle.ix_file.specs.Grams.{AreGramsOfTerms}
 use Rattle.ix_file.specs.IndexText.{IsIndexText, end_mark, layout}
 use Rattle.ix_file.specs.Sections.{FrontCoded, grams_section}
 use Rattle.ix_file.specs.Told.{Told, entries_of, parts_of}
-use Rattle.ix_file.specs.declared.sections.Sections.{Sections}
+use Rattle.ix_file.specs.declared.sections.WriterSections.{WriterSections}
 use Rattle.ix_file.specs.declared.writer.trailer.Trailer.{Trailer}
 
 -- the lengths of the five sections, the numbers of rows and entries, and the mark of the end
@@ -19,7 +19,7 @@ trailer_bytes trailer =
     ++ to_le_bytes w32 trailer.entries ++ end_mark FrontCoded
 
 -- the trailer of what is kept, behind grams of so many bytes
-abbrev pub trailer_of : Sections → ℕ → Trailer
+abbrev pub trailer_of : WriterSections → ℕ → Trailer
 trailer_of sections grams =
     record {
       postings = sections.postings;
@@ -32,7 +32,7 @@ trailer_of sections grams =
     }
 
 -- the bytes are GRAMS of the terms, and the trailer of what is kept
-pub record IsEnding (sections : Sections) (terms : List (List ℕ)) (bytes : List ℕ) : Type 0 where
+pub record IsEnding (sections : WriterSections) (terms : List (List ℕ)) (bytes : List ℕ) : Type 0 where
   pub grams : List GramEntry
   pub of_terms : AreGramsOfTerms terms grams
   pub spelled : bytes ≡ grams_section grams ++ trailer_bytes (trailer_of sections (length (grams_section grams)))

@@ -3,12 +3,12 @@ use Rattle.std.specs.Prelude.{◌≡◌, ℕ, List, ◌++◌, length}
 use Rattle.std.specs.Int.{to_le_bytes, w32, w64}
 use Rattle.ix_file.specs.IndexText.{magic, end_mark}
 use Rattle.ix_file.specs.Sections.{Version, Plain, FrontCoded}
-use Rattle.ix_file.specs.declared.open.frame.SectionBytes.{SectionBytes}
+use Rattle.ix_file.specs.declared.open.frame.FileSections.{FileSections}
 use Rattle.ix_file.specs.declared.open.frame.Version.{Version as FileVersion}
 use Rattle.ix_file.specs.declared.open.frame.Version.TheVariants as file
 
 -- the bytes of the five sections
-pub record SectionTexts : Type 0 where
+pub record FileSectionTexts : Type 0 where
   pub postings : List ℕ
   pub stop : List ℕ
   pub documents : List ℕ
@@ -16,7 +16,7 @@ pub record SectionTexts : Type 0 where
   pub grams : List ℕ
 
 -- the sections, one behind another
-abbrev pub joined_sections : SectionTexts → List ℕ
+abbrev pub joined_sections : FileSectionTexts → List ℕ
 joined_sections texts = texts.postings ++ (texts.stop ++ (texts.documents ++ (texts.dictionary ++ texts.grams)))
 
 -- a length, in eight bytes, the lowest first
@@ -28,7 +28,7 @@ unfoldable pub four : ℕ → List ℕ
 four n = to_le_bytes w32 n
 
 -- the lengths of the sections
-abbrev pub lengths : SectionTexts → List ℕ
+abbrev pub lengths : FileSectionTexts → List ℕ
 lengths texts =
     eight (length texts.postings) ++ (eight (length texts.stop) ++ (eight (length texts.documents) ++ (eight (length texts.dictionary) ++ eight (length texts.grams))))
 
@@ -37,11 +37,11 @@ abbrev pub counts : ℕ → ℕ → List ℕ
 counts documents terms = four documents ++ four terms
 
 -- the whole text
-unfoldable pub framed : Version → SectionTexts → ℕ → ℕ → List ℕ
+unfoldable pub framed : Version → FileSectionTexts → ℕ → ℕ → List ℕ
 framed version texts documents terms = magic version ++ (joined_sections texts ++ ((lengths texts ++ counts documents terms) ++ end_mark version))
 
 -- the sections that stand there
-abbrev pub texts_in : SectionBytes → SectionTexts
+abbrev pub texts_in : FileSections → FileSectionTexts
 texts_in sections = record {
   postings = sections.postings.now;
   stop = sections.stop.now;

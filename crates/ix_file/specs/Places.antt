@@ -1,13 +1,13 @@
 -- Where the sections stand in the bytes of an index text.
 use Rattle.std.specs.Prelude.{◌≡◌, ℕ, ◌≤◌, List, length, slice_range}
-use Rattle.ix_file.specs.Frames.{SectionTexts, framed}
+use Rattle.ix_file.specs.Frames.{FileSectionTexts, framed}
 use Rattle.ix_file.specs.Sections.{Version}
 use Rattle.ix_file.specs.Tables.{AreTablesOf}
 use Rattle.ix_file.specs.declared.open.tables.Tables.{Tables}
 use Rattle.ix_file.specs.declared.volume.Places.{Places}
 
 -- the sections: POSTINGS stands behind the eight bytes of the mark, and each other where the one before ends
-abbrev pub texts_at : List ℕ → Places → SectionTexts
+abbrev pub texts_at : List ℕ → Places → FileSectionTexts
 texts_at bytes places = record {
   postings = slice_range bytes 8 places.stop;
   stop = slice_range bytes places.stop places.documents;
@@ -26,7 +26,7 @@ pub record ArePlacesIn (bytes : List ℕ) (places : Places) : Type 0 where
   pub within : places.end ≤ length bytes
 
 -- the bytes are framed sections
-pub record IsFramed (bytes : List ℕ) (texts : SectionTexts) : Type 0 where
+pub record IsFramed (bytes : List ℕ) (texts : FileSectionTexts) : Type 0 where
   pub version : Version
   pub documents : ℕ
   pub terms : ℕ

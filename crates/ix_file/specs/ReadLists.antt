@@ -3,7 +3,7 @@ use Rattle.std.specs.Prelude.{◌≡◌, ℕ, ◌+◌, ◌-◌, ◌^◌, ◌≤�
 use Rattle.std.specs.List.{AllZip}
 use Rattle.ix_vbyte.specs.Gaps.{Ascends, gaps_of}
 use Rattle.ix_vbyte.specs.Postings.{codes_of, list_bytes, posting_bytes}
-use Rattle.ix_text.specs.Parts.{ArePostings, DocumentRow, Posting}
+use Rattle.ix_text.specs.Parts.{AreTermPostings, DocumentRow, Posting}
 use Rattle.ix_text.specs.TokenLaws.{IsPostingIn}
 use Rattle.ix_text.specs.TokenNumbers.{AreDistinct, numbers_of_postings}
 use Rattle.ix_text.specs.TokenTables.{HasTokens}
@@ -27,7 +27,7 @@ pub record IsNextPosting (rows : List DocumentRow) (next : ℕ) (bytes : List �
 -- The bytes are the list of so many postings, which lie in the documents.
 pub record AreListedIn (rows : List DocumentRow) (count : ℕ) (bytes : List ℕ) (postings : List Posting) : Type 0 where
   pub counted : length postings ≡ count
-  pub are : ArePostings postings
+  pub are : AreTermPostings postings
   pub each : All (IsPostingIn rows) postings
   pub coded : bytes ≡ list_bytes postings
 

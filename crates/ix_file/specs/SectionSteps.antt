@@ -3,12 +3,12 @@ use Rattle.std.specs.Prelude.{◌≡◌, ℕ, ◌+◌, ◌<◌, List, [], ◌∷
 use Rattle.ix_text.specs.Parts.{DocumentRow}
 use Rattle.ix_file.specs.IndexText.{magic}
 use Rattle.ix_file.specs.Sections.{FrontCoded, stop_section, documents_section}
-use Rattle.ix_file.specs.declared.sections.Sections.{Sections}
+use Rattle.ix_file.specs.declared.sections.WriterSections.{WriterSections}
 use Rattle.ix_file.specs.Dictionaries.{GainsEntry}
 use Rattle.ix_file.specs.GramTables.{HoldsGrams}
 
 -- nothing was told
-pub record IsEmpty (sections : Sections) : Type 0 where
+pub record IsEmpty (sections : WriterSections) : Type 0 where
   pub ready : sections.refusal ≡ None
   pub pending : sections.pending.items ≡ []
   pub postings : sections.postings ≡ 0
@@ -23,7 +23,7 @@ pub record IsEmpty (sections : Sections) : Type 0 where
   pub documents : sections.documents.items ≡ []
 
 -- the stop terms and rows were told, and no term
-pub record Begins (sections : Sections) (stop : List (List ℕ)) (rows : List DocumentRow) : Type 0 where
+pub record Begins (sections : WriterSections) (stop : List (List ℕ)) (rows : List DocumentRow) : Type 0 where
   pub ready : sections.refusal ≡ None
   pub pending : sections.pending.items ≡ magic FrontCoded
   pub postings : sections.postings ≡ 0
@@ -39,13 +39,13 @@ pub record Begins (sections : Sections) (stop : List (List ℕ)) (rows : List Do
   pub counted : sections.rows ≡ length rows
 
 -- the coded stop terms and rows stay
-pub record KeepsFront (old new : Sections) : Type 0 where
+pub record KeepsFront (old new : WriterSections) : Type 0 where
   pub stop : new.stop ≡ old.stop
   pub documents : new.documents ≡ old.documents
   pub rows : new.rows ≡ old.rows
 
 -- no entry is at hand any more: the one that was, if any, is in the dictionary
-pub record Closes (old new : Sections) : Type 0 where
+pub record Closes (old new : WriterSections) : Type 0 where
   pub front : KeepsFront old new
   pub pending : new.pending ≡ old.pending
   pub postings : new.postings ≡ old.postings
@@ -57,7 +57,7 @@ pub record Closes (old new : Sections) : Type 0 where
   pub no_entry : old.list.documents ≡ 0 → new.dictionary ≡ old.dictionary
 
 -- the term is at hand, and its grams are held
-pub record Opens (old new : Sections) (term : List ℕ) : Type 0 where
+pub record Opens (old new : WriterSections) (term : List ℕ) : Type 0 where
   pub front : KeepsFront old new
   pub pending : new.pending ≡ old.pending
   pub postings : new.postings ≡ old.postings
@@ -69,7 +69,7 @@ pub record Opens (old new : Sections) (term : List ℕ) : Type 0 where
   pub grams : (terms : List (List ℕ)) → HoldsGrams old.grams terms → HoldsGrams new.grams (terms ++ term ∷ [])
 
 -- the list of the entry at hand has so many documents more, the last of them just before `after`, and so many bytes
-pub record Counts (old new : Sections) (count after size : ℕ) : Type 0 where
+pub record Counts (old new : WriterSections) (count after size : ℕ) : Type 0 where
   pub front : KeepsFront old new
   pub dictionary : new.dictionary ≡ old.dictionary
   pub grams : new.grams ≡ old.grams
@@ -80,7 +80,7 @@ pub record Counts (old new : Sections) (count after size : ℕ) : Type 0 where
   pub next : new.list.next ≡ after
 
 -- what was told stays: all but what is pending, and the refusal
-pub record KeepsTold (old new : Sections) : Type 0 where
+pub record KeepsTold (old new : WriterSections) : Type 0 where
   pub front : KeepsFront old new
   pub dictionary : new.dictionary ≡ old.dictionary
   pub grams : new.grams ≡ old.grams

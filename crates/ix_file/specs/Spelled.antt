@@ -1,11 +1,11 @@
 -- The sections that parts and grams spell.
 use Rattle.std.specs.Prelude.{◌≡◌, ℕ, List, length}
 use Rattle.ix_text.specs.Parts.{GramEntry, Parts}
-use Rattle.ix_file.specs.Frames.{SectionTexts}
+use Rattle.ix_file.specs.Frames.{FileSectionTexts}
 use Rattle.ix_file.specs.Sections.{Version, postings_section, stop_section, documents_section, dictionary_section, grams_section}
 
 -- the five sections of parts and grams
-abbrev pub sections_of : Version → Parts → List GramEntry → SectionTexts
+abbrev pub sections_of : Version → Parts → List GramEntry → FileSectionTexts
 sections_of version parts grams = record {
   postings = postings_section parts.entries;
   stop = stop_section parts.stop;
@@ -15,7 +15,7 @@ sections_of version parts grams = record {
 }
 
 -- The sections are those of the parts and the grams, and the counts are those of the parts.
-pub record AreSectionsOf (version : Version) (parts : Parts) (grams : List GramEntry) (texts : SectionTexts) (documents terms : ℕ) : Type 0 where
+pub record AreSectionsOf (version : Version) (parts : Parts) (grams : List GramEntry) (texts : FileSectionTexts) (documents terms : ℕ) : Type 0 where
   pub spelled : texts ≡ sections_of version parts grams
   pub document_count : documents ≡ length parts.rows
   pub term_count : terms ≡ length parts.entries

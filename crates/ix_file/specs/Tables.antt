@@ -3,7 +3,7 @@ use Rattle.std.specs.Prelude.{ℕ, ◌+◌, ◌≤◌, List, map, length, All}
 use Rattle.ix_text.specs.Parts.{DictionaryEntry, Parts, terms_of}
 use Rattle.ix_text.specs.PartsLaws.{AreLawful}
 use Rattle.ix_vbyte.specs.Walking.{IsCodedList, postings_told}
-use Rattle.ix_file.specs.Frames.{SectionTexts, version_in}
+use Rattle.ix_file.specs.Frames.{FileSectionTexts, version_in}
 use Rattle.ix_file.specs.Grams.{AreGramsOfTerms}
 use Rattle.ix_file.specs.LongLists.{IsLongIn}
 use Rattle.ix_file.specs.Opened.{Opened}
@@ -28,12 +28,12 @@ abbrev pub entries_in : List ℕ → List PlacedTerm → List DictionaryEntry
 entries_in section rows = map (entry_in section) rows
 
 -- the parts that the tables tell
-abbrev pub parts_in : SectionTexts → Tables → Parts
+abbrev pub parts_in : FileSectionTexts → Tables → Parts
 parts_in texts tables =
     record { stop = tables.stop; rows = rows_in texts.documents tables.rows.items; entries = entries_in texts.postings tables.terms }
 
 -- the index that the tables make of the sections
-abbrev pub opened_in : SectionTexts → Tables → Opened
+abbrev pub opened_in : FileSectionTexts → Tables → Opened
 opened_in texts tables = record { version = version_in tables.version; parts = parts_in texts tables; grams = grams_in texts.grams tables.grams.items }
 
 -- the list of the row lies in POSTINGS, and is one of as many postings as the row says
@@ -42,7 +42,7 @@ pub record IsListRow (section : List ℕ) (row : PlacedTerm) : Type 0 where
   pub coded : IsCodedList row.documents (list_in section row)
 
 -- With these sections the tables tell lawful parts and their grams, and what they point to stands there.
-pub record AreTablesOf (texts : SectionTexts) (tables : Tables) : Type 0 where
+pub record AreTablesOf (texts : FileSectionTexts) (tables : Tables) : Type 0 where
   pub lawful : AreLawful (parts_in texts tables)
   pub grams : AreGramsOfTerms (terms_of (entries_in texts.postings tables.terms)) (grams_in texts.grams tables.grams.items)
   pub names : All (IsNameRow texts.documents) tables.rows.items

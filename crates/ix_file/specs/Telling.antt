@@ -10,7 +10,7 @@ use Rattle.ix_file.specs.Told.{Told, entries_of, settled_front, position_total}
 use Rattle.ix_file.specs.GramTables.{HoldsGrams}
 use Rattle.ix_file.specs.declared.writer.dictionary.Dictionary.{Dictionary}
 use Rattle.ix_file.specs.declared.writer.list.ListAtHand.{ListAtHand}
-use Rattle.ix_file.specs.declared.sections.Sections.{Sections}
+use Rattle.ix_file.specs.declared.sections.WriterSections.{WriterSections}
 
 -- the term of the last entry, or the term before where there is none
 abbrev pub last_term : List ℕ → List DictionaryEntry → List ℕ
@@ -31,7 +31,7 @@ pub record IsListOfEntry (list : ListAtHand) (entry : DictionaryEntry) : Type 0 
   pub next : list.next ≡ next_after 0 (documents_of entry.postings)
 
 -- What is kept is what was told, and numbers and lengths are in range.
-pub record SectionsTold (sections : Sections) (told : Told) : Type 0 where
+pub record HoldTold (sections : WriterSections) (told : Told) : Type 0 where
   pub stop : sections.stop.items ≡ stop_section told.stop
   pub documents : sections.documents.items ≡ documents_section told.rows
   pub rows : sections.rows ≡ length told.rows
@@ -53,9 +53,9 @@ pub record Spells (before now : Option (List ℕ)) (pending text : List ℕ) : T
 
 -- The writer was told this and refused nothing, and what went out with what is pending is the front of an index
 -- text that this settles.
-pub record IsTold (before now : Option (List ℕ)) (sections : Sections) (told : Told) : Type 0 where
+pub record IsTold (before now : Option (List ℕ)) (sections : WriterSections) (told : Told) : Type 0 where
   pub ready : sections.refusal ≡ None
-  pub kept : SectionsTold sections told
+  pub kept : HoldTold sections told
   pub written : Spells before now sections.pending.items (settled_front told)
 
 -- the entry at hand, if there is one, has a posting
@@ -81,20 +81,20 @@ pub record MayList (told : Told) (postings : List Posting) (documents next : ℕ
   pub coded : bytes ≡ list_bytes_from (next_after 0 (documents_of entry.postings)) postings
 
 -- such a posting may be told to a writer that keeps this
-pub record CanPost (sections : Sections) (document count : ℕ) : Type 0 where
+pub record CanPost (sections : WriterSections) (document count : ℕ) : Type 0 where
   pub told : Told
-  pub kept : SectionsTold sections told
+  pub kept : HoldTold sections told
   pub may : MayPost told document count
 
 -- such bytes of postings may be told to a writer that keeps this
-pub record CanList (sections : Sections) (documents next : ℕ) (bytes : List ℕ) : Type 0 where
+pub record CanList (sections : WriterSections) (documents next : ℕ) (bytes : List ℕ) : Type 0 where
   pub told : Told
-  pub kept : SectionsTold sections told
+  pub kept : HoldTold sections told
   pub postings : List Posting
   pub may : MayList told postings documents next bytes
 
 -- the entry at hand may be finished in a writer that keeps this
-pub record CanClose (sections : Sections) : Type 0 where
+pub record CanClose (sections : WriterSections) : Type 0 where
   pub told : Told
-  pub kept : SectionsTold sections told
+  pub kept : HoldTold sections told
   pub may : IsClosable told

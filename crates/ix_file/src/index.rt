@@ -5,7 +5,7 @@ ghost use Rattle.ix_text.specs.ByteOrder.{IsAscending};
 
 use crate::OpenError;
 use crate::numbers::Numbers;
-use crate::open::frame::{SectionBytes, Version, cut};
+use crate::open::frame::{FileSections, Version, cut};
 use crate::open::grams::find_gram;
 use crate::open::lists::list_of;
 use crate::open::read_tables;
@@ -21,7 +21,7 @@ use std::str::from_utf8;
 /// An index text of a lawful collection, opened. Its bytes are the caller's; no call takes memory.
 #[derive(Drop)]
 pub struct Index<'a> {
-    sections: SectionBytes<'a>,
+    sections: FileSections<'a>,
     tables: Held<'a>,
 }
 
@@ -53,7 +53,7 @@ impl<'a> Index<'a> {
 
     /// The index of these sections and tables.
     #[inline]
-    pub(crate) fn new(sections: SectionBytes<'a>, tables: Held<'a>) -> Index<'a>
+    pub(crate) fn new(sections: FileSections<'a>, tables: Held<'a>) -> Index<'a>
         requires { AreTablesOf (texts_in sections) (tables_in tables) }
         ensures { result ≡ opened_in (texts_in sections.entry) (tables_in tables.entry) }
     {

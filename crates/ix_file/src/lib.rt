@@ -29,6 +29,6 @@ pub use numbers::Numbers;
 pub use open_error::{OpenError, Section};
 pub use put_error::PutError;
 pub use row::DocRow;
-pub use sections::Sections;
+pub use sections::WriterSections;
 pub use volume::Volume;
 pub use writer::IndexWriter;

@@ -27,7 +27,7 @@ const ROOM: usize = FULL + (1 << 12);
 /// What an `IndexWriter` keeps until its end: postings that are not written yet, the coded stop terms and
 /// rows, the dictionary and the grams.
 #[derive(Drop)]
-pub struct Sections {
+pub struct WriterSections {
     /// What the next call answers, where it is no more to do anything.
     pub(crate) refusal: Option<PutError>,
     /// The last bytes of POSTINGS, which are not written yet, and before them perhaps the magic.
@@ -43,7 +43,7 @@ pub struct Sections {
     pub(crate) rows: u32,
 }
 
-impl Sections {
+impl WriterSections {
     ghost use Rattle.ix_file.specs.declared.put_error.PutError.TheVariants.{Failed};
     ghost use Rattle.ix_file.specs.declared.put_error.PutError.{PutError};
     ghost use Rattle.ix_file.specs.Endings.{IsEnding};
@@ -51,10 +51,10 @@ impl Sections {
     ghost use Rattle.ix_file.specs.SectionSteps.{IsEmpty, Begins, Closes, Opens, Counts};
 
     /// What is kept before anything is told. Takes no memory.
-    pub(crate) fn empty(alloc: Global) -> Sections
+    pub(crate) fn empty(alloc: Global) -> WriterSections
         ensures { IsEmpty result }
     {
-        Sections {
+        WriterSections {
             refusal: None,
             pending: Vec::new(alloc),
             postings: 0,

@@ -4,7 +4,7 @@ ghost use Rattle.ix_file.specs.Frames.{texts_in};
 ghost use Rattle.ix_file.specs.Places.{ArePlacesIn, IsFramed, texts_at};
 
 use crate::layout::{MARK_BYTES, TRAILER_BYTES};
-use crate::open::frame::{SectionBytes, cut};
+use crate::open::frame::{FileSections, cut};
 use crate::open::read_tables;
 use crate::open::tables::{Held, Tables};
 use crate::{Index, OpenError};
@@ -22,7 +22,7 @@ struct Places {
 }
 
 /// Where the sections of an index text stand in it.
-fn places_of(bytes: &[u8], sections: SectionBytes<'_>) -> Places
+fn places_of(bytes: &[u8], sections: FileSections<'_>) -> Places
     requires { IsFramed bytes.now (texts_in sections) }
     ensures placed { ArePlacesIn bytes.now result }
     ensures texts { texts_at bytes.now result ≡ texts_in sections.entry }
@@ -96,7 +96,7 @@ impl Volume {
     {
         let bytes = self.bytes.as_slice();
         let places = self.places;
-        let sections = SectionBytes {
+        let sections = FileSections {
             postings: &bytes[MARK_BYTES..places.stop],
             stop: &bytes[places.stop..places.documents],
             documents: &bytes[places.documents..places.dictionary],

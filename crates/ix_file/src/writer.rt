@@ -22,14 +22,14 @@ mod output;
 pub(crate) mod trailer;
 
 use crate::writer::output::{complete, put_coded, send_if_full};
-use crate::{DocRow, PutError, Sections};
+use crate::{DocRow, PutError, WriterSections};
 use ix_text::StopList;
 use std::alloc::Global;
 use std::io::Write;
 
 /// A writer of the index text, version 2, of a collection that is told to it in the order of the text: postings
 /// go out as they are told, and what is kept until the end is the dictionary, the grams and the rows.
-pub struct IndexWriter<'a, W, S = Sections> {
+pub struct IndexWriter<'a, W, S = WriterSections> {
     out: &'a mut W,
     sections: S,
 }
@@ -64,7 +64,7 @@ impl<'a, W: Write> IndexWriter<'a, W> {
             (told_first stop.now (map document_row rows.now)) }
         ensures refused { (error : PutError) → Answers result error → error ≡ PutError.Memory }
     {
-        let mut sections = Sections::empty(alloc);
+        let mut sections = WriterSections::empty(alloc);
         if sections.begin(stop, rows).is_err() {
             sections.refusal = Some(PutError::Memory);
         }

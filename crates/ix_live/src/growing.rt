@@ -56,7 +56,7 @@ pub fn grow<R: Threads + Wait + Sync>(
         Ok(volume) => volume,
         Err(error) => return Err(error),
     };
-    let more = token_count(&volume);
+    let more = token_total(&volume);
     if more > MAX_TOKENS - tokens {
         return Err(LiveError::TooLarge);
     }
@@ -70,7 +70,7 @@ pub fn grow<R: Threads + Wait + Sync>(
 }
 
 /// How many tokens the documents of an index have.
-fn token_count(volume: &Volume) -> u32
+fn token_total(volume: &Volume) -> u32
     ensures count { result ≡ tokens_in volume.now.parts.rows }
     ensures lawful { AreLawful volume.now.parts }
 {

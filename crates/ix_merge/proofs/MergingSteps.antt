@@ -16,7 +16,7 @@ use Rattle.ix_text.proofs.AscendingLists.{contained_from_map}
 use Rattle.ix_file.specs.Sections.{postings_section}
 use Rattle.ix_file.specs.Told.{Told, entries_of, position_total, settled_front}
 use Rattle.ix_file.specs.Writers.{WasTold, sink}
-use Rattle.ix_file.specs.declared.sections.Sections.{Sections}
+use Rattle.ix_file.specs.declared.sections.WriterSections.{WriterSections}
 use Rattle.ix_file.specs.declared.writer.IndexWriter.{IndexWriter}
 use Rattle.ix_file.proofs.AscendingLemmas.{ascending_none}
 use Rattle.ix_file.proofs.EndingLemmas.{front_of_spelled}
@@ -84,7 +84,7 @@ told_no_shares headings told last next none empty = record {
 
 -- Since nothing was asked of the sources, and the writer was told no term, they gave shares and it was told these.
 pub record IsMerging {S W : Type 0} (heading : S → Heading) (current : S → Option (List ℕ)) (yields : Yielding S) (gives : Giving S) (contents : W → Option (List ℕ))
-    (begun now : List S) (before : Option (List ℕ)) (told_first : Told) (writer : IndexWriter W Sections) (last : List ℕ) (next : ℕ) : Type 0 where
+    (begun now : List S) (before : Option (List ℕ)) (told_first : Told) (writer : IndexWriter W WriterSections) (last : List ℕ) (next : ℕ) : Type 0 where
   pub shares : List Share
   pub reading : AreReading heading current yields gives begun now shares
   pub told : Told
@@ -95,11 +95,11 @@ pub record IsMerging {S W : Type 0} (heading : S → Heading) (current : S → O
 
 module _ {S W : Type 0} (heading : S → Heading) (current : S → Option (List ℕ)) (yields : Yielding S) (gives : Giving S) (contents : W → Option (List ℕ))
     (lawfully : (source : S) (finished : List DictionaryEntry) (at_hand : Option DictionaryEntry) → gives source finished at_hand → IsLawfulFront (heading source) finished at_hand) where
-  abbrev Merging : List S → List S → Option (List ℕ) → Told → IndexWriter W Sections → List ℕ → ℕ → Type 0
+  abbrev Merging : List S → List S → Option (List ℕ) → Told → IndexWriter W WriterSections → List ℕ → ℕ → Type 0
   Merging begun now before told_first writer last next = IsMerging heading current yields gives contents begun now before told_first writer last next
 
   -- a refusal before the first term
-  pub merged_nothing : (begun : List S) (writer : IndexWriter W Sections) (before : Option (List ℕ)) (told : Told) → All (IsUnread gives) begun → WasTold contents before writer told → entries_of told ≡ []
+  pub merged_nothing : (begun : List S) (writer : IndexWriter W WriterSections) (before : Option (List ℕ)) (told : Told) → All (IsUnread gives) begun → WasTold contents before writer told → entries_of told ≡ []
       → HasMergedSome (map heading begun) before (contents (sink writer))
   merged_nothing begun writer before told unread was none = record {
     shares = map bare_share (map heading begun);
@@ -120,7 +120,7 @@ module _ {S W : Type 0} (heading : S → Heading) (current : S → Option (List 
 
   -- ---- between two turns
 
-  pub merging_first : (begun now : List S) (before : Option (List ℕ)) (told : Told) (writer : IndexWriter W Sections) (last : List ℕ) (next : ℕ) → HaveStarted heading current yields gives begun now
+  pub merging_first : (begun now : List S) (before : Option (List ℕ)) (told : Told) (writer : IndexWriter W WriterSections) (last : List ℕ) (next : ℕ) → HaveStarted heading current yields gives begun now
       → WasTold contents before writer told → entries_of told ≡ [] → last ≡ [] → Merging begun now before told writer last next
   merging_first begun now before told writer last next started was none empty = record {
     shares = map bare_share (map heading begun);
@@ -142,7 +142,7 @@ module _ {S W : Type 0} (heading : S → Heading) (current : S → Option (List 
   }
 
   -- a refusal between two turns, or of the next
-  pub merged_some : (begun now : List S) (before : Option (List ℕ)) (told_first : Told) (writer : IndexWriter W Sections) (last : List ℕ) (next : ℕ) (after : Option (List ℕ))
+  pub merged_some : (begun now : List S) (before : Option (List ℕ)) (told_first : Told) (writer : IndexWriter W WriterSections) (last : List ℕ) (next : ℕ) (after : Option (List ℕ))
       → (merging : Merging begun now before told_first writer last next) → AppendsFront before after (settled_front merging.told) → HasMergedSome (map heading begun) before after
   merged_some begun now before told_first writer last next after merging front = record {
     shares = merging.shares;
@@ -154,7 +154,7 @@ module _ {S W : Type 0} (heading : S → Heading) (current : S → Option (List 
 
   -- ---- a turn
 
-  module _ (begun now : List S) (before : Option (List ℕ)) (told_first : Told) (writer : IndexWriter W Sections) (last : List ℕ) (next : ℕ) (merging : Merging begun now before told_first writer last next)
+  module _ (begun now : List S) (before : Option (List ℕ)) (told_first : Told) (writer : IndexWriter W WriterSections) (last : List ℕ) (next : ℕ) (merging : Merging begun now before told_first writer last next)
       (behind : AreBehind heading current last next now) (few : tokens_under (map heading begun) ≤ 2 ^ 28) (place : ℕ) (source : S) (within : place < length now) (here : get_or now place source ≡ source) where
     abbrev pub share_here : Share
     share_here = get_or merging.shares place no_share
@@ -211,12 +211,12 @@ module _ {S W : Type 0} (heading : S → Heading) (current : S → Option (List 
       }
 
     -- the turn is refused
-    pub merged_some_then : (after : IndexWriter W Sections) → HasToldSome heading current contents before source share_here.entries merging.told last next after → HasMergedSome (map heading begun) before (contents (sink after))
+    pub merged_some_then : (after : IndexWriter W WriterSections) → HasToldSome heading current contents before source share_here.entries merging.told last next after → HasMergedSome (map heading begun) before (contents (sink after))
     merged_some_then after (inl front) = merged_some begun now before told_first writer last next (contents (sink after)) merging front
     merged_some_then after (inr some) = merged_some_more some.0 (contents (sink after)) some.1
 
     -- the turn is done
-    module _ (new : S) (after : IndexWriter W Sections) (last' : List ℕ) (next' : ℕ) (same : heading new ≡ heading source)
+    module _ (new : S) (after : IndexWriter W WriterSections) (last' : List ℕ) (next' : ℕ) (same : heading new ≡ heading source)
         (turned : HasTurned heading current yields gives contents before source new share_here.entries merging.told last next after last' next') where
       pub merging_more : Merging begun (set now place new) before told_first after last' next'
       merging_more = record {
@@ -277,7 +277,7 @@ module _ {S W : Type 0} (heading : S → Heading) (current : S → Option (List 
 
   -- ---- the end
 
-  pub tells_all : (begun now : List S) (before : Option (List ℕ)) (told_first : Told) (writer : IndexWriter W Sections) (last : List ℕ) (next : ℕ) → Merging begun now before told_first writer last next
+  pub tells_all : (begun now : List S) (before : Option (List ℕ)) (told_first : Told) (writer : IndexWriter W WriterSections) (last : List ℕ) (next : ℕ) → Merging begun now before told_first writer last next
       → ((place : ℕ) (source : S) → place < length now → current (get_or now place source) ≡ None) → TellsAll yields heading contents begun before told_first writer
   tells_all begun now before told_first writer last next merging ended = record {
     now = merging.told;

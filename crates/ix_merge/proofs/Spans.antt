@@ -5,7 +5,7 @@ use Rattle.std.proofs.lemmas.Bool.Decides.{nat_tests}
 use Rattle.std.proofs.lemmas.List.Elements.{All-tail, All-head}
 use Rattle.std.proofs.lemmas.List.Sums.{sum_by-cons}
 use Rattle.std.specs.List.{All, sum_by}
-use Rattle.ix_text.specs.Collections.{token_count}
+use Rattle.ix_text.specs.Collections.{token_total}
 use Rattle.ix_text.specs.Parts.{DictionaryEntry, DocumentRow, row_of}
 use Rattle.ix_text.proofs.CollectionTold.{has_collection}
 use Rattle.ix_text.proofs.PartsCounted.{positions_counted, weight_of}
@@ -63,7 +63,7 @@ pub few_positions : (heading : Heading) (entries : List DictionaryEntry) → Are
 few_positions heading entries whole =
     let has = has_collection (parts_with heading entries) whole.lawful in
     let counted = positions_counted has.collection (parts_with heading entries) has.of_collection in
-    let same : tokens_in heading.rows ≡ token_count has.collection =
+    let same : tokens_in heading.rows ≡ token_total has.collection =
     ap tokens_in has.of_collection.rows ∙ sum_by-map (λ (row : DocumentRow). row.tokens) row_of has.collection.documents in
     omega arith
 

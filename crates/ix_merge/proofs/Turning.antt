@@ -9,7 +9,7 @@ use Rattle.ix_file.specs.Telling.{MayList}
 use Rattle.ix_file.specs.Told.{Told, entries_of, position_total, with_term}
 use Rattle.ix_file.proofs.TellingLemmas.{position_total-term}
 use Rattle.ix_file.specs.Writers.{WasTold}
-use Rattle.ix_file.specs.declared.sections.Sections.{Sections}
+use Rattle.ix_file.specs.declared.sections.WriterSections.{WriterSections}
 use Rattle.ix_file.specs.declared.writer.IndexWriter.{IndexWriter}
 use Rattle.ix_run.specs.Heads.{Heading}
 use Rattle.ix_run.specs.Sources.{AreWhole, BeginsTerm, EndsTerms, Giving, Yielding, IsLawfulFront, closed, entry_with}
@@ -135,7 +135,7 @@ module _ {S : Type 0} (heading : S → Heading) (current : S → Option (List �
             }
 
   -- The list of a source was taken, behind what was told of its term.
-  pub record HasTaken {W : Type 0} (contents : W → Option (List ℕ)) (before : Option (List ℕ)) (writer : IndexWriter W Sections) (mid : S) (documents to : ℕ) (bytes : List ℕ) : Type 0 where
+  pub record HasTaken {W : Type 0} (contents : W → Option (List ℕ)) (before : Option (List ℕ)) (writer : IndexWriter W WriterSections) (mid : S) (documents to : ℕ) (bytes : List ℕ) : Type 0 where
     pub gave : GivesEntry heading current old given told last next
     pub of_term : gave.term ≡ term
     pub was : WasTold contents before writer gave.begun
@@ -145,7 +145,7 @@ module _ {S : Type 0} (heading : S → Heading) (current : S → Option (List �
         → GoesOn current yields gives old new given (entry_with gave.term gave.postings)
     pub on_end : (new : S) → is_drained mid → current new ≡ None → EndsTerms yields gives is_drained mid new → GoesOn current yields gives old new given (entry_with gave.term gave.postings)
 
-  pub has_taken : {W : Type 0} (contents : W → Option (List ℕ)) (before : Option (List ℕ)) (writer : IndexWriter W Sections) (from : ℕ) → BeginsEntry contents before writer told last next term from
+  pub has_taken : {W : Type 0} (contents : W → Option (List ℕ)) (before : Option (List ℕ)) (writer : IndexWriter W WriterSections) (from : ℕ) → BeginsEntry contents before writer told last next term from
       → (mid : S) → heading mid ≡ heading old → (documents to : ℕ) (cleared taken bytes : List ℕ) → cleared ≡ [] → bytes ≡ taken → GivesList yields gives old mid (heading old).first from documents to cleared taken
       → HasTaken contents before writer mid documents to bytes
   has_taken contents before writer from entry mid headed documents to cleared taken bytes empty same list =

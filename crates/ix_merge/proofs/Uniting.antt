@@ -5,7 +5,7 @@ use Rattle.std.proofs.lemmas.List.Elements.{All-contains, All-head, All-nil, Con
 use Rattle.std.proofs.lemmas.Option.{slice_get_within, slice_get-get_or}
 use Rattle.std.specs.List.Sorted.{IsStrictlySortedBy}
 use Rattle.ix_text.specs.Collections.{IsName}
-use Rattle.ix_text.specs.Parts.{ArePostings, DictionaryEntry, DocumentRow, HasPosition, Parts}
+use Rattle.ix_text.specs.Parts.{AreTermPostings, DictionaryEntry, DocumentRow, HasPosition, Parts}
 use Rattle.ix_text.specs.PartsLaws.{AreLawful, IsInRange, IsLawfulTerm}
 use Rattle.ix_text.specs.StopSets.{IsStopSet}
 use Rattle.ix_text.specs.Terms.{IsTerm}
@@ -105,7 +105,7 @@ module _ (shares : List Share) (parts : Parts) (united : AreUnited shares parts)
 
   lawful_term : (entry : DictionaryEntry) → Contains parts.entries entry → IsLawfulTerm parts entry
   lawful_term entry among =
-      let ordered = All-contains (λ (e : DictionaryEntry). ArePostings e.postings) parts.entries entry united.merge.ordered among in
+      let ordered = All-contains (λ (e : DictionaryEntry). AreTermPostings e.postings) parts.entries entry united.merge.ordered among in
       let (number, (position, has)) = some_position entry.postings ordered in
       let at = found_under entry among number position has in
       let same_stop = All-contains (λ (s : Share). s.heading.stop ≡ parts.stop) shares at.share united.stop at.among in

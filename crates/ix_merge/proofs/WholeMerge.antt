@@ -13,7 +13,7 @@ use Rattle.ix_file.specs.Rows.{document_row}
 use Rattle.ix_file.specs.Sections.{FrontCoded}
 use Rattle.ix_file.specs.Told.{Told, entries_of, parts_of}
 use Rattle.ix_file.specs.declared.row.DocRow.{DocRow}
-use Rattle.ix_file.specs.declared.sections.Sections.{Sections}
+use Rattle.ix_file.specs.declared.sections.WriterSections.{WriterSections}
 use Rattle.ix_file.specs.declared.writer.IndexWriter.{IndexWriter}
 use Rattle.ix_run.specs.Heads.{Heading, IsLawfulHeading}
 use Rattle.ix_run.specs.Sources.{Faulting, Giving, IsLawfulFront, IsUnread, Yielding}
@@ -84,14 +84,14 @@ on_err (Ok value) p = tt
 on_err (Err error) p = p
 
 -- what a writer was told before the first term
-pub begun : {W : Type 0} (contents : W → Option (List ℕ)) (before : Option (List ℕ)) (writer : IndexWriter W Sections) (hs : List Heading) (rows : List DocumentRow) → (begins : BeginsWith contents before writer hs rows) → AreRowsOf hs rows → AreMergeable hs → AreBegun hs begins.stop rows
+pub begun : {W : Type 0} (contents : W → Option (List ℕ)) (before : Option (List ℕ)) (writer : IndexWriter W WriterSections) (hs : List Heading) (rows : List DocumentRow) → (begins : BeginsWith contents before writer hs rows) → AreRowsOf hs rows → AreMergeable hs → AreBegun hs begins.stop rows
 begun contents before writer hs rows begins laid mergeable = record { laid = laid; same = begins.same; none = begins.none; few = mergeable.few }
 
 begun_still : (hs : List Heading) (stop now : List (List ℕ)) (rows after : List DocumentRow) → now ≡ stop → after ≡ rows → AreBegun hs stop rows → AreBegun hs now after
 begun_still hs stop now rows after stops same begun =
     subst (λ (s : List (List ℕ)). AreBegun hs s after) (sym stops) (subst (λ (r : List DocumentRow). AreBegun hs stop r) (sym same) begun)
 
-module _ {S W : Type 0} (yields : Yielding S) (heading : S → Heading) (contents : W → Option (List ℕ)) (sources : List S) (before : Option (List ℕ)) (told : Told) (writer : IndexWriter W Sections)
+module _ {S W : Type 0} (yields : Yielding S) (heading : S → Heading) (contents : W → Option (List ℕ)) (sources : List S) (before : Option (List ℕ)) (told : Told) (writer : IndexWriter W WriterSections)
     (tells : TellsAll yields heading contents sources before told writer) (begins : AreBegun (map heading sources) told.stop told.rows) where
   -- the text of all parts is that of the concatenation
   pub whole_written : (now : Option (List ℕ)) → ((collection : Collection) → IsLawful collection → ArePartsOf collection (parts_of tells.now) → WritesIndexText before now collection) → WritesConcatenation yields heading sources before now

@@ -1,7 +1,7 @@
 -- What was told to a writer of what sources gave: the same postings, each document under its number in the whole.
 use Rattle.std.specs.Prelude.{◌≡◌, ℕ, ◌+◌, ◌++◌, ◌↔◌, List, [], map, slice_get, Some, All, Contains, Option}
 use Rattle.ix_text.specs.ByteOrder.{IsAscending}
-use Rattle.ix_text.specs.Parts.{DictionaryEntry, ArePostings, HasPosition, terms_of}
+use Rattle.ix_text.specs.Parts.{DictionaryEntry, AreTermPostings, HasPosition, terms_of}
 use Rattle.ix_text.specs.Sinks.{AppendsFront}
 use Rattle.ix_file.specs.IndexText.{magic}
 use Rattle.ix_file.specs.Sections.{FrontCoded, postings_section}
@@ -31,7 +31,7 @@ pub record SomeShareHas (shares : List Share) (term : List ℕ) (number position
 -- The entries have what the shares have and nothing else, terms and documents ascending.
 pub record IsMergeOf (shares : List Share) (entries : List DictionaryEntry) : Type 0 where
   pub ascending : IsAscending (terms_of entries)
-  pub ordered : All (λ entry. ArePostings entry.postings) entries
+  pub ordered : All (λ entry. AreTermPostings entry.postings) entries
   pub merged : (term : List ℕ) (number position : ℕ) → HasUnder entries term number position ↔ SomeShareHas shares term number position
 
 -- Shares of sources with these headings, one each: each a lawful dictionary under its heading.

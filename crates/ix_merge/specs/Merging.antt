@@ -3,7 +3,7 @@ use Rattle.std.specs.Prelude.{◌≡◌, ℕ, ◌<◌, ◌≤◌, List, [], leng
 use Rattle.ix_file.specs.Telling.{IsClosable}
 use Rattle.ix_file.specs.Told.{Told, entries_of}
 use Rattle.ix_file.specs.Writers.{WasTold}
-use Rattle.ix_file.specs.declared.sections.Sections.{Sections}
+use Rattle.ix_file.specs.declared.sections.WriterSections.{WriterSections}
 use Rattle.ix_file.specs.declared.writer.IndexWriter.{IndexWriter}
 use Rattle.ix_run.specs.Heads.{Heading}
 use Rattle.ix_run.specs.declared.listed.ListError.{ListError}
@@ -20,7 +20,7 @@ abbrev pub AreApart : List Heading → Type 0
 AreApart headings = (number : ℕ) → times_covered headings number ≤ 1
 
 -- Nothing was refused to the writer, and it was told no term.
-pub record WasToldNoTerm {W : Type 0} (contents : W → Option (List ℕ)) (writer : IndexWriter W Sections) : Type 0 where
+pub record WasToldNoTerm {W : Type 0} (contents : W → Option (List ℕ)) (writer : IndexWriter W WriterSections) : Type 0 where
   pub before : Option (List ℕ)
   pub told : Told
   pub was : WasTold contents before writer told
@@ -28,7 +28,7 @@ pub record WasToldNoTerm {W : Type 0} (contents : W → Option (List ℕ)) (writ
 
 -- The writer was told all that the sources yield, behind what it was told before.
 pub record TellsAll {S W : Type 0} (yields : Yielding S) (heading : S → Heading) (contents : W → Option (List ℕ))
-    (sources : List S) (before : Option (List ℕ)) (told : Told) (writer : IndexWriter W Sections) : Type 0 where
+    (sources : List S) (before : Option (List ℕ)) (told : Told) (writer : IndexWriter W WriterSections) : Type 0 where
   pub now : Told
   pub was : WasTold contents before writer now
   pub stop : now.stop ≡ told.stop

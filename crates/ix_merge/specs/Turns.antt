@@ -9,7 +9,7 @@ use Rattle.ix_text.specs.Sinks.{AppendsFront}
 use Rattle.ix_file.specs.Telling.{IsClosable}
 use Rattle.ix_file.specs.Told.{Told, entries_of, position_total, settled_front, with_postings, with_term}
 use Rattle.ix_file.specs.Writers.{WasTold, sink}
-use Rattle.ix_file.specs.declared.sections.Sections.{Sections}
+use Rattle.ix_file.specs.declared.sections.WriterSections.{WriterSections}
 use Rattle.ix_file.specs.declared.writer.IndexWriter.{IndexWriter}
 use Rattle.ix_run.specs.Heads.{Heading}
 use Rattle.ix_run.specs.Sources.{AreWhole, Giving, Yielding, entry_with}
@@ -27,7 +27,7 @@ pub record Begins (told : Told) (last : List ℕ) (next : ℕ) (term : List ℕ)
   pub is : ((last ≡ term) × (begun ≡ told) × (from ≡ next)) ⊎ ((last ≢ term) × (begun ≡ with_term told term) × (from ≡ 0))
 
 -- The writer was told that the entry of a term begins, where it was not at hand.
-pub record BeginsEntry {W : Type 0} (contents : W → Option (List ℕ)) (before : Option (List ℕ)) (writer : IndexWriter W Sections)
+pub record BeginsEntry {W : Type 0} (contents : W → Option (List ℕ)) (before : Option (List ℕ)) (writer : IndexWriter W WriterSections)
     (told : Told) (last : List ℕ) (next : ℕ) (term : List ℕ) (from : ℕ) : Type 0 where
   pub begun : Told
   pub begins : Begins told last next term begun from
@@ -45,7 +45,7 @@ pub record MayTurn {S : Type 0} (heading : S → Heading) (current : S → Optio
 
 -- so for some that the source may have given and the writer was told
 pub record MayTurnSomehow {S W : Type 0} (heading : S → Heading) (current : S → Option (List ℕ)) (gives : Giving S)
-    (contents : W → Option (List ℕ)) (source : S) (last : List ℕ) (next : ℕ) (writer : IndexWriter W Sections) : Type 0 where
+    (contents : W → Option (List ℕ)) (source : S) (last : List ℕ) (next : ℕ) (writer : IndexWriter W WriterSections) : Type 0 where
   pub before : Option (List ℕ)
   pub told : Told
   pub was : WasTold contents before writer told
@@ -77,7 +77,7 @@ pub record GoesOn {S : Type 0} (current : S → Option (List ℕ)) (yields : Yie
 -- A source's term at hand was told with its documents, and it went on.
 pub record HasTurned {S W : Type 0} (heading : S → Heading) (current : S → Option (List ℕ)) (yields : Yielding S) (gives : Giving S)
     (contents : W → Option (List ℕ)) (before : Option (List ℕ)) (old new : S) (given : List DictionaryEntry)
-    (told : Told) (last : List ℕ) (next : ℕ) (writer : IndexWriter W Sections) (last' : List ℕ) (next' : ℕ) : Type 0 where
+    (told : Told) (last : List ℕ) (next : ℕ) (writer : IndexWriter W WriterSections) (last' : List ℕ) (next' : ℕ) : Type 0 where
   pub gave : GivesEntry heading current old given told last next
   pub goes : GoesOn current yields gives old new given (entry_with gave.term gave.postings)
   pub was : WasTold contents before writer (told_then gave.begun (heading old).first gave.postings)
@@ -86,7 +86,7 @@ pub record HasTurned {S W : Type 0} (heading : S → Heading) (current : S → O
 
 -- A front went out of what is settled by what was told, or by that with the postings of a source's term at hand.
 abbrev pub HasToldSome : {S W : Type 0} → (S → Heading) → (S → Option (List ℕ)) → (W → Option (List ℕ)) → Option (List ℕ) → S → List DictionaryEntry
-    → Told → List ℕ → ℕ → IndexWriter W Sections → Type 0
+    → Told → List ℕ → ℕ → IndexWriter W WriterSections → Type 0
 HasToldSome heading current contents before source given told last next writer =
     AppendsFront before (contents (sink writer)) (settled_front told)
     ⊎ ((gave : GivesEntry heading current source given told last next) × AppendsFront before (contents (sink writer)) (settled_front (told_then gave.begun (heading source).first gave.postings)))

@@ -6,7 +6,7 @@ use Rattle.std.proofs.lemmas.List.Elements.{All-contains}
 use Rattle.std.proofs.lemmas.Option.{slice_get_within, slice_get-get_or, get_or_from_slice_get}
 use Rattle.ix_text.proofs.AscendingLists.{contained_from_map, contains_cases, contains_first, contains_later, contains_map}
 use Rattle.ix_text.proofs.PartsLemmas.{at_same_place}
-use Rattle.ix_text.specs.Parts.{Parts, Posting, DictionaryEntry, IsEntryOf, IsPosting, HasPosition, terms_of}
+use Rattle.ix_text.specs.Parts.{Parts, Posting, DictionaryEntry, IsEntryOf, IsTermPosting, HasPosition, terms_of}
 use Rattle.ix_file.proofs.OpenedLemmas.{entry_at}
 use Rattle.ix_file.specs.Opened.{lists_of}
 use Rattle.ix_gram.specs.Expanding.{AreMatches}
@@ -56,7 +56,7 @@ matches_found parts pieces numbers count i holds are long all told collection of
           let there = entry_at parts.entries number match.term postings match.numbered list in
           let is = All-contains (IsEntryOf collection) parts.entries (record { term = match.term; postings = postings }) of.entries there in
           let (posting, inside, same) = contained_from_map (λ (p : Posting). p.0) postings n among in
-          let (p, positioned) = has_first posting.1 (All-contains IsPosting postings posting is.ordered.each inside).0 in
+          let (p, positioned) = has_first posting.1 (All-contains IsTermPosting postings posting is.ordered.each inside).0 in
           let has_it = (is.posted n p).0 (subst (λ (d : ℕ). HasPosition postings d p) same (record { positions = posting.1; among = inside; positioned = positioned })) in
           asked.1 (has_it.document, has_it.numbered, (p, match.term, has_it.entry, match.matched)),
       λ satisfied.

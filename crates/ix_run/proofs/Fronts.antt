@@ -8,7 +8,7 @@ use Rattle.std.specs.Cmp.Lexicographic.{slice_cmp}
 use Rattle.std.specs.List.Sorted.{IsStrictlyIncreasing}
 use Rattle.std.specs.Ordering.{nat_cmp}
 use Rattle.ix_text.specs.ByteOrder.{IsAscending}
-use Rattle.ix_text.specs.Parts.{DictionaryEntry, Posting, IsPosting, HasPosition, terms_of}
+use Rattle.ix_text.specs.Parts.{DictionaryEntry, Posting, IsTermPosting, HasPosition, terms_of}
 use Rattle.ix_text.specs.PartsLaws.{AreLawful, IsLawfulTerm}
 use Rattle.ix_run.specs.Heads.{Heading, parts_with}
 use Rattle.ix_run.specs.Sources.{AreWhole, IsLawfulFront, closed, extended}
@@ -112,7 +112,7 @@ shorter_whole heading finished entry left some whole =
               ordered = record {
                 some = some;
                 ascending = rising_front (map (λ p. p.0) entry.postings) (map (λ p. p.0) left) (subst IsStrictlyIncreasing (map-append (λ p. p.0) entry.postings left) is.ordered.ascending);
-                each = all_front IsPosting entry.postings left is.ordered.each;
+                each = all_front IsTermPosting entry.postings left is.ordered.each;
               };
               in_range = λ number position has. is.in_range number position (position_front entry.postings left number position has);
             })

@@ -2,7 +2,7 @@
 use Rattle.std.proofs.Common.{◌≡◌, ◌≢◌, ℕ, ◌+◌, ◌<◌, ◌↔◌, List, [], ◌∷◌, length, map, All, Contains, slice_get, refl, sym, ap, ap₂, subst, ◌∙◌, arith}
 use Rattle.std.proofs.lemmas.List.Elements.{All-head, All-tail, All-map, All-weaker, All-contains}
 use Rattle.ix_text.specs.Collections.{Collection, HasPosting, IsVocabulary}
-use Rattle.ix_text.specs.Parts.{Parts, Posting, DictionaryEntry, ArePartsOf, ArePostings, HasPosition, IsEntryOf, row_of, terms_of}
+use Rattle.ix_text.specs.Parts.{Parts, Posting, DictionaryEntry, ArePartsOf, AreTermPostings, HasPosition, IsEntryOf, row_of, terms_of}
 use Rattle.ix_text.proofs.CollectionTold.{some_position}
 use Rattle.ix_run.specs.CodedTerms.{AreTermsOf, IsCoded, texts_of}
 use Rattle.ix_run.specs.Inverted.{Occurrence, occurrences_of, postings_of}
@@ -42,10 +42,10 @@ positions_are collection term number position =
     )
 
 -- counted postings are in order
-ordered : (collection : Collection) (term : List ℕ) → postings_of term (occurrences_of 0 collection.documents) ≢ [] → ArePostings (postings_of term (occurrences_of 0 collection.documents))
+ordered : (collection : Collection) (term : List ℕ) → postings_of term (occurrences_of 0 collection.documents) ≢ [] → AreTermPostings (postings_of term (occurrences_of 0 collection.documents))
 ordered collection term some =
     let counted = postings_counted term collection.documents in
-    subst ArePostings (sym counted) (are_postings term collection.documents (some_from_length (postings_in term 0 collection.documents) (λ none. some (counted ∙ none))))
+    subst AreTermPostings (sym counted) (are_postings term collection.documents (some_from_length (postings_in term 0 collection.documents) (λ none. some (counted ∙ none))))
 
 -- the terms of the entries
 texts_are : (occurrences : List Occurrence) (terms : List TermValue) → terms_of (map (entry_of occurrences) terms) ≡ texts_of terms

@@ -7,7 +7,7 @@ use Rattle.std.proofs.lemmas.List.Sums.{fold-append}
 use Rattle.std.proofs.lemmas.Slice.Eq.{bytes_eq-Decides}
 use Rattle.std.specs.List.Sorted.{IsStrictlyIncreasing}
 use Rattle.ix_text.specs.Collections.{Document}
-use Rattle.ix_text.specs.Parts.{Posting, IsPosting, ArePostings, HasPosition}
+use Rattle.ix_text.specs.Parts.{Posting, IsTermPosting, AreTermPostings, HasPosition}
 use Rattle.ix_text.specs.TokenLists.{Entry}
 use Rattle.ix_text.proofs.PartsLemmas.{injected}
 use Rattle.ix_text.proofs.TokensTold.{contains_head, contains_tail}
@@ -128,15 +128,15 @@ documents_ascend term number top (document ∷ documents) fits =
       | position ∷ positions ↦ (omega arith, omega arith, more)
     ]
 
-each_posting : (term : List ℕ) (number : ℕ) (documents : List Document) → All IsPosting (postings_in term number documents)
-each_posting term number [] = All-nil IsPosting
+each_posting : (term : List ℕ) (number : ℕ) (documents : List Document) → All IsTermPosting (postings_in term number documents)
+each_posting term number [] = All-nil IsTermPosting
 each_posting term number (document ∷ documents) =
     let up = Ascends-rising 0 (length document.tokens) (positions_at term 0 document.tokens) (positions_ascend term 0 (length document.tokens) document.tokens (omega arith)) in
     by (positions_at term 0 document.tokens) up (each_posting term (number + 1) documents)
   where
-    by : (positions : List ℕ) → IsStrictlyIncreasing positions → All IsPosting (postings_in term (number + 1) documents) → All IsPosting (posting_at number positions ++ postings_in term (number + 1) documents)
+    by : (positions : List ℕ) → IsStrictlyIncreasing positions → All IsTermPosting (postings_in term (number + 1) documents) → All IsTermPosting (posting_at number positions ++ postings_in term (number + 1) documents)
     by [] up rest = rest
-    by (position ∷ positions) up rest = All-cons IsPosting (number, position ∷ positions) (postings_in term (number + 1) documents) (omega arith, up) rest
+    by (position ∷ positions) up rest = All-cons IsTermPosting (number, position ∷ positions) (postings_in term (number + 1) documents) (omega arith, up) rest
 
 -- the entry of that document at that position is the term, documents counted from the number
 pub record StandsAt (documents : List Document) (term : List ℕ) (number document position : ℕ) : Type 0 where
@@ -232,7 +232,7 @@ stands_of term number (first ∷ documents) (suc place) row position at entry =
     subst P (omega arith) (record { positions = more.positions; among = Contains-append_right (posting_at number (positions_at term 0 first.tokens)) (postings_in term (number + 1) documents) (number + 1 + place, more.positions) more.among; positioned = more.positioned })
 
 -- some postings of a term are in order
-pub are_postings : (term : List ℕ) (documents : List Document) → 0 < length (postings_in term 0 documents) → ArePostings (postings_in term 0 documents)
+pub are_postings : (term : List ℕ) (documents : List Document) → 0 < length (postings_in term 0 documents) → AreTermPostings (postings_in term 0 documents)
 are_postings term documents some = record {
   some = some;
   ascending = Ascends-rising 0 (length documents) (map (λ posting. posting.0) (postings_in term 0 documents)) (documents_ascend term 0 (length documents) documents (omega arith));

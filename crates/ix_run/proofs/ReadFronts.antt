@@ -8,7 +8,7 @@ use Rattle.std.specs.Cmp.Lexicographic.{slice_cmp}
 use Rattle.std.specs.List.Sorted.{IsStrictlyIncreasing}
 use Rattle.std.specs.Ordering.{nat_cmp}
 use Rattle.ix_text.specs.ByteOrder.{IsAscending}
-use Rattle.ix_text.specs.Parts.{DictionaryEntry, DocumentRow, Posting, IsPosting, HasPosition, terms_of}
+use Rattle.ix_text.specs.Parts.{DictionaryEntry, DocumentRow, Posting, IsTermPosting, HasPosition, terms_of}
 use Rattle.ix_text.specs.PartsLaws.{AreLawful, IsLawfulTerm, IsInRange}
 use Rattle.ix_text.specs.Terms.{IsTerm}
 use Rattle.ix_text.specs.TokenLaws.{AreInOrder}
@@ -87,20 +87,20 @@ rising_next (y ∷ ys) x more rising =
 -- what the postings of a term in lawful parts are, also where there is none yet
 pub record AreRising (rows : List DocumentRow) (postings : List Posting) : Type 0 where
   pub ascending : IsStrictlyIncreasing (documents_of postings)
-  pub each : All IsPosting postings
+  pub each : All IsTermPosting postings
   pub in_range : (number position : ℕ) → HasPosition postings number position → IsInRange rows number position
 
 rising-none : (rows : List DocumentRow) → AreRising rows []
 rising-none rows = record {
   ascending = λ k within. absurd (omega arith);
-  each = All-nil IsPosting;
+  each = All-nil IsTermPosting;
   in_range = λ number position has. absurd (omega (arith, has.among.1));
 }
 
 rising-push : (rows : List DocumentRow) (postings : List Posting) (posting : Posting) → AreRising rows postings → PostingFits rows (next_after 0 (documents_of postings)) posting → AreRising rows (postings ++ posting ∷ [])
 rising-push rows postings posting are fits = record {
   ascending = subst IsStrictlyIncreasing (sym (map-append (λ (p : Posting). p.0) postings (posting ∷ []))) (rising_push (documents_of postings) posting.0 are.ascending fits.above);
-  each = All-push IsPosting postings posting are.each fits.is.is;
+  each = All-push IsTermPosting postings posting are.each fits.is.is;
   in_range = λ number position has. elim (Contains-push_cases postings posting (number, has.positions) has.among) [
     | inl before ↦ are.in_range number position (record { positions = has.positions; among = before; positioned = has.positioned })
     | inr same ↦

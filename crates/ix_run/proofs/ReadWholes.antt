@@ -7,7 +7,7 @@ use Rattle.std.specs.Cmp.Lexicographic.{slice_cmp}
 use Rattle.std.specs.List.Sorted.{IsStrictlyIncreasing}
 use Rattle.std.specs.Ordering.{nat_cmp}
 use Rattle.ix_text.specs.ByteOrder.{IsAscending}
-use Rattle.ix_text.specs.Parts.{DictionaryEntry, Posting, IsPosting, terms_of}
+use Rattle.ix_text.specs.Parts.{DictionaryEntry, Posting, IsTermPosting, terms_of}
 use Rattle.ix_text.specs.PartsLaws.{IsLawfulTerm, position_count}
 use Rattle.ix_text.specs.TokenNumbers.{AreDistinct, numbers_of_entries, numbers_of_posting, numbers_of_postings}
 use Rattle.ix_text.proofs.CollectionTold.{has_collection}
@@ -54,7 +54,7 @@ posting_fits heading finished entry posting postings entries whole =
     record {
       above = rising_next (documents_of entry.postings) posting.0 (documents_of postings) (subst IsStrictlyIncreasing (map-append (λ (p : Posting). p.0) entry.postings (posting ∷ postings)) are.ascending);
       is = record {
-        is = All-contains IsPosting (entry.postings ++ posting ∷ postings) posting are.each among;
+        is = All-contains IsTermPosting (entry.postings ++ posting ∷ postings) posting are.each among;
         in_range = λ position positioned. are.in_range posting.0 position (record { positions = posting.1; among = among; positioned = positioned });
       };
     }

@@ -4,7 +4,7 @@ use Rattle.std.proofs.lemmas.List.{append_assoc, append-nil, length-map, map-app
 use Rattle.std.proofs.lemmas.List.Elements.{All-contains, All-get_or, All-head, All-tail, All-weaker, Contains-push}
 use Rattle.std.proofs.lemmas.List.Sums.{get_or-le-sum_by, sum_by-cons}
 use Rattle.ix_text.specs.Collections.{Collection}
-use Rattle.ix_text.specs.Parts.{DictionaryEntry, Parts, Posting, ArePostings as ArePostingsOfTerm, IsEntryOf, IsPosting as IsPostingOfTerm, row_of}
+use Rattle.ix_text.specs.Parts.{DictionaryEntry, Parts, Posting, AreTermPostings, IsEntryOf, IsTermPosting, row_of}
 use Rattle.ix_text.specs.PartsLaws.{position_count}
 use Rattle.ix_text.proofs.CollectionTold.{has_collection}
 use Rattle.ix_text.proofs.PartsCounted.{positions_counted}
@@ -140,10 +140,10 @@ length_within f [] all = omega arith
 length_within f (x ∷ xs) all = let rest = length_within f xs (All-tail (λ x. 0 < f x) x xs all) in let first = All-head (λ x. 0 < f x) x xs all in omega (arith, rest, first, sum_by-cons f x xs)
 
 -- postings have some position
-some_positions : (postings : List Posting) → ArePostingsOfTerm postings → 0 < position_count postings
+some_positions : (postings : List Posting) → AreTermPostings postings → 0 < position_count postings
 some_positions postings are =
     let d : Posting = (0, []) in
-    let first = All-get_or IsPostingOfTerm postings 0 d are.some are.each in
+    let first = All-get_or IsTermPosting postings 0 d are.some are.each in
     let some = first.0 in
     omega (arith, some, get_or-le-sum_by (λ (posting : Posting). length posting.1) postings 0 d are.some)
 

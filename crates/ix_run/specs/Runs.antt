@@ -1,7 +1,7 @@
 -- What a run is of a collection: its head, and each term's list coded as the run text has it.
 use Rattle.std.specs.Prelude.{◌≡◌, ℕ, ◌+◌, ◌-◌, ◌^◌, ◌≤◌, ◌<◌, ◌⊎◌, List, [], ◌∷◌, ◌++◌, map, length, flat_map, codes}
 use Rattle.std.specs.Int.{to_le_bytes, w32}
-use Rattle.ix_text.specs.Collections.{Collection, IsLawful, token_count}
+use Rattle.ix_text.specs.Collections.{Collection, IsLawful, token_total}
 use Rattle.ix_text.specs.Parts.{Parts, DictionaryEntry, DocumentRow, Posting, ArePartsOf}
 use Rattle.ix_vbyte.specs.Code.{code_of}
 use Rattle.ix_vbyte.specs.Gaps.{next_after}
@@ -56,7 +56,7 @@ pub record IsRunOf (run : RunValue) (first : ℕ) (collection : Collection) : Ty
 
 -- no run holds the documents under these numbers, or so many tokens
 abbrev pub IsTooLarge : ℕ → Collection → Type 0
-IsTooLarge first collection = (2 ^ 28 < first + length collection.documents) ⊎ (2 ^ 28 < token_count collection)
+IsTooLarge first collection = (2 ^ 28 < first + length collection.documents) ⊎ (2 ^ 28 < token_total collection)
 
 -- a term with its list, as the run text has them
 abbrev pub value_bytes : TermValue → List ℕ

@@ -10,7 +10,7 @@ use crate::heading::read_head;
 use crate::input::Input;
 use crate::list::read_posting;
 use crate::term::read_term;
-use crate::token_counts::{table_of, token_count};
+use crate::token_counts::{table_of, token_total};
 use crate::{RunHead, RunTextError, Source};
 use ix_text::{TokenMarks, TokenTable};
 use std::alloc::Global;
@@ -113,7 +113,7 @@ impl<R: Read + Drop> RunReader<R> {
         let mut input = Input::new(alloc, reader)?;
         let head = read_head(alloc, &mut input)?;
         let tokens = table_of(alloc, &head.docs)?;
-        let marks = TokenMarks::new(alloc, token_count(&head.docs))?;
+        let marks = TokenMarks::new(alloc, token_total(&head.docs))?;
         Ok(RunReader {
             alloc,
             head,

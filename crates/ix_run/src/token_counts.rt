@@ -20,7 +20,7 @@ pub(crate) fn table_of(alloc: Global, docs: &[RunDoc]) -> Result<TokenTable, All
 }
 
 /// How many tokens the documents have together.
-pub(crate) fn token_count(docs: &[RunDoc]) -> u32
+pub(crate) fn token_total(docs: &[RunDoc]) -> u32
     requires { sum_by (λ row. row.tokens) (map row_of_doc docs.now) ≤ 2 ^ 28 }
     ensures { result ≡ sum_by (λ row. row.tokens) (map row_of_doc docs.now) }
 {

@@ -10,11 +10,11 @@ ghost use Rattle.ix_script.specs.declared.error.ScriptError.TheVariants.{Memory}
 use crate::error::ScriptError;
 use crate::step::Step;
 use ix_query::{Query, QueryError};
-use ix_text::StopList;
+use ix_text::{MAX_DOCUMENTS, StopList};
 use std::alloc::{AllocError, Global};
 
 /// One more than the greatest number that a document may have.
-const NUMBERS: u32 = 1 << 28;
+const NUMBERS: u32 = MAX_DOCUMENTS;
 
 /// Reads a script: the text is cut at every LF, and each line that is not empty is `add PATH`, `publish`, `ask QUERY` or
 /// `remove D`, with one space and a rest that is not empty. D is a decimal number from 0 to 268435455 without leading

@@ -12,7 +12,7 @@ use Rattle.std.proofs.lemmas.Bool.{cases_lt}
 use Rattle.std.specs.Ordering.{nat_cmp, ordering_reverse}
 use Rattle.ix_text.specs.ByteOrder.{IsAscending}
 use Rattle.ix_text.specs.Collections.{Document, IsName, IsLawful, IsLawfulEntry, IsVocabulary, HasPosting}
-use Rattle.ix_text.specs.Parts.{Parts, Posting, DictionaryEntry, DocumentRow, ArePartsOf, IsPosting, ArePostings, IsEntryOf, HasPosition, row_of, terms_of}
+use Rattle.ix_text.specs.Parts.{Parts, Posting, DictionaryEntry, DocumentRow, ArePartsOf, IsTermPosting, AreTermPostings, IsEntryOf, HasPosition, row_of, terms_of}
 use Rattle.ix_text.specs.PartsLaws.{IsLawfulTerm, AreLawful, HasCollection}
 use Rattle.ix_text.specs.Terms.{IsTerm}
 use Rattle.ix_text.specs.TokenLists.{Entry}
@@ -105,10 +105,10 @@ contains_first [] some = absurd (omega (arith, some))
 contains_first (x ∷ xs) some = (x, (0, omega (arith, some), refl))
 
 -- a list of postings has a position
-pub some_position : (postings : List Posting) → ArePostings postings → (number : ℕ) × ((position : ℕ) × HasPosition postings number position)
+pub some_position : (postings : List Posting) → AreTermPostings postings → (number : ℕ) × ((position : ℕ) × HasPosition postings number position)
 some_position postings are =
     let (posting, among) = contains_first postings are.some in
-    let is : IsPosting posting = All-contains IsPosting postings posting are.each among in
+    let is : IsTermPosting posting = All-contains IsTermPosting postings posting are.each among in
     let (position, positioned) = contains_first posting.1 is.0 in
     (posting.0, (position, record { positions = posting.1; among = among; positioned = positioned }))
 

@@ -9,8 +9,8 @@ use Rattle.std.proofs.lemmas.Slice.Eq.{bytes_eq-Decides}
 use Rattle.std.specs.List.{count_by}
 use Rattle.std.specs.List.Sorted.{IsStrictlyIncreasing}
 use Rattle.ix_text.specs.ByteOrder.{IsAscending}
-use Rattle.ix_text.specs.Collections.{Collection, Document, HasPosting, token_count}
-use Rattle.ix_text.specs.Parts.{Parts, Posting, DictionaryEntry, ArePartsOf, IsPosting, IsEntryOf, terms_of}
+use Rattle.ix_text.specs.Collections.{Collection, Document, HasPosting, token_total}
+use Rattle.ix_text.specs.Parts.{Parts, Posting, DictionaryEntry, ArePartsOf, IsTermPosting, IsEntryOf, terms_of}
 use Rattle.ix_text.specs.PartsLaws.{position_count}
 use Rattle.ix_text.specs.TokenLists.{Entry}
 use Rattle.ix_text.proofs.CollectionTold.{same_place, contains_first}
@@ -88,7 +88,7 @@ module _ (collection : Collection) (entry : DictionaryEntry) (is : IsEntryOf col
   -- the document of a posting, and what a position in it is
   posting_hits : (posting : Posting) → Contains entry.postings posting → IsOutweighed (token_hits entry.term) collection.documents posting.0 (length posting.1)
   posting_hits posting among =
-      let rising : IsPosting posting = All-contains IsPosting entry.postings posting is.ordered.each among in
+      let rising : IsTermPosting posting = All-contains IsTermPosting entry.postings posting is.ordered.each among in
       let (first, here) = contains_first posting.1 rising.0 in
       let start = posted first here in
       let there : All (λ position. IsOutweighed (λ (token : Entry). weight_of (is_token entry.term token)) start.document.tokens position 1) posting.1 = λ k d within. token_there start.document start.numbered (get_or posting.1 k d) (posted (get_or posting.1 k d) (Contains-get_or posting.1 k d within)) in
@@ -173,7 +173,7 @@ pub tokens_shared : (entries : List DictionaryEntry) → IsAscending (terms_of e
 tokens_shared entries ascending document =
     omega (arith, shared (λ (entry : DictionaryEntry) (token : Entry). weight_of (is_token entry.term token)) (λ (token : Entry). 1) entries (one_entry entries ascending) document.tokens, ones document.tokens)
 
-pub positions_counted : (collection : Collection) (parts : Parts) → ArePartsOf collection parts → sum_by (λ entry. position_count entry.postings) parts.entries ≤ token_count collection
+pub positions_counted : (collection : Collection) (parts : Parts) → ArePartsOf collection parts → sum_by (λ entry. position_count entry.postings) parts.entries ≤ token_total collection
 positions_counted collection parts of =
     omega (
       arith,

@@ -7,7 +7,7 @@ use Rattle.std.proofs.lemmas.Option.{slice_get_within, slice_get-map, get_or_fro
 use Rattle.std.specs.Option.{option_map}
 use Rattle.ix_text.specs.ByteOrder.{IsAscending}
 use Rattle.ix_text.specs.Collections.{Collection, Document, IsName, IsLawful, IsLawfulEntry, HasPosting}
-use Rattle.ix_text.specs.Parts.{Parts, Posting, DictionaryEntry, DocumentRow, ArePartsOf, IsPosting, IsEntryOf, row_of}
+use Rattle.ix_text.specs.Parts.{Parts, Posting, DictionaryEntry, DocumentRow, ArePartsOf, IsTermPosting, IsEntryOf, row_of}
 use Rattle.ix_text.specs.PartsLaws.{IsInRange, IsLawfulTerm, AreLawful}
 use Rattle.ix_text.specs.Terms.{IsTerm}
 use Rattle.ix_text.proofs.CollectionTold.{contains_first, some_position}
@@ -86,7 +86,7 @@ place_below parts lawful number position range =
 
 pub posting_below : (parts : Parts) → AreLawful parts → (entry : DictionaryEntry) → IsLawfulTerm parts entry → (posting : Posting) → Contains entry.postings posting → (posting.0 < 2 ^ 28) × All (λ position. position < 2 ^ 28) posting.1
 posting_below parts lawful entry is posting among =
-    let rising : IsPosting posting = All-contains IsPosting entry.postings posting is.ordered.each among in
+    let rising : IsTermPosting posting = All-contains IsTermPosting entry.postings posting is.ordered.each among in
     let (first, here) = contains_first posting.1 rising.0 in
     ((below first here).0, λ k d within. (below (get_or posting.1 k d) (Contains-get_or posting.1 k d within)).1)
   where

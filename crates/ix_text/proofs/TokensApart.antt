@@ -10,7 +10,7 @@ use Rattle.std.specs.List.Sorted.{IsStrictlySortedBy}
 use Rattle.std.specs.Ordering.{nat_cmp}
 use Rattle.ix_text.specs.ByteOrder.{IsAscending}
 use Rattle.ix_text.specs.Collections.{IsName}
-use Rattle.ix_text.specs.Parts.{DictionaryEntry, DocumentRow, HasPosition, IsPosting, ArePostings, Parts, Posting, terms_of}
+use Rattle.ix_text.specs.Parts.{DictionaryEntry, DocumentRow, HasPosition, IsTermPosting, AreTermPostings, Parts, Posting, terms_of}
 use Rattle.ix_text.specs.PartsLaws.{AreLawful, IsInRange, IsLawfulTerm}
 use Rattle.ix_text.specs.StopSets.{IsStopSet}
 use Rattle.ix_text.specs.TokenLaws.{AreInOrder}
@@ -147,11 +147,11 @@ next_number_is_new rows entries term postings document positions position more l
 -- ---- distinct numbers
 
 -- the positions of one term are distinct tokens
-pub postings_distinct : (rows : List DocumentRow) (postings : List Posting) → ArePostings postings → AreInRange rows postings → AreDistinct (numbers_of_postings rows postings)
+pub postings_distinct : (rows : List DocumentRow) (postings : List Posting) → AreTermPostings postings → AreInRange rows postings → AreDistinct (numbers_of_postings rows postings)
 postings_distinct rows postings are range =
     distinct_flat_map (numbers_of_posting rows) (λ (posting : Posting). posting.0) postings
     (rising_keys_differ (numbers_of_posting rows) (λ (posting : Posting). posting.0) postings are.ascending)
-    (λ posting among. let is : IsPosting posting = All-contains IsPosting postings posting are.each among in rising_distinct (tokens_before rows posting.0) posting.1 is.1)
+    (λ posting among. let is : IsTermPosting posting = All-contains IsTermPosting postings posting are.each among in rising_distinct (tokens_before rows posting.0) posting.1 is.1)
     (λ one other number at_one at_other in_one in_other.
     let (p, has_p, is_p) = contained_from_map (token_number rows one.0) one.1 number in_one in
     let (q, has_q, is_q) = contained_from_map (token_number rows other.0) other.1 number in_other in

@@ -61,8 +61,8 @@ abbrev pub IsLawfulEntry : List (List ℕ) → Entry → Type 0
 IsLawfulEntry stop entry = IfSome entry (λ term. IsTerm term × ¬ (Contains stop term))
 
 -- the number of tokens of a collection, entries that are nothing included
-abbrev pub token_count : Collection → ℕ
-token_count collection = sum_by (λ d. length d.tokens) collection.documents
+abbrev pub token_total : Collection → ℕ
+token_total collection = sum_by (λ d. length d.tokens) collection.documents
 
 -- A collection that an index may stand for.
 pub record IsLawful (collection : Collection) : Type 0 where
@@ -72,4 +72,4 @@ pub record IsLawful (collection : Collection) : Type 0 where
   pub entries : All (λ d. All (IsLawfulEntry collection.stop) d.tokens) collection.documents
   pub few_stop_terms : length collection.stop ≤ 2 ^ 28
   pub few_documents : length collection.documents ≤ 2 ^ 28
-  pub few_tokens : token_count collection ≤ 2 ^ 28
+  pub few_tokens : token_total collection ≤ 2 ^ 28

@@ -39,18 +39,18 @@ pub record HasPosition (postings : List Posting) (number position : ℕ) : Type 
   pub positioned : Contains positions position
 
 -- some position, and positions ascend
-abbrev pub IsPosting : Posting → Type 0
-IsPosting posting = (0 < length posting.1) × IsStrictlyIncreasing posting.1
+abbrev pub IsTermPosting : Posting → Type 0
+IsTermPosting posting = (0 < length posting.1) × IsStrictlyIncreasing posting.1
 
 -- some document, and documents ascend
-pub record ArePostings (postings : List Posting) : Type 0 where
+pub record AreTermPostings (postings : List Posting) : Type 0 where
   pub some : 0 < length postings
   pub ascending : IsStrictlyIncreasing (map (λ posting. posting.0) postings)
-  pub each : All IsPosting postings
+  pub each : All IsTermPosting postings
 
 -- the entry has exactly the postings of its term in the collection
 pub record IsEntryOf (collection : Collection) (entry : DictionaryEntry) : Type 0 where
-  pub ordered : ArePostings entry.postings
+  pub ordered : AreTermPostings entry.postings
   pub posted : (number position : ℕ) → HasPosition entry.postings number position ↔ HasPosting collection entry.term number position
 
 -- the parts are those of the collection

@@ -1,8 +1,8 @@
 -- What the parts of a collection tell of it, and which parts are those of a lawful one.
 use Rattle.std.specs.Prelude.{◌≡◌, ℕ, ◌^◌, ◌<◌, ◌≤◌, List, length, sum_by, slice_get, Some, All, Contains}
 use Rattle.ix_text.specs.ByteOrder.{IsAscending}
-use Rattle.ix_text.specs.Collections.{Collection, IsName, IsLawful, token_count}
-use Rattle.ix_text.specs.Parts.{Posting, DictionaryEntry, DocumentRow, Parts, ArePartsOf, ArePostings, HasPosition, terms_of}
+use Rattle.ix_text.specs.Collections.{Collection, IsName, IsLawful, token_total}
+use Rattle.ix_text.specs.Parts.{Posting, DictionaryEntry, DocumentRow, Parts, ArePartsOf, AreTermPostings, HasPosition, terms_of}
 use Rattle.ix_text.specs.Terms.{IsTerm}
 
 -- two collections with the same parts are the same
@@ -19,7 +19,7 @@ pub record IsInRange (rows : List DocumentRow) (number position : ℕ) : Type 0 
 pub record IsLawfulTerm (parts : Parts) (entry : DictionaryEntry) : Type 0 where
   pub term : IsTerm entry.term
   pub no_stop : ¬ (Contains parts.stop entry.term)
-  pub ordered : ArePostings entry.postings
+  pub ordered : AreTermPostings entry.postings
   pub in_range : (number position : ℕ) → HasPosition entry.postings number position → IsInRange parts.rows number position
 
 -- Parts of a lawful collection, said of the parts alone: no position of a document comes under two terms.
@@ -61,4 +61,4 @@ position_count postings = sum_by (λ posting. length posting.1) postings
 
 -- no token is told twice: all terms have no more positions than the collection has tokens
 abbrev pub TermsShareTokens : Type 0
-TermsShareTokens = (collection : Collection) (parts : Parts) → ArePartsOf collection parts → sum_by (λ entry. position_count entry.postings) parts.entries ≤ token_count collection
+TermsShareTokens = (collection : Collection) (parts : Parts) → ArePartsOf collection parts → sum_by (λ entry. position_count entry.postings) parts.entries ≤ token_total collection

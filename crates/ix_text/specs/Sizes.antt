@@ -1,6 +1,6 @@
 -- How much the texts of documents are together: their bytes, and that they are few.
 use Rattle.std.specs.Prelude.{ℕ, ◌^◌, ◌≤◌, List, length, take, drop, sum_by}
-use Rattle.ix_text.specs.Collections.{NamedText, collection_of, token_count}
+use Rattle.ix_text.specs.Collections.{NamedText, collection_of, token_total}
 
 -- the bytes of the texts, all together; names are not counted
 abbrev pub text_bytes : List NamedText → ℕ
@@ -13,7 +13,7 @@ pub record AreSmall (texts : List NamedText) : Type 0 where
 
 -- under each stop set, named texts have no more tokens than bytes
 abbrev pub TokensAreNoMoreThanBytes : Type 0
-TokensAreNoMoreThanBytes = (stop : List (List ℕ)) (texts : List NamedText) → token_count (collection_of stop texts) ≤ text_bytes texts
+TokensAreNoMoreThanBytes = (stop : List (List ℕ)) (texts : List NamedText) → token_total (collection_of stop texts) ≤ text_bytes texts
 
 -- some of small texts, so many in a row from a place on, are small
 abbrev pub SlicesAreSmall : Type 0

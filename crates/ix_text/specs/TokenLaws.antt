@@ -1,13 +1,13 @@
 -- Where the postings of a dictionary lie in its documents, and that no token is told twice.
 use Rattle.std.specs.Prelude.{ℕ, List, [], All, Contains}
 use Rattle.ix_text.specs.ByteOrder.{IsAscending}
-use Rattle.ix_text.specs.Parts.{DocumentRow, Parts, Posting, IsPosting, terms_of}
+use Rattle.ix_text.specs.Parts.{DocumentRow, Parts, Posting, IsTermPosting, terms_of}
 use Rattle.ix_text.specs.PartsLaws.{AreLawful, IsInRange, IsLawfulTerm}
 use Rattle.ix_text.specs.TokenNumbers.{AreDistinct, numbers_of_entries}
 
 -- a posting with some positions, ascending, that its document has
 pub record IsPostingIn (rows : List DocumentRow) (posting : Posting) : Type 0 where
-  pub is : IsPosting posting
+  pub is : IsTermPosting posting
   pub in_range : (position : ℕ) → Contains posting.1 position → IsInRange rows posting.0 position
 
 -- lawful parts, but that a token may be told twice: they are lawful without their terms, and these ascend and are lawful one by one

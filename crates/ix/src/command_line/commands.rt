@@ -56,9 +56,9 @@ fn ask<'a>(alloc: Global) -> Result<Command<'a>, AllocError>
 {
     let plain = Command::new(alloc, "ask");
     let with_stop = plain.arg(option(alloc, "stop"))?;
-    let with_block = with_stop.arg(number(alloc, "block", 1, MOST_DOCUMENTS))?;
-    let with_bytes = with_block.arg(number(alloc, "bytes", 1, MOST_BYTES))?;
-    let with_workers = with_bytes.arg(number(alloc, "workers", 1, MAX_WORKERS))?;
+    let with_block = with_stop.arg(number_option(alloc, "block", 1, MOST_DOCUMENTS))?;
+    let with_bytes = with_block.arg(number_option(alloc, "bytes", 1, MOST_BYTES))?;
+    let with_workers = with_bytes.arg(number_option(alloc, "workers", 1, MAX_WORKERS))?;
     let with_collection = with_workers.arg(operand(alloc, "COLLECTION"))?;
     let with_query = with_collection.arg(operand(alloc, "QUERY"))?;
     Ok(with_query)
@@ -69,9 +69,9 @@ fn build<'a>(alloc: Global) -> Result<Command<'a>, AllocError>
 {
     let plain = Command::new(alloc, "build");
     let with_stop = plain.arg(option(alloc, "stop"))?;
-    let with_block = with_stop.arg(number(alloc, "block", 1, MOST_DOCUMENTS))?;
-    let with_bytes = with_block.arg(number(alloc, "bytes", 1, MOST_BYTES))?;
-    let with_workers = with_bytes.arg(number(alloc, "workers", 1, MAX_WORKERS))?;
+    let with_block = with_stop.arg(number_option(alloc, "block", 1, MOST_DOCUMENTS))?;
+    let with_bytes = with_block.arg(number_option(alloc, "bytes", 1, MOST_BYTES))?;
+    let with_workers = with_bytes.arg(number_option(alloc, "workers", 1, MAX_WORKERS))?;
     let with_runs = with_workers.arg(option(alloc, "runs"))?;
     let with_collection = with_runs.arg(operand(alloc, "COLLECTION"))?;
     let with_index = with_collection.arg(operand(alloc, "INDEX"))?;
@@ -83,10 +83,10 @@ fn live<'a>(alloc: Global) -> Result<Command<'a>, AllocError>
 {
     let plain = Command::new(alloc, "live");
     let with_stop = plain.arg(option(alloc, "stop"))?;
-    let with_block = with_stop.arg(number(alloc, "block", 1, MOST_DOCUMENTS))?;
-    let with_bytes = with_block.arg(number(alloc, "bytes", 1, MOST_BYTES))?;
-    let with_workers = with_bytes.arg(number(alloc, "workers", 1, MAX_WORKERS))?;
-    let with_searchers = with_workers.arg(number(alloc, "searchers", 1, MAX_SEARCHERS))?;
+    let with_block = with_stop.arg(number_option(alloc, "block", 1, MOST_DOCUMENTS))?;
+    let with_bytes = with_block.arg(number_option(alloc, "bytes", 1, MOST_BYTES))?;
+    let with_workers = with_bytes.arg(number_option(alloc, "workers", 1, MAX_WORKERS))?;
+    let with_searchers = with_workers.arg(number_option(alloc, "searchers", 1, MAX_SEARCHERS))?;
     let with_script = with_searchers.arg(operand(alloc, "SCRIPT"))?;
     Ok(with_script)
 }
@@ -115,7 +115,7 @@ fn run<'a>(alloc: Global) -> Result<Command<'a>, AllocError>
 {
     Command::new(alloc, "run")
         .arg(option(alloc, "stop"))?
-        .arg(number(alloc, "first", 0, MOST_DOCUMENTS))?
+        .arg(number_option(alloc, "first", 0, MOST_DOCUMENTS))?
         .arg(operand(alloc, "COLLECTION"))?
         .arg(operand(alloc, "RUN"))
 }
@@ -147,7 +147,7 @@ fn option<'a>(alloc: Global, name: &'a str) -> Arg<'a>
 }
 
 // The same, for a number from `low` to `high`.
-fn number<'a>(alloc: Global, name: &'a str, low: i64, high: i64) -> Arg<'a>
+fn number_option<'a>(alloc: Global, name: &'a str, low: i64, high: i64) -> Arg<'a>
     ensures { IsArgument (number_rule name.entry.now low high) result }
 {
     Arg::new(alloc, name)

@@ -15,7 +15,7 @@ pub fn option<'a>(matches: &ArgMatches<'a>, id: &str) -> Option<&'a str>
 }
 
 /// The number of an option, where the words give it.
-pub fn number(matches: &ArgMatches<'_>, id: &str) -> Option<u32>
+pub fn number_option(matches: &ArgMatches<'_>, id: &str) -> Option<u32>
     requires { IfSome (one_of id.now (rows_of (found_of matches.now))) IsNumberText }
     ensures { result ≡ given_number id.now (rows_of (found_of matches.now)) }
 {
@@ -27,7 +27,7 @@ pub fn number_or(matches: &ArgMatches<'_>, id: &str, otherwise: u32) -> u32
     requires { IfSome (one_of id.now (rows_of (found_of matches.now))) IsNumberText }
     ensures { HasNumberOr id.now otherwise (rows_of (found_of matches.now)) result }
 {
-    number(matches, id).unwrap_or(otherwise)
+    number_option(matches, id).unwrap_or(otherwise)
 }
 
 /// An operand that the words give.

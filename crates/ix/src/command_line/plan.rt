@@ -5,7 +5,7 @@ ghost use Rattle.ix_build.specs.Blocks.{cut_number};
 ghost use Rattle.ix_build.specs.Plans.{folder_of};
 ghost use Rattle.ix.specs.Lines.{HasBoth, HasPlan, IsNumberIn, cut_of};
 
-use super::fields::{number, number_or};
+use super::fields::{number_option, number_or};
 use clap::ArgMatches;
 use ix_build::{Cut, Plan, Runs};
 use std::alloc::{AllocError, Global};
@@ -38,8 +38,8 @@ pub fn read_plan(matches: &ArgMatches<'_>, runs: Runs) -> Option<Plan>
     ensures plan { IfSome result (HasPlan (rows_of (found_of matches.now)) (folder_of runs)) }
     ensures both { IsNone result → HasBoth (rows_of (found_of matches.now)) }
 {
-    let block = number(matches, "block");
-    let bytes = number(matches, "bytes");
+    let block = number_option(matches, "block");
+    let bytes = number_option(matches, "bytes");
     let workers = number_or(matches, "workers", WORKERS);
     let cut = cut_of(block, bytes)?;
     Some(plan_of(cut, workers, runs))

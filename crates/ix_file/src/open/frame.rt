@@ -1,6 +1,6 @@
 //! The frame of an index text: its marks, and the trailer that says how long the sections are.
 ghost use Rattle.std.specs.Prelude.{◌≡◌, ◌≢◌, ◌↔◌, ℕ, ◌+◌, ◌^◌, ◌<◌, ◌≤◌, ◌++◌, List, length, IsTrue, MatchOption, IfOk, IfErr, OnErr};
-ghost use Rattle.ix_file.specs.Frames.{IsCutInto, SectionTexts, counts, eight, framed, joined_sections, lengths, texts_in, version_in};
+ghost use Rattle.ix_file.specs.Frames.{IsCutInto, FileSectionTexts, counts, eight, framed, joined_sections, lengths, texts_in, version_in};
 ghost use Rattle.ix_file.specs.IndexText.{end_mark, magic};
 ghost use Rattle.ix_file.specs.Sections.{Version as FormatVersion};
 
@@ -22,7 +22,7 @@ pub(crate) enum Version {
 
 /// The sections of an index text, each where it stands.
 #[derive(Clone, Copy, Debug, PartialEq, Eq)]
-pub(crate) struct SectionBytes<'a> {
+pub(crate) struct FileSections<'a> {
     pub(crate) postings: &'a [u8],
     pub(crate) stop: &'a [u8],
     pub(crate) documents: &'a [u8],
@@ -34,7 +34,7 @@ pub(crate) struct SectionBytes<'a> {
 #[derive(Clone, Copy, Debug, PartialEq, Eq)]
 pub(crate) struct Frame<'a> {
     pub(crate) version: Version,
-    pub(crate) sections: SectionBytes<'a>,
+    pub(crate) sections: FileSections<'a>,
     pub(crate) documents: u32,
     pub(crate) terms: u32,
 }
@@ -48,7 +48,7 @@ pub(crate) fn cut(bytes: &[u8]) -> Result<Frame<'_>, OpenError>
     ensures found { IfOk result (λ frame. bytes.now ≡ framed (version_in frame.version)
         (texts_in frame.sections) frame.documents frame.terms) }
     ensures few { IfOk result (λ frame. (frame.documents ≤ 2 ^ 28) × (frame.terms < 2 ^ 32)) }
-    ensures refused { OnErr result ((version : FormatVersion) (texts : SectionTexts)
+    ensures refused { OnErr result ((version : FormatVersion) (texts : FileSectionTexts)
         (documents terms : ℕ) → documents ≤ 2 ^ 28 → terms < 2 ^ 32 →
         bytes.now ≢ framed version texts documents terms) }
 {
@@ -129,11 +129,11 @@ fn is_end_mark(version: Version, mark: &[u8]) -> bool
 }
 
 /// Cuts what stands between the marks' first and the trailer by the five lengths.
-fn cut_sections<'a>(body: &'a [u8], sizes: &[u8]) -> Result<SectionBytes<'a>, OpenError>
+fn cut_sections<'a>(body: &'a [u8], sizes: &[u8]) -> Result<FileSections<'a>, OpenError>
     requires { length sizes.now ≡ LENGTHS_BYTES }
     ensures found { IfOk result (λ sections. (body.now ≡ joined_sections (texts_in sections))
         × (sizes.now ≡ lengths (texts_in sections))) }
-    ensures refused { OnErr result ((texts : SectionTexts) → body.now ≡ joined_sections texts →
+    ensures refused { OnErr result ((texts : FileSectionTexts) → body.now ≡ joined_sections texts →
         sizes.now ≢ lengths texts) }
 {
     let (postings, body, sizes) = cut_section(body, sizes)?;
@@ -144,7 +144,7 @@ fn cut_sections<'a>(body: &'a [u8], sizes: &[u8]) -> Result<SectionBytes<'a>, Op
     if !body.is_empty() {
         return Err(OpenError::Lengths);
     }
-    Ok(SectionBytes {
+    Ok(FileSections {
         postings,
         stop,
         documents,

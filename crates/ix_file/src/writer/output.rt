@@ -12,13 +12,16 @@ ghost use Rattle.ix_file.specs.Telling.{IsTold, Spells, IsClosable, CanClose};
 ghost use Rattle.ix_file.specs.Told.{Told, entries_of, parts_of};
 
 use crate::sections::FULL;
-use crate::{PutError, Sections};
+use crate::{PutError, WriterSections};
 use ix_text::{WriteRefused, flush, put_all};
 use std::io::Write;
 
 /// Writes what is pending, if it is enough to be worth a write.
 #[inline]
-pub(crate) fn send_if_full<W: Write>(out: &mut W, sections: &mut Sections) -> Result<(), PutError>
+pub(crate) fn send_if_full<W: Write>(
+    out: &mut W,
+    sections: &mut WriterSections,
+) -> Result<(), PutError>
     ensures kept { KeepsTold sections.old sections.new }
     ensures refusal { sections.new.refusal ≡ sections.old.refusal }
     ensures sent { (before : Option (List ℕ)) (text : List ℕ) →
@@ -38,7 +41,7 @@ pub(crate) fn send_if_full<W: Write>(out: &mut W, sections: &mut Sections) -> Re
 /// Has coded postings pending, or writes them behind what is pending, so that many bytes are not copied.
 pub(crate) fn put_coded<W: Write>(
     out: &mut W,
-    sections: &mut Sections,
+    sections: &mut WriterSections,
     bytes: &[u8],
 ) -> Result<(), PutError>
     ensures kept { KeepsTold sections.old sections.new }
@@ -64,7 +67,7 @@ pub(crate) fn put_coded<W: Write>(
 }
 
 /// Writes what is pending.
-fn send<W: Write>(out: &mut W, sections: &mut Sections) -> Result<(), PutError>
+fn send<W: Write>(out: &mut W, sections: &mut WriterSections) -> Result<(), PutError>
     ensures kept { KeepsTold sections.old sections.new }
     ensures refusal { sections.new.refusal ≡ sections.old.refusal }
     ensures empty { OnOk result (sections.new.pending.items ≡ []) }
@@ -83,7 +86,7 @@ fn send<W: Write>(out: &mut W, sections: &mut Sections) -> Result<(), PutError>
 
 /// Finishes the entry at hand, writes what is not written yet, STOP, DOCS, DICTIONARY, GRAMS and the trailer,
 /// and flushes.
-pub(crate) fn complete<W: Write>(out: &mut W, sections: &mut Sections) -> Result<(), PutError>
+pub(crate) fn complete<W: Write>(out: &mut W, sections: &mut WriterSections) -> Result<(), PutError>
     requires may { sections.old.refusal ≡ None → CanClose sections.old }
     ensures told { (before : Option (List ℕ)) (told : Told) →
         IsTold before (W.contents out.old) sections.old told → IsClosable told →
@@ -110,7 +113,11 @@ pub(crate) fn complete<W: Write>(out: &mut W, sections: &mut Sections) -> Result
 }
 
 /// Writes STOP, DOCS and DICTIONARY, and the ending behind them.
-fn put_tail<W: Write>(out: &mut W, sections: &Sections, ending: &[u8]) -> Result<(), WriteRefused>
+fn put_tail<W: Write>(
+    out: &mut W,
+    sections: &WriterSections,
+    ending: &[u8],
+) -> Result<(), WriteRefused>
     ensures whole { OnOk result (Appends (W.contents out.old) (W.contents out.new)
         (sections.now.stop.items ++ sections.now.documents.items
         ++ sections.now.dictionary.bytes.items ++ ending.now)) }

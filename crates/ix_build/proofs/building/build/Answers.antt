@@ -1,7 +1,7 @@
 -- The blocks of the plan's cut, one after another, are the collection.
 use Rattle.std.proofs.Common.{ℕ, ◌≤◌, ◌^◌, ◌≡◌, List, map, sym, ap, subst, arith}
 use Rattle.std.proofs.lemmas.Result.{IfErr-at_err, IfOk-at_ok}
-use Rattle.ix_text.specs.Collections.{NamedText, collection_of, token_count}
+use Rattle.ix_text.specs.Collections.{NamedText, collection_of, token_total}
 use Rattle.ix_text.specs.Docs.{named_text}
 use Rattle.ix_text.specs.Sizes.{AreSmall, text_bytes}
 use Rattle.ix_text.proofs.SizeLemmas.{tokens_no_more_than_bytes}
@@ -14,7 +14,7 @@ use Rattle.ix_build.proofs.BlockMaking.{asked_of}
 use Rattle.ix_build.proofs.WholeBuild.{all_left, all_written, may_come, some_bound}
 use Rattle.ix_build.proofs.building.build.Goals as goal
 
-few_tokens : (stop : List (List ℕ)) (texts given : List NamedText) → texts ≡ given → AreSmall given → token_count (collection_of stop texts) ≤ 2 ^ 28
+few_tokens : (stop : List (List ℕ)) (texts given : List NamedText) → texts ≡ given → AreSmall given → token_total (collection_of stop texts) ≤ 2 ^ 28
 few_tokens stop texts given same small =
     let few = tokens_no_more_than_bytes stop texts in
     let bytes = ap text_bytes same in

@@ -12,4 +12,4 @@ or_else (Some text) otherwise = refl
 
 pub returns : goal.returns
 returns c =
-    c.unwrap_or.ensures ∙ ap (λ r. unwrap_or r c.args.otherwise) c.number.ensures ∙ or_else (one_of c.args.id.now (rows_of (found_of c.args.matches.now))) c.args.otherwise
+    c.unwrap_or.ensures ∙ ap (λ r. unwrap_or r c.args.otherwise) c.number_option.ensures ∙ or_else (one_of c.args.id.now (rows_of (found_of c.args.matches.now))) c.args.otherwise

@@ -3,11 +3,11 @@ use Rattle.std.proofs.Common.{arith}
 use Rattle.ix.proofs.Plans.{cut_is_some, in_range_or, is_number, no_cut}
 use Rattle.ix.proofs.command_line.plan.read_plan.Goals as goal
 
-pub number-block-requires : goal.number-block-requires
-number-block-requires c = is_number 1 268435456 _ c.requires.block
+pub number_option-block-requires : goal.number_option-block-requires
+number_option-block-requires c = is_number 1 268435456 _ c.requires.block
 
-pub number-bytes-requires : goal.number-bytes-requires
-number-bytes-requires c = is_number 1 268435456 _ c.requires.bytes
+pub number_option-bytes-requires : goal.number_option-bytes-requires
+number_option-bytes-requires c = is_number 1 268435456 _ c.requires.bytes
 
 pub number_or-workers-requires : goal.number_or-workers-requires
 number_or-workers-requires c = is_number 1 64 _ c.requires.workers

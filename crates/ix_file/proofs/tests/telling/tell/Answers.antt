@@ -7,19 +7,19 @@ use Rattle.ix_vbyte.proofs.Gaps.{next_after-push}
 use Rattle.ix_text.specs.Parts.{DictionaryEntry, Posting}
 use Rattle.ix_file.specs.Telling.{IsTold, MayPost}
 use Rattle.ix_file.specs.Told.{Told, entries_of, with_term, with_posting, listed, position_total}
-use Rattle.ix_file.specs.declared.sections.Sections.{Sections}
+use Rattle.ix_file.specs.declared.sections.WriterSections.{WriterSections}
 use Rattle.ix_file.proofs.TellingLemmas.{position_total-term}
 use Rattle.ix_file.proofs.ListTold.{position_total-listed}
 use Rattle.ix_file.proofs.tests.telling.tell.Invariants.{IsWithin}
 use Rattle.ix_file.proofs.tests.telling.tell.Goals as goal
 
-within_term : (now : Option (List ℕ)) (sections : Sections) (count : ℕ) (before : Option (List ℕ)) (told : Told) (term : List ℕ)
+within_term : (now : Option (List ℕ)) (sections : WriterSections) (count : ℕ) (before : Option (List ℕ)) (told : Told) (term : List ℕ)
     → position_total (entries_of told) ≡ count → IsTold before now sections (with_term told term) → IsWithin now sections count 0
 within_term now sections count before told term counted is =
     let entry : DictionaryEntry = record { term = term; postings = [] } in
     record { before = before; told = with_term told term; entry = entry; is = is; at_hand = refl; after = refl; counted = position_total-term (entries_of told) term ∙ counted }
 
-within_posting : (now : Option (List ℕ)) (sections : Sections) (count : ℕ) (before : Option (List ℕ)) (told : Told) (entry : DictionaryEntry) (document : ℕ) (positions : List ℕ)
+within_posting : (now : Option (List ℕ)) (sections : WriterSections) (count : ℕ) (before : Option (List ℕ)) (told : Told) (entry : DictionaryEntry) (document : ℕ) (positions : List ℕ)
     → told.at_hand ≡ Some entry → position_total (entries_of told) ≡ count → IsTold before now sections (with_posting told document positions)
     → IsWithin now sections (count + length positions) (document + 1)
 within_posting now sections count before told entry document positions at_hand counted is =

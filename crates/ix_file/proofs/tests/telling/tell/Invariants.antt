@@ -5,11 +5,11 @@ use Rattle.ix_vbyte.specs.Postings.{documents_of}
 use Rattle.ix_text.specs.Parts.{DictionaryEntry}
 use Rattle.ix_file.specs.Telling.{IsTold, IsClosable}
 use Rattle.ix_file.specs.Told.{Told, entries_of, position_total}
-use Rattle.ix_file.specs.declared.sections.Sections.{Sections}
+use Rattle.ix_file.specs.declared.sections.WriterSections.{WriterSections}
 use Rattle.ix_file.proofs.tests.telling.tell.Given as goal
 
 -- entries with so many positions were told, and the last may be finished
-pub record IsBetween (now : Option (List ℕ)) (sections : Sections) (count : ℕ) : Type 0 where
+pub record IsBetween (now : Option (List ℕ)) (sections : WriterSections) (count : ℕ) : Type 0 where
   pub before : Option (List ℕ)
   pub told : Told
   pub is : IsTold before now sections told
@@ -17,7 +17,7 @@ pub record IsBetween (now : Option (List ℕ)) (sections : Sections) (count : �
   pub counted : position_total (entries_of told) ≡ count
 
 -- an entry is at hand whose last document is before `next`
-pub record IsWithin (now : Option (List ℕ)) (sections : Sections) (count next : ℕ) : Type 0 where
+pub record IsWithin (now : Option (List ℕ)) (sections : WriterSections) (count next : ℕ) : Type 0 where
   pub before : Option (List ℕ)
   pub told : Told
   pub entry : DictionaryEntry

@@ -1,6 +1,6 @@
 use Rattle.std.proofs.Common.{◌≡◌, ◌<◌, ◌^◌, ⊎_elim, length, ap, arith}
 use Rattle.std.proofs.lemmas.Result.{err_from_is_err_and}
-use Rattle.ix_file.specs.Frames.{SectionTexts, framed, texts_in, version_in}
+use Rattle.ix_file.specs.Frames.{FileSectionTexts, framed, texts_in, version_in}
 use Rattle.ix_file.specs.Opened.{Opened}
 use Rattle.ix_file.specs.Places.{texts_at}
 use Rattle.ix_file.specs.Spelled.{AreSectionsOf}
@@ -36,7 +36,7 @@ returns c =
     let spelled : AreSectionsOf opened.version opened.parts opened.grams texts frame.documents frame.terms = rw same c.in_ok-tables.ensures.spelled in
     let from = opened_from c.deref.result.now opened texts frame.documents frame.terms e c.in_ok-tables.ensures.tables.lawful c.in_ok-tables.ensures.tables.grams spelled in
     let places : texts_at c.args.bytes.items c.places_of-places.result ≡ texts = rw (← c.deref-2.ensures.value) c.places_of-places.ensures.texts in
-    let with_texts : SectionTexts → Opened = λ t. opened_in t tables in
+    let with_texts : FileSectionTexts → Opened = λ t. opened_in t tables in
     let shown = with_texts (texts_at c.args.bytes.items c.places_of-places.result) in
     let here : IsOpenedFrom shown c.args.bytes.items = rw (ap with_texts places, ← c.deref.ensures.value) from in
     record { found = (here.collection, here.is, here.text); exact = is_index_of c.args.bytes.items shown here }

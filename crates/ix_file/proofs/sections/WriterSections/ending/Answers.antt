@@ -1,6 +1,6 @@
 use Rattle.std.proofs.Common.{◌≡◌, length, arith}
 use Rattle.ix_file.proofs.EndingLemmas.{is_ending, trailer_is}
-use Rattle.ix_file.proofs.sections.Sections.ending.Goals as goal
+use Rattle.ix_file.proofs.sections.WriterSections.ending.Goals as goal
 
 pub returns-clause-ending : goal.returns-clause-ending
 returns-clause-ending c terms held =

@@ -3,7 +3,7 @@ use Rattle.std.specs.Prelude.{slice_get}
 use Rattle.ix_text.specs.PartsLaws.{AreLawful}
 use Rattle.ix_file.specs.Opened.{Opened, token_counts}
 use Rattle.ix_live.proofs.StoredLemmas.{tokens_next, tokens_within}
-use Rattle.ix_live.proofs.growing.token_count.Goals as goal
+use Rattle.ix_live.proofs.growing.token_total.Goals as goal
 
 pub overflow_add-total : goal.overflow_add-total
 overflow_add-total c =

@@ -3,7 +3,7 @@ use Rattle.std.proofs.lemmas.List.{length-map}
 use Rattle.ix_file.specs.IndexText.{magic}
 use Rattle.ix_file.specs.Rows.{document_row}
 use Rattle.ix_file.specs.Sections.{FrontCoded, stop_section, documents_section}
-use Rattle.ix_file.proofs.sections.Sections.begin.Goals as goal
+use Rattle.ix_file.proofs.sections.WriterSections.begin.Goals as goal
 
 pub returns : goal.returns
 unfolding magic

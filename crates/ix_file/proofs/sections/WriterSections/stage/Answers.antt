@@ -1,7 +1,7 @@
 use Rattle.std.proofs.Common.{◌≡◌, ◌+◌, ◌-◌, ◌*◌, ◌≤◌, arith, ap, length, length-append, ◌++◌}
 use Rattle.ix_vbyte.specs.Postings.{posting_bytes}
 use Rattle.ix_file.proofs.TellingLemmas.{length-posting_bytes}
-use Rattle.ix_file.proofs.sections.Sections.stage.Goals as goal
+use Rattle.ix_file.proofs.sections.WriterSections.stage.Goals as goal
 
 pub overflow_cast-gained : goal.overflow_cast-gained
 overflow_cast-gained c =

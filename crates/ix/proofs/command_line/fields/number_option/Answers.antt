@@ -4,7 +4,7 @@ use Rattle.std.specs.Str.Parse.{ExplainsUnsignedError, HasUnsignedDigitsIfOk, Pa
 use Rattle.clap.specs.Words.{found_of, one_of, rows_of}
 use Rattle.clap.proofs.WalkLemmas.{one_text-rows}
 use Rattle.ix.proofs.Numbers.{read_number}
-use Rattle.ix.proofs.command_line.fields.number.Goals as goal
+use Rattle.ix.proofs.command_line.fields.number_option.Goals as goal
 
 pub returns : goal.returns
 returns c =
