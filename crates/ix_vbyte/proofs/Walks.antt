@@ -33,7 +33,7 @@ pub numbers_in-nil : numbers_in [] ≡ []
 unfolding numbers_in codes_in
 numbers_in-nil = refl
 
-numbers_in-code_of : (number : ℕ) (rest : List ℕ) → number < 2 ^ 32 → numbers_in (code_of number ++ rest) ≡ number ∷ numbers_in rest
+pub numbers_in-code_of : (number : ℕ) (rest : List ℕ) → number < 2 ^ 32 → numbers_in (code_of number ++ rest) ≡ number ∷ numbers_in rest
 numbers_in-code_of number rest fits = numbers_in-code number (code_of number) rest (IsCode-code_of number fits)
 
 numbers_in-codes_of : (numbers rest : List ℕ) → All (λ n. n < 2 ^ 32) numbers → numbers_in (codes_of numbers ++ rest) ≡ numbers ++ numbers_in rest

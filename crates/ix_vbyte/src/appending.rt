@@ -1,14 +1,19 @@
 //! Texts, gaps and postings at the end of other bytes. Where memory is refused, which it is only where what is appended
 //! finds no room, nothing was appended.
-ghost use Rattle.std.specs.Prelude.{◌≡◌, ◌≤◌, ◌<◌, ◌+◌, ◌-◌, ◌^◌, ◌++◌, length, take, OnOk, OnErr};
+ghost use Rattle.std.specs.Prelude.{◌≡◌, ◌≤◌, ◌<◌, ◌+◌, ◌-◌, ◌^◌, [], ◌∷◌, ◌++◌, length, take, OnOk, OnErr};
 ghost use Rattle.std.specs.Prelude.{vec_capacity, vec_len};
 ghost use Rattle.ix_vbyte.specs.Code.{code_of};
 ghost use Rattle.ix_vbyte.specs.Gaps.{Ascends, gaps_from};
 ghost use Rattle.ix_vbyte.specs.Postings.{codes_of, posting_bytes};
 ghost use Rattle.ix_vbyte.specs.Texts.{counted};
 
+use crate::encoding::{group, last};
 use crate::push_code;
+use crate::short_postings::{ONE, SHORT};
 use std::alloc::AllocError;
+
+/// The least number whose code has three bytes.
+const LONG: u32 = 1 << 14;
 
 /// Appends a text of less than 2^32 bytes: the code of the number of its bytes, and then these. Where memory is
 /// refused, which it is only where they find no room, nothing was appended.
@@ -139,4 +144,76 @@ fn append_posting(out: &mut Vec<u8>, gap: u32, positions: &[u32]) -> Result<(), 
     push_code(out, gap)?;
     push_code(out, positions.len() as u32)?;
     append_gaps(out, 0, positions)
+}
+
+/// Appends the posting of a document with one position, as [`push_posting`] does one with any number of them. Where
+/// memory is refused, which it is only where it finds no room, nothing was appended.
+///
+/// Four postings of five are such, and mostly their gaps have short codes: these are written in the caller.
+#[inline(always)]
+pub fn push_single(
+    out: &mut Vec<u8>,
+    next: u32,
+    document: u32,
+    position: u32,
+) -> Result<(), AllocError>
+    requires follows { next ≤ document }
+    requires low { document < 2 ^ 32 - 1 }
+    requires within { position < 2 ^ 32 - 1 }
+    ensures ok { OnOk result (out.new.items
+        ≡ out.old.items ++ posting_bytes (document + 1 - next) (document, position ∷ [])) }
+    ensures err { OnErr result (out.new.items ≡ out.old.items) }
+    ensures full { OnErr result (vec_capacity out.old
+        < vec_len out.old + length (posting_bytes (document + 1 - next) (document, position ∷ []))) }
+    ensures capacity { vec_capacity out.old ≤ vec_capacity out.new }
+{
+    let gap = document + 1 - next;
+    let room = out.capacity() - out.len();
+    if gap < LONG && position < LONG - 1 && room >= SHORT {
+        push_short(out, gap);
+        out.push_reserved(ONE);
+        push_short(out, position + 1);
+        return Ok(());
+    }
+    push_long_single(out, next, document, position)
+}
+
+/// The same, where the codes are long or there is no room for short ones.
+#[cold]
+#[inline(never)]
+fn push_long_single(
+    out: &mut Vec<u8>,
+    next: u32,
+    document: u32,
+    position: u32,
+) -> Result<(), AllocError>
+    requires follows { next ≤ document }
+    requires low { document < 2 ^ 32 - 1 }
+    requires within { position < 2 ^ 32 - 1 }
+    ensures ok { OnOk result (out.new.items
+        ≡ out.old.items ++ posting_bytes (document + 1 - next) (document, position ∷ [])) }
+    ensures err { OnErr result (out.new.items ≡ out.old.items) }
+    ensures full { OnErr result (vec_capacity out.old
+        < vec_len out.old + length (posting_bytes (document + 1 - next) (document, position ∷ []))) }
+    ensures capacity { vec_capacity out.old ≤ vec_capacity out.new }
+{
+    push_posting(out, next, document, &[position])
+}
+
+/// Appends the code of a number of one byte or two, for which there is room.
+#[inline(always)]
+#[tactic(auto, using(crate::proofs::Widths::widths))]
+fn push_short(out: &mut Vec<u8>, n: u32)
+    requires short { n < 2 ^ 14 }
+    requires room { vec_len out.old + 2 ≤ vec_capacity out.old }
+    ensures pushed { out.new.items ≡ out.old.items ++ code_of n }
+    ensures len { vec_len out.new ≤ vec_len out.old + 2 }
+    ensures capacity { vec_capacity out.new ≡ vec_capacity out.old }
+{
+    if n < 128 {
+        out.push_reserved(last(n));
+    } else {
+        out.push_reserved(group(n >> 7));
+        out.push_reserved(last(n));
+    }
 }

@@ -30,9 +30,10 @@ pub fn decode(bytes: &[u8]) -> Result<(u32, usize), VbError>
     read(bytes)
 }
 
-/// The number whose code the bytes begin with, and what follows the code. Codes of one and two bytes take no loop.
+/// The number whose code the bytes are known to begin with, and what follows the code. Codes of one and two bytes take
+/// no call.
 #[inline(always)]
-pub(crate) fn first_number(bytes: &[u8]) -> (u32, &[u8])
+pub fn first_number(bytes: &[u8]) -> (u32, &[u8])
     requires { BeginsWithNumber bytes.now }
     ensures { ReadsNumber bytes.now result.0 result.1.now }
 {

@@ -46,7 +46,7 @@ impl Code {
 
 /// The low seven bits of `n`, as a byte that does not end a code.
 #[inline]
-fn group(n: u32) -> u8
+pub(crate) fn group(n: u32) -> u8
     ensures { result ≡ n % 128 }
 {
     (n % 128) as u8
@@ -54,7 +54,7 @@ fn group(n: u32) -> u8
 
 /// The low seven bits of `n`, as the byte that ends its code.
 #[inline]
-fn last(n: u32) -> u8
+pub(crate) fn last(n: u32) -> u8
     ensures { result ≡ 128 + n % 128 }
 {
     128 + (n % 128) as u8

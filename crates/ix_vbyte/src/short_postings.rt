@@ -5,10 +5,10 @@ ghost use Rattle.ix_vbyte.specs.Code.{code_of};
 ghost use Rattle.ix_vbyte.specs.ShortPostings.{BeginsWithShort, BeginsWithSingle, IsShortCode, single_bytes};
 
 /// How many bytes are looked at: two gaps of two bytes, and the number of positions.
-const SHORT: usize = 5;
+pub(crate) const SHORT: usize = 5;
 
 /// The code of 1.
-const ONE: u8 = 129;
+pub(crate) const ONE: u8 = 129;
 
 /// A posting of one position.
 #[derive(Clone, Copy)]
