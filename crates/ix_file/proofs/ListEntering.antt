@@ -4,7 +4,7 @@ use Rattle.std.proofs.lemmas.List.{append_assoc, length-append}
 use Rattle.std.proofs.lemmas.List.Elements.{All-head, All-push, All-tail, All-weaker}
 use Rattle.std.proofs.lemmas.Option.{get_or_from_slice_get}
 use Rattle.ix_vbyte.specs.Gaps.{next_after}
-use Rattle.ix_vbyte.specs.Postings.{ArePostings, IsTermPosting as IsPostingBelow, documents_of, list_bytes, list_bytes_from, posting_bytes}
+use Rattle.ix_vbyte.specs.Postings.{ArePostings, IsPosting as IsPostingBelow, documents_of, list_bytes, list_bytes_from, posting_bytes}
 use Rattle.ix_vbyte.specs.Skips.{AreSkips, AreSkipsIn, IsSkip}
 use Rattle.ix_vbyte.specs.declared.skips.Skip.{Skip}
 use Rattle.ix_vbyte.proofs.Gaps.{Ascends-rising}
