@@ -7,6 +7,7 @@ pub mod GramsExist
 pub mod IndexSources
 pub mod KeyOrder
 pub mod Laying
+pub mod Leads
 pub mod MergedMore
 pub mod MergingSteps
 pub mod Parting
@@ -17,6 +18,7 @@ pub mod Rounds
 pub mod Shares
 pub mod ShiftedLists
 pub mod Spans
+pub mod StandingSteps
 pub mod Starts
 pub mod StopTerms
 pub mod Turning

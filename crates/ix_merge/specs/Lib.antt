@@ -8,6 +8,7 @@ pub mod Merging
 pub mod Pieces
 pub mod Refusals
 pub mod Rows
+pub mod Standings
 pub mod Starting
 pub mod Tournaments
 pub mod Turns

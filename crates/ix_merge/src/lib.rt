@@ -8,6 +8,7 @@ mod index_head;
 mod index_source;
 mod merge_error;
 mod overview;
+mod standing;
 mod terms;
 #[cfg(test)]
 mod tests;

@@ -7,12 +7,14 @@ ghost use Rattle.ix_merge.specs.Keys.{key_of};
 ghost use Rattle.ix_merge.specs.Merged.{HasMergedSome};
 ghost use Rattle.ix_merge.specs.Merging.{AreApart, IsRefusalAt, IsRefusalOf, KeepFaults, TellsAll, WasToldNoTerm};
 ghost use Rattle.ix_merge.specs.Rows.{tokens_under};
+ghost use Rattle.ix_merge.specs.Standings.{AreStandings};
 ghost use Rattle.ix_merge.specs.Starting.{HasStarted, HaveStarted};
 ghost use Rattle.ix_merge.specs.Tournaments.{AreLeaves};
 
 use crate::MergeError;
 use crate::entry::EntryAtHand;
-use crate::tournament::{first_of, play_again, play_all};
+use crate::standing::Standing;
+use crate::tournament::{end, first_of, play_again, play_all};
 use crate::turn::take_turn;
 use ix_file::IndexWriter;
 use ix_run::Source;
@@ -50,16 +52,23 @@ pub(crate) fn merge_terms<S: Source, W: Write>(
     let Ok(mut tree) = vec![in alloc; None; nodes] else {
         return Err(MergeError::Memory);
     };
-    merge_by(sources, &mut tree, &mut EntryAtHand::none(alloc), writer)
+    let Ok(mut standings) = vec![in alloc; Standing::none(); sources.len()] else {
+        return Err(MergeError::Memory);
+    };
+    let mut entry = EntryAtHand::none(alloc);
+    merge_by(sources, &mut standings, &mut tree, &mut entry, writer)
 }
 
-/// The same, with the nodes of a tournament, twice as many as there are sources, and an entry that was not begun.
+/// The same, with room for the standing of each source, the nodes of a tournament, twice as many as there are sources, and
+/// an entry that was not begun.
 fn merge_by<S: Source, W: Write>(
     sources: &mut [S],
+    standings: &mut [Standing],
     tree: &mut [Option<usize>],
     entry: &mut EntryAtHand,
     writer: &mut IndexWriter<'_, W>,
 ) -> Result<(), MergeError<S::Error>>
+    requires as_many { length standings.old ≡ length sources.old }
     requires sized { length tree.old ≡ 2 * length sources.old }
     requires none { string_bytes entry.old.term ≡ [] }
     requires unread { All (IsUnread S.gives) sources.old }
@@ -76,33 +85,43 @@ fn merge_by<S: Source, W: Write>(
         (W.contents (sink writer.new))) }
     ensures refused { IfErr result (IsRefusalOf S.faults sources.old) }
 {
-    begin_all(sources, tree)?;
-    play_all(sources, tree);
+    begin_all(sources, standings, tree)?;
+    play_all(sources, standings, tree);
     while let Some(place) = first_of(tree) {
-        let more = take_turn(place, &mut sources[place], entry, writer)?;
+        let source = &mut sources[place];
+        let more = take_turn(place, source, entry, writer)?;
+        standings[place].follow(source, more);
         let leaf = sources.len() + place;
         tree[leaf] = more.then_some(place);
-        play_again(sources, tree, leaf);
+        play_again(sources, standings, tree, leaf);
     }
     Ok(())
 }
 
-/// Reads the first term of each source, and sets the leaves of a tournament.
+/// Reads the first term of each source, and sets the leaves of a tournament and where each source stands.
 fn begin_all<S: Source>(
     sources: &mut [S],
+    standings: &mut [Standing],
     tree: &mut [Option<usize>],
 ) -> Result<(), MergeError<S::Error>>
+    requires as_many { length standings.old ≡ length sources.old }
     requires sized { length tree.old ≡ 2 * length sources.old }
     requires unread { All (IsUnread S.gives) sources.old }
     ensures started { OnOk result
         (HaveStarted S.heading S.current S.yields S.gives sources.old sources.new) }
     ensures leaves { OnOk result (AreLeaves (map (key_of S.heading S.current) sources.new)
         tree.new) }
+    ensures standings { OnOk result (AreStandings (map (key_of S.heading S.current) sources.new)
+        standings.new) }
     ensures no_more_faults { OnOk result (KeepFaults S.faults sources.old sources.new) }
     ensures refused { IfErr result (IsRefusalOf S.faults sources.old) }
 {
     for place in 0..sources.len() {
-        let more = begin_source(place, &mut sources[place])?;
+        let source = &mut sources[place];
+        let more = begin_source(place, source)?;
+        let standing = &mut standings[place];
+        standing.end = end(source);
+        standing.follow(source, more);
         let leaf = sources.len() + place;
         tree[leaf] = more.then_some(place);
     }

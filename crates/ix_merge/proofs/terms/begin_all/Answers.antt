@@ -3,6 +3,7 @@ use Rattle.std.proofs.lemmas.List.{get_or_default}
 use Rattle.std.proofs.lemmas.Result.{err_from_is_err_and}
 use Rattle.ix_merge.proofs.Faulting.{keep_more, refusal_at}
 use Rattle.ix_merge.proofs.Rounds.{then_some-cond}
+use Rattle.ix_merge.proofs.StandingSteps.{standings_more}
 use Rattle.ix_merge.proofs.Starts.{HaveBegun, begun_more}
 use Rattle.ix_merge.proofs.terms.begin_all.Goals as goal
 
@@ -16,6 +17,9 @@ loop-place-preserved g c =
       begun =
           subst (λ (holder : Option ℕ). Q (length (set c.loop-place.sources c.loop-place.place c.begin_source.new.source)) holder) (sym (c.then_some.ensures ∙ then_some-cond c.in_ok-more.more c.loop-place.place))
           (subst (λ n. Q n (cond c.in_ok-more.more (Some c.loop-place.place) None)) (sym (length-set c.loop-place.sources c.loop-place.place c.begin_source.new.source)) more);
+      standings =
+          standings_more g.S.Source.heading g.S.Source.current c.loop-place.sources c.loop-place.standings c.loop-place.place c.begin_source.new.source c.follow.new.self
+          (omega (arith, b.as_many)) c.follow.ensures c.loop-place.invariant.standings;
       no_more_faults =
           keep_more g.S.Source.faults c.args.sources.now c.loop-place.sources c.loop-place.place (get_or c.loop-place.sources c.loop-place.place c.index-sources-place.result) b.as_many c.loop-place.invariant.no_more_faults
           (omega (arith, b.as_many)) (get_or_default c.loop-place.sources c.loop-place.place (get_or c.loop-place.sources c.loop-place.place c.index-sources-place.result) c.index-sources-place.result (omega (arith, b.as_many)))

@@ -11,6 +11,7 @@ use Rattle.ix_merge.proofs.Faulting.{keep_more, refusal_at}
 use Rattle.ix_merge.proofs.MergingSteps.{behind_then, longer, may_take, merged_nothing, merged_some_then, merging_first, merging_more, share_here, tells_all}
 use Rattle.ix_merge.proofs.Playing.{HoldsFirst, holds_first}
 use Rattle.ix_merge.proofs.Rounds.{behind_first, leaf_changed, none_left, then_some-cond}
+use Rattle.ix_merge.proofs.StandingSteps.{end_stays, standings_changed}
 use Rattle.ix_merge.proofs.Starts.{started_headed}
 use Rattle.ix_merge.proofs.Turning.{on_err_if}
 use Rattle.ix_merge.proofs.terms.merge_by.Goals as goal
@@ -28,6 +29,7 @@ loop-place-init g c =
       headed = started_headed g.S.Source.heading g.S.Source.current g.S.Source.yields g.S.Source.gives c.args.sources.now c.begin_all.new.sources started;
       no_more_faults = c.in_ok-begin_all.ensures.no_more_faults;
       same_writer = refl;
+      standings = c.in_ok-begin_all.ensures.standings;
       played = c.play_all.ensures;
       behind = behind_first g.S.Source.heading g.S.Source.current g.S.Source.yields g.S.Source.gives g.met.S.Source.given_lawfully c.args.sources.now c.begin_all.new.sources (string_bytes c.args.entry.now.term) c.args.entry.now.next started c.requires.none;
       merging = λ before told was none.
@@ -94,6 +96,24 @@ play_again-requires-clause-others g c =
     subst (λ (leaf : Option ℕ). IsSettledBut (map (key_of g.S.Source.heading g.S.Source.current) sources) (set c.loop-place.tree (length sources + c.in-Some.place) leaf) (length sources + c.in-Some.place)) (sym (c.then_some.ensures ∙ then_some-cond c.in_ok-more.more c.in-Some.place))
     (leaf_changed g.S.Source.heading g.S.Source.current c.loop-place.sources c.loop-place.tree c.in-Some.place c.take_turn.new.source c.in_ok-more.more within i.played c.in_ok-more.ensures.more)
 
+pub follow-requires-clause-end : goal.follow-requires-clause-end
+follow-requires-clause-end g c =
+    let i = c.loop-place.invariant in
+    let first : HoldsFirst (map (key_of g.S.Source.heading g.S.Source.current) c.loop-place.sources) c.in-Some.place =
+    holds_first (map (key_of g.S.Source.heading g.S.Source.current) c.loop-place.sources) c.loop-place.tree c.in-Some.place i.played (sym c.first_of.ensures ∙ c.in-Some.is) in
+    let within : c.in-Some.place < length c.loop-place.sources = omega (arith, first.within, length-map c.loop-place.sources (key_of g.S.Source.heading g.S.Source.current)) in
+    let source = get_or c.loop-place.sources c.in-Some.place c.index-sources-place.result in
+    let here : get_or c.loop-place.sources c.in-Some.place source ≡ source = get_or_default c.loop-place.sources c.in-Some.place source c.index-sources-place.result within in
+    end_stays g.S.Source.heading g.S.Source.current c.loop-place.sources c.loop-place.standings c.in-Some.place source c.take_turn.new.source _ i.standings within here first.there c.take_turn.ensures.heading
+
+pub play_again-requires-clause-standings : goal.play_again-requires-clause-standings
+play_again-requires-clause-standings g c =
+    let i = c.loop-place.invariant in
+    let first : HoldsFirst (map (key_of g.S.Source.heading g.S.Source.current) c.loop-place.sources) c.in-Some.place =
+    holds_first (map (key_of g.S.Source.heading g.S.Source.current) c.loop-place.sources) c.loop-place.tree c.in-Some.place i.played (sym c.first_of.ensures ∙ c.in-Some.is) in
+    let within : c.in-Some.place < length c.loop-place.sources = omega (arith, first.within, length-map c.loop-place.sources (key_of g.S.Source.heading g.S.Source.current)) in
+    standings_changed g.S.Source.heading g.S.Source.current c.loop-place.sources c.loop-place.standings c.in-Some.place c.take_turn.new.source c.follow.new.self within c.follow.ensures i.standings
+
 pub loop-place-smaller : goal.loop-place-smaller
 loop-place-smaller g c =
     let i = c.loop-place.invariant in
@@ -134,6 +154,7 @@ loop-place-preserved g c =
           keep_more g.S.Source.faults c.args.sources.now c.loop-place.sources c.in-Some.place source i.as_many i.no_more_faults within here
           c.take_turn.new.source c.in_ok-more.ensures.no_more_faults;
       same_writer = c.take_turn.ensures.same_writer ∙ i.same_writer;
+      standings = standings_changed g.S.Source.heading g.S.Source.current c.loop-place.sources c.loop-place.standings c.in-Some.place c.take_turn.new.source c.follow.new.self within c.follow.ensures i.standings;
       played = c.play_again.ensures;
       behind =
           behind_then g.S.Source.heading g.S.Source.current g.S.Source.yields g.S.Source.gives g.W.Write.contents g.met.S.Source.given_lawfully c.args.sources.now c.loop-place.sources r.before r.told c.loop-place.writer

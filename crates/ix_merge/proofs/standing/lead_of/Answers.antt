@@ -1,0 +1,26 @@
+use Rattle.std.proofs.Common.{◌≡◌, refl, sym, ap, ◌∙◌, arith}
+use Rattle.ix_merge.specs.Standings.{lead}
+use Rattle.ix_merge.proofs.Leads.{lead_more, lead_room, lead_zero}
+use Rattle.ix_merge.proofs.standing.lead_of.Goals as goal
+
+pub loop-place-init : goal.loop-place-init
+loop-place-init c = sym (lead_zero c.args.text.now)
+
+pub overflow_mul-lead : goal.overflow_mul-lead
+overflow_mul-lead c =
+    let room = lead_room c.loop-place.place c.args.text.now (λ place. omega (arith, c.type_inv.text place)) c.loop-place-test.true in
+    let same = c.loop-place.invariant in
+    omega arith
+
+pub overflow_add-lead : goal.overflow_add-lead
+overflow_add-lead c =
+    let room = lead_room c.loop-place.place c.args.text.now (λ place. omega (arith, c.type_inv.text place)) c.loop-place-test.true in
+    let same = c.loop-place.invariant in
+    let byte = c.type_inv.text c.loop-place.place in
+    omega (arith, c.from.ensures, c.byte_at.ensures)
+
+pub loop-place-preserved : goal.loop-place-preserved
+loop-place-preserved c =
+    let more = lead_more c.loop-place.place c.args.text.now in
+    let same = c.loop-place.invariant in
+    omega (arith, c.from.ensures, c.byte_at.ensures)
