@@ -1,5 +1,5 @@
 //! The board, which workers share by `&`. It is done with no lock and no queue: each step is one compare-exchange on the word of its place.
-ghost use Rattle.std.specs.Prelude.{◌≡◌, ℕ, ◌+◌, ◌<◌, ◌≤◌, [], ◌∷◌, ◌++◌, length, IfOk, Some, None};
+ghost use Rattle.std.specs.Prelude.{◌≡◌, ◌+◌, ◌<◌, [], ◌∷◌, ◌++◌, length, IfOk, Some, None};
 ghost use Rattle.std.specs.Slots.{slots_items, slots_len, IsFull};
 ghost use Rattle.ix_board.specs.declared.step.Step.TheVariants.{Deliver, GiveUp};
 ghost use Rattle.ix_board.specs.Machine.{first_held};

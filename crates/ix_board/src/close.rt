@@ -1,7 +1,7 @@
 //! Closing a board: the desks are handed back, and the pieces come out of their slots.
-ghost use Rattle.std.specs.Prelude.{◌≡◌, ℕ, ◌+◌, ◌<◌, ◌≤◌, [], ◌∷◌, ◌++◌, ◌⊎◌, map, length, Some, None, IfSome, IfNone, All};
+ghost use Rattle.std.specs.Prelude.{◌≡◌, ◌<◌, [], ◌⊎◌, map, Some, None, IfSome, IfNone, All};
 ghost use Rattle.std.specs.Option.{ForSome};
-ghost use Rattle.std.specs.Vec.{vec_len, vec_capacity};
+ghost use Rattle.std.specs.Vec.{vec_len};
 ghost use Rattle.std.specs.Slots.{slots_items, slots_len, IsFull};
 ghost use Rattle.ix_board.specs.Desks.{ClosesWith};
 ghost use Rattle.ix_board.specs.Rooms.{HasRoom, RoomAmong};

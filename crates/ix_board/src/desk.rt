@@ -1,9 +1,9 @@
 //! A worker's desk. Contracts see it as the list of the steps that it made.
-ghost use Rattle.std.specs.Prelude.{◌≡◌, ℕ, ◌+◌, ◌<◌, ◌≤◌, [], ◌∷◌, ◌++◌, length, Some, None, IfSome, IfNone, IsSome, OnSome};
+ghost use Rattle.std.specs.Prelude.{◌≡◌, ◌+◌, ◌<◌, ◌≤◌, [], ◌∷◌, length, Some, None, IfSome, IfNone, IsSome};
 ghost use Rattle.std.specs.List.{count_by};
-ghost use Rattle.ix_board.specs.declared.step.Step.TheVariants.{Claim, Deliver, GiveUp, Look};
+ghost use Rattle.ix_board.specs.declared.step.Step.TheVariants.{Deliver, GiveUp};
 ghost use Rattle.ix_board.specs.Laws.{is_try};
-ghost use Rattle.ix_board.specs.Desks.{fresh_desk, with_steps, IsSameDesk, place_held, LooksThenClaims, LooksOnly, HasSeenAll, settled};
+ghost use Rattle.ix_board.specs.Desks.{fresh_desk, with_steps, IsSameDesk, place_held, LooksThenClaims, LooksOnly, HasSeenAll};
 ghost use Rattle.ix_board.specs.Seats.{IsDeskSeat, IsCrewSeat, number_in, steps_in, settled_member};
 ghost use Rattle.ix_board.specs.Rooms.{HasRoom, RoomAmong};
 ghost use Rattle.ix_board.specs.Machine.{first_held};

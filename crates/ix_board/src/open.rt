@@ -1,5 +1,5 @@
 //! Opening a board: the room for it, for its desks and for what closing it gives.
-ghost use Rattle.std.specs.Prelude.{◌≡◌, ◌+◌, ◌<◌, ◌≤◌, [], length, IfOk, All, vec_len};
+ghost use Rattle.std.specs.Prelude.{◌≡◌, ◌+◌, ◌<◌, ◌≤◌, IfOk, All, vec_len};
 ghost use Rattle.ix_board.specs.Starts.{AreFirstWords};
 ghost use Rattle.ix_board.specs.Desks.{fresh_desks};
 ghost use Rattle.ix_board.specs.Rooms.{HasRoom};

@@ -4,7 +4,7 @@ ghost use Rattle.std.specs.Prelude.{◌≡◌, ℕ, ◌+◌, ◌<◌, ◌≤◌,
 /// Goes over all places but its own in a circle, from some place on, each once. Desks that begin far from each other
 /// seldom meet.
 #[derive(Drop)]
-pub struct Tour {
+pub(crate) struct Tour {
     own: usize,
     next: usize,
     left: usize,

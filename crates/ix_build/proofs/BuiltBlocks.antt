@@ -7,7 +7,7 @@ use Rattle.ix_board.proofs.Endings.{get-map}
 use Rattle.ix_board.proofs.SliceGets.{get-within}
 use Rattle.ix_text.specs.Collections.{NamedText, collection_of, token_total}
 use Rattle.ix_text.specs.Parts.{row_of}
-use Rattle.ix_file.specs.Endings.{WritesIndexText}
+use Rattle.ix_merge.specs.Endings.{WritesIndexText}
 use Rattle.ix_run.specs.Heads.{Heading}
 use Rattle.ix_run.specs.Runs.{RunValue, IsRunOf, run_bytes}
 use Rattle.ix_run.specs.RunSources.{heading_shown}

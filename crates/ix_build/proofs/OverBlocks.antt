@@ -7,7 +7,7 @@ use Rattle.ix_board.proofs.Endings.{get-map}
 use Rattle.ix_board.proofs.SliceGets.{get-within}
 use Rattle.ix_text.specs.Collections.{NamedText, collection_of, token_total}
 use Rattle.ix_text.specs.Parts.{row_of}
-use Rattle.ix_file.specs.Endings.{WritesIndexText}
+use Rattle.ix_merge.specs.Endings.{WritesIndexText}
 use Rattle.ix_run.specs.Heads.{Heading, heading_of, parts_with}
 use Rattle.ix_run.specs.Reading.{MayYield}
 use Rattle.ix_run.specs.RunReaders.{heading_read}

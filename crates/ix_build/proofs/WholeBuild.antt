@@ -1,7 +1,7 @@
 -- Building by makers of the blocks of a cut: what it writes, which errors come, and what they leave.
 use Rattle.std.proofs.Common.{◌≡◌, ℕ, ◌+◌, ◌<◌, ◌≤◌, ◌^◌, List, [], ◌∷◌, length, All, Option, ap, inl, arith, length-append}
 use Rattle.ix_text.specs.Collections.{NamedText, collection_of, token_total}
-use Rattle.ix_file.specs.Endings.{WritesIndexText}
+use Rattle.ix_merge.specs.Endings.{WritesIndexText}
 use Rattle.ix_run.specs.Runs.{RunValue}
 use Rattle.ix_build.specs.AlikeFronts.{LeavesAlikeFront}
 use Rattle.ix_build.specs.Blocks.{AreBounds, bounds_from}

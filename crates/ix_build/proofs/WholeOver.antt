@@ -5,7 +5,7 @@ use Rattle.std.specs.Io.KnownBytes.{Keeps}
 use Rattle.ix_text.specs.Collections.{NamedText, collection_of, token_total}
 use Rattle.ix_text.specs.Sizes.{AreSmall}
 use Rattle.ix_text.proofs.SizeLemmas.{tokens_no_more_than_bytes}
-use Rattle.ix_file.specs.Endings.{WritesIndexText}
+use Rattle.ix_merge.specs.Endings.{WritesIndexText}
 use Rattle.ix_run.specs.Heads.{heading_of}
 use Rattle.ix_run.specs.declared.head.RunHead.{RunHead}
 use Rattle.ix_merge.specs.Pieces.{LeavesFront}

@@ -4,9 +4,9 @@ use Rattle.std.specs.Io.KnownBytes.{Keeps}
 use Rattle.ix_text.specs.Collections.{Collection}
 use Rattle.ix_text.specs.Parts.{row_of}
 use Rattle.ix_text.specs.Sinks.{AppendsFront}
-use Rattle.ix_file.specs.Endings.{WritesIndexText}
-use Rattle.ix_file.specs.IndexText.{IsIndexText}
-use Rattle.ix_file.specs.Sections.{FrontCoded}
+use Rattle.ix_merge.specs.Endings.{WritesIndexText}
+use Rattle.ix_merge.specs.IndexText.{IsIndexText}
+use Rattle.ix_merge.specs.Sections.{FrontCoded}
 
 -- Two collections have the same stop terms, and documents of the same names and token counts.
 pub record AreAlike (one other : Collection) : Type 0 where

@@ -1,7 +1,7 @@
 -- Runs as the pieces of a concatenation, and what a merge of them writes.
 use Rattle.std.specs.Prelude.{◌≡◌, ℕ, List, length, slice_get, Some, Option}
 use Rattle.ix_text.specs.Collections.{Collection}
-use Rattle.ix_file.specs.Endings.{WritesIndexText}
+use Rattle.ix_merge.specs.Endings.{WritesIndexText}
 use Rattle.ix_run.specs.Runs.{RunValue, IsRunOf}
 use Rattle.ix_merge.specs.Pieces.{Piece, IsConcatenation}
 

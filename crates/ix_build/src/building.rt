@@ -4,7 +4,7 @@ ghost use Rattle.std.specs.Io.KnownBytes.{Keeps};
 ghost use Rattle.ix_text.specs.Collections.{collection_of};
 ghost use Rattle.ix_text.specs.Docs.{named_text};
 ghost use Rattle.ix_text.specs.Sizes.{AreSmall};
-ghost use Rattle.ix_file.specs.Endings.{WritesIndexText};
+ghost use Rattle.ix_merge.specs.Endings.{WritesIndexText};
 ghost use Rattle.ix_build.specs.AlikeFronts.{LeavesAlikeFront};
 ghost use Rattle.ix_build.specs.Blocks.{AscendUpTo};
 ghost use Rattle.ix_build.specs.BlockMakers.{IsMakerOf};

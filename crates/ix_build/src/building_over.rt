@@ -1,7 +1,7 @@
 //! Building the index text of a collection over run stores.
 ghost use Rattle.std.specs.Prelude.{◌≡◌, Some, IfErr, OnErr, OnOk, slice_get, vec_len};
 ghost use Rattle.ix_text.specs.Collections.{collection_of};
-ghost use Rattle.ix_file.specs.Endings.{WritesIndexText};
+ghost use Rattle.ix_merge.specs.Endings.{WritesIndexText};
 ghost use Rattle.ix_build.specs.AlikeFronts.{LeavesAlikeFront, WritesAlike};
 ghost use Rattle.ix_build.specs.BuiltOver.{AreBlocksSaved, FailsOver};
 ghost use Rattle.ix_build.specs.GivenBack.{GivesBlocksBack};

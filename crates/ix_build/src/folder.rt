@@ -1,5 +1,5 @@
 //! A store that keeps runs in the files of a folder.
-ghost use Rattle.std.specs.Prelude.{◌≡◌, ◌↔◌, ℕ, List, ◌++◌, ◌∷◌, [], IfOk, IfSome, OnErr, OnOk};
+ghost use Rattle.std.specs.Prelude.{◌≡◌, ◌↔◌, ℕ, List, ◌++◌, ◌∷◌, [], IfOk, OnErr, OnOk};
 ghost use Rattle.std.specs.Io.KnownBytes.{Appends};
 ghost use Rattle.std.specs.Path.{path_buf_bytes};
 ghost use Rattle.ix_run.specs.Runs.{run_bytes};
@@ -54,8 +54,6 @@ fn put_run<W: Write + Drop>(alloc: Global, writer: W, run: &Run) -> Result<W, St
 }
 
 impl<'a, F> FolderStore<'a, F> {
-    ghost use Rattle.std.specs.Prelude.{vec_len};
-
     /// A store that keeps runs in files of this folder, and has saved none. Takes no memory.
     pub fn new(alloc: Global, files: &'a F, folder: &'a str) -> FolderStore<'a, F>
         ensures files { result.files.now ≡ files.now }

@@ -2,7 +2,7 @@
 ghost use Rattle.std.specs.Prelude.{◌≡◌, ℕ, List, None, Some, vec_len, All, IfErr, IfOk, OnErr, OnOk};
 ghost use Rattle.std.specs.Io.KnownBytes.{Keeps};
 ghost use Rattle.ix_text.specs.Collections.{collection_of};
-ghost use Rattle.ix_file.specs.Endings.{WritesIndexText};
+ghost use Rattle.ix_merge.specs.Endings.{WritesIndexText};
 ghost use Rattle.ix_build.specs.AlikeFronts.{LeavesAlikeFront, WritesAlike};
 ghost use Rattle.ix_build.specs.BuildErrors.{IsBeforeWriting, IsBuildRefusal, IsFolderRefusal};
 ghost use Rattle.ix_build.specs.FolderStores.{IsStoreIn};

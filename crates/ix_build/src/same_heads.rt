@@ -1,5 +1,5 @@
 //! Whether two heads of runs say the same.
-ghost use Rattle.std.specs.Prelude.{◌≡◌, IsTrue, length, map};
+ghost use Rattle.std.specs.Prelude.{◌≡◌, IsTrue, map};
 ghost use Rattle.ix_run.specs.Heads.{heading_of, row_of_doc};
 
 use ix_run::{RunDoc, RunHead};

@@ -1,6 +1,6 @@
 //! Work on all places, shared among makers.
-ghost use Rattle.std.specs.Prelude.{◌≡◌, ℕ, ◌<◌, ◌≤◌, false, [], List, Option, Some, None, IsSome, map, length, All, IfOk, IfErr, MatchResult, vec_len, vec_capacity};
-ghost use Rattle.ix_board.specs.Desks.{ClosesWith, fresh_desks};
+ghost use Rattle.std.specs.Prelude.{◌≡◌, ◌<◌, ◌≤◌, [], Option, Some, None, IsSome, map, All, IfOk, IfErr, vec_len, vec_capacity};
+ghost use Rattle.ix_board.specs.Desks.{fresh_desks};
 ghost use Rattle.ix_build.specs.Outcomes.{IsMade, Fails};
 ghost use Rattle.ix_build.specs.Endings.{IsEnded, HasNoGap};
 

@@ -1,5 +1,5 @@
 //! All workers, each in a thread of its own.
-ghost use Rattle.std.specs.Prelude.{◌≡◌, ◌+◌, ◌<◌, ◌≤◌, [], length, map, reverse, IfOk, IfErr, OnOk, All, vec_len, vec_capacity};
+ghost use Rattle.std.specs.Prelude.{◌≡◌, ◌+◌, ◌<◌, ◌≤◌, [], map, reverse, IfOk, IfErr, OnOk, All, vec_len, vec_capacity};
 ghost use Rattle.ix_build.specs.Shifts.{HaveWorked};
 ghost use Rattle.ix_build.specs.Working.{WholeStint};
 

@@ -56,3 +56,7 @@ pub mod TermPairs
 pub mod TextLaws
 pub mod TokenTotals
 pub mod WindowSteps
+pub use Rattle.ix_vbyte.proofs.Gaps
+pub use Rattle.ix_vbyte.proofs.Postings as PostingLemmas
+pub use Rattle.ix_vbyte.proofs.Sizes
+pub use Rattle.ix_vbyte.proofs.Values

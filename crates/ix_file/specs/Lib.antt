@@ -35,3 +35,8 @@ pub mod TermWindows
 pub mod Told
 pub mod WindowPairs
 pub mod Writers
+pub use Rattle.ix_vbyte.specs.Code
+pub use Rattle.ix_vbyte.specs.Gaps
+pub use Rattle.ix_vbyte.specs.Postings
+pub use Rattle.ix_vbyte.specs.Walking
+pub use Rattle.ix_vbyte.specs.declared.cursor.Posting

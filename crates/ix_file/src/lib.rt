@@ -18,6 +18,8 @@ mod windows;
 mod writer;
 
 pub use index::Index;
+pub use ix_vbyte::VbError;
+pub use ix_vbyte::cursor::{Positions, Posting, Postings};
 pub use laws::{
     grams_of_the_vocabulary, index_text_has_bytes_for_entries, index_text_has_one_version,
     index_text_has_sixty_four_bytes, index_text_tells_collection,

@@ -1,6 +1,5 @@
 -- A source that is one part of another one: what its calls do is what calls of the other do.
 use Rattle.std.proofs.Common.{ℕ, List, Bool, true, false, Option, Some, None, MatchBool, MatchOption}
-use Rattle.ix_text.specs.Parts.{Posting}
 use Rattle.ix_run.specs.Sources.{BeginsTerm, EndsPostings, EndsTerms, Giving, GivesPosting, Yielding}
 
 module _ {A B : Type 0} (enclose : A → B) (yields : Yielding B) (gives : Giving B) where

@@ -4,9 +4,9 @@ use Rattle.std.proofs.Math.Seq.{drop-cons}
 use Rattle.std.proofs.lemmas.List.{get_or-map, length-map}
 use Rattle.std.proofs.lemmas.List.Elements.{All-contains, Contains-get_or}
 use Rattle.std.proofs.lemmas.Option.{get_or_from_slice_get, slice_get_within}
-use Rattle.ix_vbyte.specs.Gaps.{next_after}
-use Rattle.ix_vbyte.specs.Postings.{ArePostings, documents_of}
-use Rattle.ix_vbyte.proofs.Postings.{list_apart}
+use Rattle.ix_file.specs.Gaps.{next_after}
+use Rattle.ix_file.specs.Postings.{ArePostings, documents_of}
+use Rattle.ix_file.proofs.PostingLemmas.{list_apart}
 use Rattle.ix_text.specs.Collections.{Collection}
 use Rattle.ix_text.specs.Parts.{ArePartsOf, DictionaryEntry, DocumentRow, Parts, Posting, row_of, terms_of}
 use Rattle.ix_text.specs.PartsLaws.{AreLawful}

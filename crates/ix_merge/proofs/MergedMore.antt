@@ -5,9 +5,9 @@ use Rattle.std.proofs.lemmas.List.{map-append, get_or-set_same, get_or-set_other
 use Rattle.std.proofs.lemmas.List.Elements.{All-append, All-contains, All-push, All-nil, Contains-append_left, Contains-append_right, Contains-append_cases, Contains-push, Contains-push_cases}
 use Rattle.std.proofs.lemmas.List.Sums.{sum_by-append, sum_by-set}
 use Rattle.std.specs.List.{sum_by}
-use Rattle.ix_vbyte.specs.Gaps.{Ascends, next_after}
-use Rattle.ix_vbyte.specs.Postings.{ArePostings, IsPosting, documents_of}
-use Rattle.ix_vbyte.proofs.Sizes.{postings_rising}
+use Rattle.ix_file.specs.Gaps.{Ascends, next_after}
+use Rattle.ix_file.specs.Postings.{ArePostings, IsPosting, documents_of}
+use Rattle.ix_file.proofs.Sizes.{postings_rising}
 use Rattle.ix_text.specs.ByteOrder.{IsAscending}
 use Rattle.ix_text.specs.Parts.{DictionaryEntry, Posting, HasPosition, terms_of}
 use Rattle.ix_text.specs.PartsLaws.{position_count}
@@ -17,7 +17,7 @@ use Rattle.ix_run.specs.Sources.{entry_with}
 use Rattle.ix_merge.specs.Merged.{Share, HasUnder, SomeShareHas, IsMergeOf}
 use Rattle.ix_merge.proofs.ShiftedLists.{position_count-shifted, position_lower, position_raised}
 use Rattle.ix_file.specs.Told.{listed}
-use Rattle.ix_vbyte.specs.Postings.{shifted}
+use Rattle.ix_file.specs.Postings.{shifted}
 
 -- ---- positions of postings and of entries one behind another
 

@@ -6,9 +6,9 @@ use Rattle.std.proofs.lemmas.List.Elements.{All-cons, All-contains, All-head, Al
 use Rattle.std.proofs.lemmas.List.Sums.{sum_by-cons}
 use Rattle.std.specs.List.{sum_by}
 use Rattle.std.specs.Option.{option_to_list}
-use Rattle.ix_vbyte.specs.Gaps.{next_after}
-use Rattle.ix_vbyte.specs.Postings.{ArePostings, documents_of}
-use Rattle.ix_vbyte.proofs.Gaps.{length-Ascends}
+use Rattle.ix_file.specs.Gaps.{next_after}
+use Rattle.ix_file.specs.Postings.{ArePostings, documents_of}
+use Rattle.ix_file.proofs.Gaps.{length-Ascends}
 use Rattle.ix_text.specs.Parts.{DictionaryEntry, Posting}
 use Rattle.ix_text.specs.PartsLaws.{IsLawfulTerm}
 use Rattle.ix_text.specs.Sinks.{AppendsFront}
@@ -26,7 +26,7 @@ use Rattle.ix_merge.specs.Keys.{end_of, key_of}
 use Rattle.ix_merge.specs.Merged.{HasMergedSome, HasUnder, Share, SomeShareHas}
 use Rattle.ix_merge.specs.Merging.{AreApart, TellsAll}
 use Rattle.ix_merge.specs.Rows.{tokens_under}
-use Rattle.ix_vbyte.specs.Postings.{shifted}
+use Rattle.ix_file.specs.Postings.{shifted}
 use Rattle.ix_merge.specs.Starting.{HasStarted, HaveStarted}
 use Rattle.ix_merge.specs.Turns.{GivesEntry, HasToldSome, HasTurned, MayTurn, told_then}
 use Rattle.ix_merge.proofs.Behind.{AreBehind, behind_more, may_turn, next_above}

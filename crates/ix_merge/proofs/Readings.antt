@@ -9,10 +9,10 @@ use Rattle.std.proofs.lemmas.Option.{get_or_from_slice_get, slice_get_within}
 use Rattle.std.specs.Cmp.Lexicographic.{slice_cmp}
 use Rattle.std.specs.Option.{option_to_list}
 use Rattle.std.specs.Ordering.{nat_cmp}
-use Rattle.ix_vbyte.specs.Code.{code_of}
-use Rattle.ix_vbyte.specs.Gaps.{gaps_of, next_after}
-use Rattle.ix_vbyte.specs.Postings.{ArePostings, codes_of, documents_of, list_bytes, list_bytes_from, posting_bytes, shifted}
-use Rattle.ix_vbyte.proofs.Values.{some_code_byte}
+use Rattle.ix_file.specs.Code.{code_of}
+use Rattle.ix_file.specs.Gaps.{gaps_of, next_after}
+use Rattle.ix_file.specs.Postings.{ArePostings, codes_of, documents_of, list_bytes, list_bytes_from, posting_bytes, shifted}
+use Rattle.ix_file.proofs.Values.{some_code_byte}
 use Rattle.ix_text.specs.ByteOrder.{IsAscending}
 use Rattle.ix_text.specs.Parts.{DictionaryEntry, Posting, terms_of}
 use Rattle.ix_file.specs.Telling.{IsClosable}

@@ -3,9 +3,9 @@ use Rattle.std.proofs.Common.{◌≡◌, ℕ, ◌+◌, ◌-◌, ◌^◌, ◌<◌
 use Rattle.std.proofs.lemmas.List.{length-map}
 use Rattle.std.proofs.lemmas.List.Elements.{All-map, All-weaker, Contains-get_or, All-contains}
 use Rattle.std.proofs.lemmas.Option.{slice_get_within}
-use Rattle.ix_vbyte.specs.Gaps.{Ascends, next_after}
-use Rattle.ix_vbyte.specs.Postings.{ArePostings, IsPosting, documents_of}
-use Rattle.ix_vbyte.proofs.Gaps.{Ascends-from, Ascends-lower, Ascends-wider, next_after-le}
+use Rattle.ix_file.specs.Gaps.{Ascends, next_after}
+use Rattle.ix_file.specs.Postings.{ArePostings, IsPosting, documents_of}
+use Rattle.ix_file.proofs.Gaps.{Ascends-from, Ascends-lower, Ascends-wider, next_after-le}
 use Rattle.ix_text.specs.Parts.{DictionaryEntry, Posting, HasPosition}
 use Rattle.ix_text.specs.PartsLaws.{position_count, IsLawfulTerm}
 use Rattle.ix_text.proofs.PartsLawful.{sum_by-map}
@@ -15,7 +15,7 @@ use Rattle.ix_run.specs.Sources.{AreWhole}
 use Rattle.ix_run.proofs.ReadFronts.{AreRising, rising_of}
 use Rattle.ix_run.proofs.WholeLists.{codable}
 use Rattle.ix_merge.specs.Keys.{end_of}
-use Rattle.ix_vbyte.specs.Postings.{shifted, shifted_posting}
+use Rattle.ix_file.specs.Postings.{shifted, shifted_posting}
 
 pub length-shifted : (first : ℕ) (postings : List Posting) → length (shifted first postings) ≡ length postings
 length-shifted first postings = length-map postings (shifted_posting first)

@@ -1,8 +1,8 @@
 -- A source's turn, step by step.
 use Rattle.std.proofs.Common.{Result, Ok, Err, OnOk, OnErr, MatchResult, IsErrAnd, ◌≡◌, ◌≢◌, ℕ, ◌-◌, ◌^◌, ◌<◌, ◌≤◌, List, [], ◌∷◌, ◌++◌, length, Option, Some, None, MatchOption, refl, sym, ap, subst, ◌∙◌, ⊎_elim, arith}
 use Rattle.std.proofs.lemmas.List.Elements.{Contains-push}
-use Rattle.ix_vbyte.specs.Gaps.{next_after}
-use Rattle.ix_vbyte.specs.Postings.{ArePostings, documents_of, list_bytes_from}
+use Rattle.ix_file.specs.Gaps.{next_after}
+use Rattle.ix_file.specs.Postings.{ArePostings, documents_of, list_bytes_from}
 use Rattle.ix_text.specs.Parts.{DictionaryEntry, Posting}
 use Rattle.ix_text.specs.Terms.{IsTerm}
 use Rattle.ix_file.specs.Telling.{MayList}
@@ -15,7 +15,7 @@ use Rattle.ix_run.specs.Heads.{Heading}
 use Rattle.ix_run.specs.Sources.{AreWhole, BeginsTerm, EndsTerms, Giving, Yielding, IsLawfulFront, closed, entry_with}
 use Rattle.ix_run.proofs.ReadFronts.{closed-none}
 use Rattle.ix_run.specs.Sources.{GivesList}
-use Rattle.ix_vbyte.specs.Postings.{shifted}
+use Rattle.ix_file.specs.Postings.{shifted}
 use Rattle.ix_merge.specs.Turns.{Begins, BeginsEntry, GivesEntry, GoesOn, IsAtHand, MayTurn, bare_entry}
 use Rattle.ix_merge.proofs.ShiftedLists.{IsListUnder, length-shifted, list_under, position_count-shifted, raised_list}
 

@@ -12,3 +12,9 @@ pub mod Standings
 pub mod Starting
 pub mod Tournaments
 pub mod Turns
+pub use Rattle.ix_file.specs.Endings
+pub use Rattle.ix_file.specs.IndexText
+pub use Rattle.ix_file.specs.Sections
+pub use Rattle.ix_run.specs.Heads
+pub use Rattle.ix_run.specs.RunSources
+pub use Rattle.ix_run.specs.Sources

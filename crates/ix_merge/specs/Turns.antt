@@ -1,8 +1,8 @@
 -- A source's turn in a merge: the term at hand is told with the documents of that source, and its next term is read.
 use Rattle.std.specs.Prelude.{◌≡◌, ◌≢◌, ℕ, ◌+◌, ◌^◌, ◌≤◌, ◌⊎◌, List, [], ◌∷◌, ◌++◌, Option, Some, MatchOption, option_map}
-use Rattle.ix_vbyte.specs.Gaps.{next_after}
-use Rattle.ix_vbyte.specs.Postings.{documents_of}
-use Rattle.ix_vbyte.specs.Postings.{shifted}
+use Rattle.ix_file.specs.Gaps.{next_after}
+use Rattle.ix_file.specs.Postings.{documents_of}
+use Rattle.ix_file.specs.Postings.{shifted}
 use Rattle.ix_text.specs.Parts.{DictionaryEntry, Posting}
 use Rattle.ix_text.specs.PartsLaws.{position_count}
 use Rattle.ix_text.specs.Sinks.{AppendsFront}

@@ -4,10 +4,9 @@ ghost use Rattle.ix_text.specs.PartsLaws.{AreLawful};
 ghost use Rattle.ix_run.specs.Heads.{row_of_doc};
 ghost use Rattle.ix_run.specs.RunSources.{EndsAt};
 
-use ix_file::Index;
+use ix_file::{Index, Postings};
 use ix_run::RunDoc;
 use ix_text::{Memory, StopList};
-use ix_vbyte::cursor::Postings;
 use std::alloc::Global;
 
 /// Another stop list of the same terms.

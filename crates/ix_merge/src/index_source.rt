@@ -1,10 +1,9 @@
 //! An opened index as a source of its postings.
 
 use crate::index_head::{copy_stop_list, documents, last_document};
-use ix_file::Index;
+use ix_file::{Index, Postings};
 use ix_run::{ListError, Listed, RunHead, Source};
 use ix_text::Memory;
-use ix_vbyte::cursor::Postings;
 use std::alloc::Global;
 use std::marker::Model;
 

@@ -4,8 +4,8 @@ use Rattle.std.proofs.lemmas.Bool.{cases_eq, cases_lt}
 use Rattle.std.specs.Prelude.{IsSomeAnd}
 use Rattle.ix_text.proofs.AscendingLists.{contains_first, contains_later, contains_cases, contains_none}
 use Rattle.ix_text.specs.Parts.{HasPosition}
-use Rattle.ix_vbyte.specs.Gaps.{Ascends}
-use Rattle.ix_vbyte.specs.Postings.{Posting, ArePostings}
+use Rattle.ix_file.specs.Gaps.{Ascends}
+use Rattle.ix_file.specs.Postings.{Posting, ArePostings}
 use Rattle.ix_query.specs.Meetings.{AreClose, HasNear, IsCloseTo}
 use Rattle.ix_query.specs.Satisfaction.{distance_between}
 use Rattle.ix_query.specs.Streams.{IsFirst, Reaches, HaveAll, HaveBoth, IsPassed, IsCommon, first_of}

@@ -11,7 +11,7 @@ use Rattle.unicode_segmentation.specs.Word.{words}
 use Rattle.ix_text.specs.TokenLists.{Entry}
 use Rattle.ix_query.specs.Judgement.{is_star, is_long_word, strip_holes, plain, quoted, beside, phrase_reading, entries_reading, entry_reading, only_term}
 use Rattle.ix_gram.specs.Patterns.{pieces_of}
-use Rattle.ix_query.specs.Faults.{BeginsQuery, BeginsWithNear, EndsWithNear, IsFirstRefused, IsFirstUnexpected, IsJudgement, IsNear, IsRefused, IsTooDeep}
+use Rattle.ix_query.specs.Faults.{BeginsQuery, EndsWithNear, IsFirstRefused, IsFirstUnexpected, IsJudgement, IsNear, IsRefused, IsTooDeep}
 use Rattle.ix_query.specs.Faults as faults
 use Rattle.ix_query.specs.Machine.{Frame, Negating, Inside, Place, Operand, Operator, AfterRun, AfterNear, Pending, State, start, behind_nots, filled, joined, closed, at_operand, at_operator, after_run, after_near, ended, finish, step, tree_from, tree_of}
 use Rattle.ix_query.proofs.SoundLemmas.{IsSettled, pending_at, state_at, filled_at, sound}

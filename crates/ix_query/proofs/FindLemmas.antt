@@ -8,7 +8,7 @@ use Rattle.ix_text.proofs.AscendingLists.{contains_none, contained_from_map, con
 use Rattle.ix_text.specs.Collections.{Collection, Document, HasPosting}
 use Rattle.ix_text.specs.Parts.{Parts, ArePartsOf, IsEntryOf, HasPosition, row_of, terms_of}
 use Rattle.ix_text.specs.TokenLists.{Entry}
-use Rattle.ix_vbyte.specs.Postings.{Posting, ArePostings, IsPosting, documents_of}
+use Rattle.ix_file.specs.Postings.{Posting, ArePostings, IsPosting, documents_of}
 use Rattle.ix_query.specs.declared.tree.Tree.{Tree}
 use Rattle.ix_query.specs.declared.tree.Tree.TheVariants as asks
 use Rattle.ix_query.specs.Finding.{AreFound, AnswersNothing, IsNowhere, AreOfTerm, ArePlaced, IsBeyond, AreEvery}

@@ -8,8 +8,8 @@ use Rattle.ix_text.proofs.CollectionTold.{has_collection}
 use Rattle.ix_text.specs.PartsLaws.{AreLawful}
 use Rattle.ix_file.specs.Opened.{IsIndexOf, Opened}
 use Rattle.ix_file.specs.Sections.{Version}
-use Rattle.ix_vbyte.proofs.Gaps.{Ascends-rising}
-use Rattle.ix_vbyte.specs.Postings.{Posting, documents_of}
+use Rattle.ix_file.proofs.Gaps.{Ascends-rising}
+use Rattle.ix_file.specs.Postings.{Posting, documents_of}
 use Rattle.ix_text.specs.Collections.{Collection, Document}
 use Rattle.ix_text.specs.Parts.{Parts, ArePartsOf}
 use Rattle.ix_query.specs.declared.answers.leaf.Leaf.{Leaf}

@@ -5,7 +5,7 @@ use Rattle.std.proofs.lemmas.Option.{slice_get_within}
 use Rattle.std.specs.Prelude.{is_some}
 use Rattle.ix_text.proofs.PartsLemmas.{at_same_place}
 use Rattle.ix_text.specs.Parts.{HasPosition}
-use Rattle.ix_vbyte.specs.Postings.{Posting}
+use Rattle.ix_file.specs.Postings.{Posting}
 use Rattle.ix_query.specs.Meetings.{HasPhraseIn, Starts, StartsAt, IsStart, AreStarts, HaveNoStart}
 use Rattle.ix_query.specs.Streams.{Pairs, Have, HaveBoth, IsFirst, Reaches, IsPassed, ArePassed, IsCommon}
 use Rattle.ix_query.proofs.PassLemmas.{get_set_same, get_set_other}

@@ -6,10 +6,10 @@ use Rattle.std.specs.Option.{option_map, option_to_list}
 use Rattle.std.specs.Prelude.{MatchOption, IfSome, IfNone, IsSomeAnd, slice_get, drop}
 use Rattle.ix_text.proofs.AscendingLists.{contains_first, contains_later, contains_cases, contains_none, contains_map}
 use Rattle.ix_text.specs.Parts.{HasPosition}
-use Rattle.ix_vbyte.specs.Gaps.{Ascends, next_after}
-use Rattle.ix_vbyte.proofs.Gaps.{Ascends-lower, Ascends-push, next_after-push}
-use Rattle.ix_vbyte.specs.Postings.{Posting, documents_of, ArePostings, IsPosting}
-use Rattle.ix_vbyte.specs.Walking.{from_document}
+use Rattle.ix_file.specs.Gaps.{Ascends, next_after}
+use Rattle.ix_file.proofs.Gaps.{Ascends-lower, Ascends-push, next_after-push}
+use Rattle.ix_file.specs.Postings.{Posting, documents_of, ArePostings, IsPosting}
+use Rattle.ix_file.specs.Walking.{from_document}
 use Rattle.ix_query.specs.Streams.{Pairs, Have, IsFirst, Reaches, IsSameFrom, AreAll, from_number, first_of}
 
 -- ---- numbers from one on

@@ -2,8 +2,8 @@
 use Rattle.std.specs.Prelude.{◌≡◌, ℕ, ◌+◌, ◌<◌, ◌-◌, ◌^◌, ◌↔◌, List, Option, Some, length, slice_get, Contains}
 use Rattle.ix_text.specs.Collections.{Collection, HasPosting}
 use Rattle.ix_text.specs.Parts.{Parts, Posting, ArePartsOf, HasPosition}
-use Rattle.ix_vbyte.specs.Gaps.{Ascends}
-use Rattle.ix_vbyte.specs.Postings.{ArePostings}
+use Rattle.ix_file.specs.Gaps.{Ascends}
+use Rattle.ix_file.specs.Postings.{ArePostings}
 use Rattle.ix_query.specs.declared.tree.Tree.{Tree}
 use Rattle.ix_query.specs.Scans.{SatisfiesAt}
 

@@ -1,7 +1,7 @@
 -- The places of the bits of a word.
 use Rattle.std.specs.Prelude.{◌≡◌, ℕ, ◌+◌, ◌-◌, ◌^◌, ◌<◌, ◌≤◌, ◌⊎◌, ◌↔◌, List, Contains}
 use Rattle.std.specs.Int.{bit_at}
-use Rattle.ix_vbyte.specs.Gaps.{Ascends, next_after}
+use Rattle.ix_file.specs.Gaps.{Ascends, next_after}
 
 -- the number is the place of a bit that is set, counted from `start`
 abbrev pub IsBitFrom : ℕ → ℕ → ℕ → Type 0

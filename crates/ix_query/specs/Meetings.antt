@@ -1,7 +1,7 @@
 -- Where terms meet in a document, by their lists of postings.
 use Rattle.std.specs.Prelude.{◌≡◌, ◌≢◌, ℕ, ◌+◌, ◌-◌, ◌≤◌, ◌^◌, ◌⊎◌, List, [], Option, Some, option_map, slice_get, Contains, IsSomeAnd}
 use Rattle.ix_text.specs.Parts.{Posting, HasPosition}
-use Rattle.ix_vbyte.specs.Postings.{ArePostings}
+use Rattle.ix_file.specs.Postings.{ArePostings}
 use Rattle.ix_query.specs.Satisfaction.{distance_between}
 use Rattle.ix_query.specs.Streams.{first_of}
 

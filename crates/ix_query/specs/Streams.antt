@@ -1,6 +1,6 @@
 -- Streams of ascending document numbers: what one has left, and what asking it for a number leaves.
 use Rattle.std.specs.Prelude.{ℕ, ◌-◌, ◌^◌, ◌<◌, ◌≤◌, ◌↔◌, ◌≡◌, List, [], ◌∷◌, Option, None, Some, slice_get, MatchOption, nat_lt, if◌then◌else◌, Contains}
-use Rattle.ix_vbyte.specs.Gaps.{Ascends}
+use Rattle.ix_file.specs.Gaps.{Ascends}
 
 -- numbers, each with places of its own: in a list of postings a document's number with its positions
 abbrev pub Pairs : Type 1

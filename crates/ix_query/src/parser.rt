@@ -5,7 +5,7 @@ ghost use Rattle.ix_query.specs.QueryErrors.{Gives};
 ghost use Rattle.ix_query.specs.Lexemes.{lexeme_of};
 ghost use Rattle.ix_query.specs.Grammar.{joined_by};
 ghost use Rattle.ix_query.specs.Machine as machine;
-ghost use Rattle.ix_query.specs.Parsing.{frame_of, frames_of, pending_of, place_of, state_of};
+ghost use Rattle.ix_query.specs.Parsing.{frame_of, frames_of, pending_of, state_of};
 
 use crate::error::QueryError;
 use crate::judge::{beside, plain, quoted};

@@ -1,14 +1,14 @@
 //! Streams read to their end.
 
 ghost use Rattle.std.specs.Prelude.{◌≡◌, ◌<◌, ◌↔◌, ◌⊎◌, ℕ, IfOk, IsOk};
-ghost use Rattle.ix_vbyte.specs.Postings.{documents_of};
+ghost use Rattle.ix_file.specs.Postings.{documents_of};
 ghost use Rattle.ix_query.specs.Marked.{IsMarked};
 ghost use Rattle.ix_query.specs.Streams.{AreAll, Have};
 
 use crate::answers::marks::Marks;
 use crate::answers::numbers::Numbers;
+use ix_file::Postings;
 use ix_text::Memory;
-use ix_vbyte::cursor::Postings;
 use std::alloc::Global;
 
 /// All numbers of a stream, in memory. `Memory` where memory is refused, which none is asked for where there is no number.

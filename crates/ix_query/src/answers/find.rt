@@ -3,7 +3,7 @@
 ghost use Rattle.std.specs.Prelude.{◌≡◌, ◌<◌, ◌↔◌, ◌-◌, ◌^◌, ℕ, ◌∷◌, [], Some, length, Contains, IfOk, IsOk};
 ghost use Rattle.ix_text.specs.Collections.{Collection};
 ghost use Rattle.ix_text.specs.Parts.{ArePartsOf};
-ghost use Rattle.ix_vbyte.specs.Gaps.{Ascends};
+ghost use Rattle.ix_file.specs.Gaps.{Ascends};
 ghost use Rattle.ix_query.specs.declared.tree.Tree.TheVariants as asks;
 ghost use Rattle.ix_query.specs.Finding.{AreFound, AreNumbersOf};
 ghost use Rattle.ix_query.specs.Leaves.{HasMeet, HasNumber};

@@ -2,7 +2,7 @@
 
 ghost use Rattle.std.specs.Prelude.{◌≡◌, ◌≤◌, ◌-◌, ◌^◌, drop, length, slice_get};
 ghost use Rattle.ix_query.specs.Streams.{from_number};
-ghost use Rattle.ix_vbyte.specs.Gaps.{Ascends};
+ghost use Rattle.ix_file.specs.Gaps.{Ascends};
 
 use crate::answers::numbers::Numbers;
 use std::marker::Model;
@@ -17,7 +17,7 @@ pub(crate) struct Listed {
 
 impl Model for Listed {
     ghost use Rattle.std.specs.Prelude.{List, ℕ, ◌≤◌, ◌-◌, ◌^◌, drop, length};
-    ghost use Rattle.ix_vbyte.specs.Gaps.{Ascends};
+    ghost use Rattle.ix_file.specs.Gaps.{Ascends};
 
     ghost Value = { List ℕ };
 

@@ -1,7 +1,6 @@
 //! A mark for each document.
 
-ghost use Rattle.std.specs.Prelude.{◌≡◌, ◌<◌, ◌≤◌, ◌+◌, ◌-◌, ◌*◌, ◌^◌, ◌⊎◌, ℕ, List, length, IfOk, OnOk};
-ghost use Rattle.std.specs.Int.{bit_at};
+ghost use Rattle.std.specs.Prelude.{◌≡◌, ◌<◌, ◌≤◌, ◌+◌, ◌-◌, ◌*◌, ◌⊎◌, ℕ, length, IfOk, OnOk};
 ghost use Rattle.ix_text.specs.TokenMarks.{mark_of};
 ghost use Rattle.ix_query.specs.Marking.{AddsBits, CanAddBits};
 

@@ -1,16 +1,15 @@
 //! The documents of a pattern.
 
 ghost use Rattle.std.specs.Prelude.{◌<◌, ◌↔◌, ◌⊎◌, ◌≡◌, ℕ, Contains, IfOk};
-ghost use Rattle.ix_vbyte.specs.Postings.{documents_of};
+ghost use Rattle.ix_file.specs.Postings.{documents_of};
 ghost use Rattle.ix_query.specs.declared.tree.Tree.TheVariants as asks;
 ghost use Rattle.ix_query.specs.Finding.{AreNumbersOf};
 ghost use Rattle.ix_query.specs.Marked.{IsMarked};
 
 use crate::answers::marks::Marks;
-use ix_file::Index;
+use ix_file::{Index, Postings};
 use ix_gram::{Pattern, expand};
 use ix_text::Memory;
-use ix_vbyte::cursor::Postings;
 use std::alloc::Global;
 
 /// The documents that have a term which matches the pattern. The work is linear in the postings of these terms.

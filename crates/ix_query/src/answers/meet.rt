@@ -1,6 +1,5 @@
 //! The documents that several parts of a query find, and others do not.
 
-ghost use Rattle.std.specs.Prelude.{ℕ};
 ghost use Rattle.ix_query.specs.Leaves.{HasMeet};
 ghost use Rattle.ix_query.specs.Streams.{Reaches};
 

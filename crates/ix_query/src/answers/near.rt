@@ -8,7 +8,7 @@ ghost use Rattle.ix_query.specs.Streams.{IsFirst, Reaches, first_of};
 use crate::answers::common::common_of_two;
 use crate::answers::numbers::Numbers;
 use crate::answers::reader::Reader;
-use ix_vbyte::cursor::Positions;
+use ix_file::Positions;
 
 /// The documents in which two terms stand at positions that differ by 1 to `distance`, either way round.
 #[derive(Drop)]

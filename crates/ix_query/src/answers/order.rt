@@ -1,6 +1,6 @@
 //! Which of several streams is asked first.
 
-ghost use Rattle.std.specs.Prelude.{◌≤◌, ◌<◌, length};
+ghost use Rattle.std.specs.Prelude.{◌<◌, length};
 
 use crate::answers::leaf::Leaf;
 use crate::answers::reader::Reader;

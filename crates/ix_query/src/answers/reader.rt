@@ -1,11 +1,11 @@
 //! The postings of a term, the first of them at hand.
 
-ghost use Rattle.std.specs.Prelude.{◌≡◌, ℕ, List, ◌∷◌, ◌-◌, ◌^◌, option_map, IsTrue, IsSomeAnd, ◌↔◌, ◌≤◌};
-ghost use Rattle.ix_vbyte.specs.Postings.{ArePostings};
+ghost use Rattle.std.specs.Prelude.{◌≡◌, ℕ, List, ◌-◌, ◌^◌, option_map, IsTrue, IsSomeAnd, ◌↔◌, ◌≤◌};
+ghost use Rattle.ix_file.specs.Postings.{ArePostings};
 ghost use Rattle.ix_query.specs.Streams.{first_of};
 
 use crate::answers::numbers::Numbers;
-use ix_vbyte::cursor::{Positions, Posting, Postings};
+use ix_file::{Positions, Posting, Postings};
 use std::marker::Model;
 
 /// The postings of a term that are left. The first of them was read, so that its positions can be walked.
@@ -17,7 +17,7 @@ pub(crate) struct Reader<'a> {
 
 impl<'a> Model for Reader<'a> {
     ghost use Rattle.std.specs.Prelude.{◌≡◌, List, [], ℕ, None, ◌-◌, ◌^◌, ◌++◌, option_to_list, option_map};
-    ghost use Rattle.ix_vbyte.specs.Postings.{ArePostings};
+    ghost use Rattle.ix_file.specs.Postings.{ArePostings};
 
     ghost Value = { List (ℕ × List ℕ) };
 

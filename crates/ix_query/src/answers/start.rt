@@ -6,7 +6,7 @@ ghost use Rattle.ix_query.specs.Streams.{from_number};
 
 use crate::answers::numbers::Numbers;
 use crate::answers::reader::Reader;
-use ix_vbyte::cursor::Positions;
+use ix_file::Positions;
 use std::marker::Model;
 
 /// The positions at which a phrase may start: those of one of its terms, less the term's place in it.
@@ -22,7 +22,7 @@ pub(crate) struct Start<'a> {
 
 impl<'a> Model for Start<'a> {
     ghost use Rattle.std.specs.Prelude.{List, ℕ, ◌-◌, ◌^◌, ◌++◌, option_to_list};
-    ghost use Rattle.ix_vbyte.specs.Gaps.{Ascends};
+    ghost use Rattle.ix_file.specs.Gaps.{Ascends};
 
     ghost Value = { ℕ × List ℕ };
 

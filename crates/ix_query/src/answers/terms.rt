@@ -16,9 +16,8 @@ use crate::answers::reader::Reader;
 use crate::answers::start::Start;
 use crate::answers::word::Word;
 use crate::tree::Term;
-use ix_file::Index;
+use ix_file::{Index, Postings};
 use ix_text::Memory;
-use ix_vbyte::cursor::Postings;
 use std::alloc::Global;
 
 /// The postings of a term, or none where no document has it.

@@ -1,11 +1,11 @@
 //! The documents of a term.
 
 ghost use Rattle.std.specs.Prelude.{◌≡◌, ◌++◌, [], None, option_to_list};
-ghost use Rattle.ix_vbyte.specs.Postings.{documents_of};
+ghost use Rattle.ix_file.specs.Postings.{documents_of};
 ghost use Rattle.ix_query.specs.Streams.{from_number};
 
 use crate::answers::numbers::Numbers;
-use ix_vbyte::cursor::Postings;
+use ix_file::Postings;
 use std::marker::Model;
 
 /// The documents of a term, from the coded list of its postings. Positions are passed over and not decoded.
@@ -19,8 +19,8 @@ pub(crate) struct Word<'a> {
 
 impl<'a> Model for Word<'a> {
     ghost use Rattle.std.specs.Prelude.{List, ℕ, ◌-◌, ◌^◌, ◌++◌, option_to_list};
-    ghost use Rattle.ix_vbyte.specs.Gaps.{Ascends};
-    ghost use Rattle.ix_vbyte.specs.Postings.{documents_of};
+    ghost use Rattle.ix_file.specs.Gaps.{Ascends};
+    ghost use Rattle.ix_file.specs.Postings.{documents_of};
 
     ghost Value = { List ℕ };
 

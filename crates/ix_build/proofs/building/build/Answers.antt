@@ -5,7 +5,7 @@ use Rattle.ix_text.specs.Collections.{NamedText, collection_of, token_total}
 use Rattle.ix_text.specs.Docs.{named_text}
 use Rattle.ix_text.specs.Sizes.{AreSmall, text_bytes}
 use Rattle.ix_text.proofs.SizeLemmas.{tokens_no_more_than_bytes}
-use Rattle.ix_file.specs.Endings.{WritesIndexText}
+use Rattle.ix_merge.specs.Endings.{WritesIndexText}
 use Rattle.ix_build.specs.AlikeFronts.{LeavesAlikeFront}
 use Rattle.ix_build.specs.Blocks.{AreBounds}
 use Rattle.ix_build.specs.BlockRuns.{GivesRun, StaysMakerOf}

@@ -1,7 +1,6 @@
 //! Index texts of small collections in both versions, written plainly from the definition of the format: every section
 //! on its own, and then one behind another.
 use ix_text::{Doc, StopList, tokens, trigrams};
-use ix_vbyte::encode;
 use std::alloc::{AllocError, Global};
 
 /// A term at a place of the collection.
@@ -213,8 +212,14 @@ fn push_text(section: &mut Vec<u8>, text: &[u8]) -> Result<(), AllocError> {
     section.extend_from_slice(text)
 }
 
+/// Seven bits a byte, the most significant first, the top bit set in the last byte alone.
 fn push_number(section: &mut Vec<u8>, number: u32) -> Result<(), AllocError> {
-    section.extend_from_slice(encode(number).as_bytes())
+    for shift in [28, 21, 14, 7] {
+        if number >> shift != 0 {
+            section.push((number >> shift & 127) as u8)?;
+        }
+    }
+    section.push((number & 127 | 128) as u8)
 }
 
 /// The number, which is small.

@@ -1,5 +1,5 @@
 use Rattle.std.proofs.Common.{◌≡◌, ◌++◌}
-use Rattle.ix_vbyte.specs.Postings.{documents_of}
+use Rattle.ix_file.specs.Postings.{documents_of}
 use Rattle.ix_query.proofs.answers.collect.documents.Given as goal
 
 -- the documents so far, and those that are left

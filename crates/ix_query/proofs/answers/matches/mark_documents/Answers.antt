@@ -1,5 +1,5 @@
 use Rattle.std.proofs.Common.{ℕ, ◌<◌, ◌⊎◌, ◌↔◌, List, Contains, ◌∙◌, subst}
-use Rattle.ix_vbyte.specs.Postings.{Posting, documents_of}
+use Rattle.ix_file.specs.Postings.{Posting, documents_of}
 use Rattle.ix_query.specs.Marked.{IsMarked}
 use Rattle.ix_query.proofs.MatchLemmas.{mark_step}
 use Rattle.ix_query.proofs.answers.matches.mark_documents.Goals as goal

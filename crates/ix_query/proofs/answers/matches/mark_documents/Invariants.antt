@@ -1,5 +1,5 @@
 use Rattle.std.proofs.Common.{◌≡◌, ℕ, ◌<◌, ◌⊎◌, ◌↔◌, Contains}
-use Rattle.ix_vbyte.specs.Postings.{documents_of}
+use Rattle.ix_file.specs.Postings.{documents_of}
 use Rattle.ix_query.specs.Marked.{IsMarked}
 use Rattle.ix_query.proofs.answers.matches.mark_documents.Given as goal
 

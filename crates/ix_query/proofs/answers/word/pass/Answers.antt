@@ -1,5 +1,5 @@
 use Rattle.std.proofs.Common.{sym, ap, ◌∙◌}
-use Rattle.ix_vbyte.specs.Postings.{documents_of}
+use Rattle.ix_file.specs.Postings.{documents_of}
 use Rattle.ix_query.proofs.StreamLemmas.{documents_from}
 use Rattle.ix_query.proofs.answers.word.pass.Goals as goal
 

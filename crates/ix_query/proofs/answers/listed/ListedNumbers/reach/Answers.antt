@@ -1,5 +1,5 @@
 use Rattle.std.proofs.Common.{◌-◌, ◌^◌, ℕ, List, sym, ap, subst, ◌∙◌}
-use Rattle.ix_vbyte.specs.Gaps.{Ascends}
+use Rattle.ix_file.specs.Gaps.{Ascends}
 use Rattle.ix_query.specs.Streams.{from_number}
 use Rattle.ix_query.proofs.StreamLemmas.{ascends_from, reaches_number, first_dropped}
 use Rattle.ix_query.proofs.answers.listed.ListedNumbers.reach.Goals as goal

@@ -1,6 +1,6 @@
 use Rattle.std.proofs.Common.{ℕ, List, sym, ◌∙◌, subst}
 use Rattle.std.proofs.lemmas.List.{with_items_is}
-use Rattle.ix_vbyte.specs.Postings.{Posting}
+use Rattle.ix_file.specs.Postings.{Posting}
 use Rattle.ix_query.specs.Meetings.{HasPhraseIn}
 use Rattle.ix_query.specs.Streams.{Reaches}
 use Rattle.ix_query.proofs.answers.phrase.PhraseNumbers.reach.Goals as goal

@@ -1,8 +1,8 @@
 use Rattle.std.proofs.Common.{◌-◌, ◌^◌, List, sym, ap, subst, ◌∙◌}
 use Rattle.std.proofs.lemmas.Bool.{iff_false}
-use Rattle.ix_vbyte.specs.Postings.{Posting, ArePostings}
-use Rattle.ix_vbyte.specs.Walking.{from_document}
-use Rattle.ix_vbyte.specs.declared.cursor.Posting.{Posting as Read}
+use Rattle.ix_file.specs.Postings.{Posting, ArePostings}
+use Rattle.ix_file.specs.Walking.{from_document}
+use Rattle.ix_file.specs.Posting.{Posting as Read}
 use Rattle.ix_query.proofs.StreamLemmas.{are_from, reaches_document, sought, stood, none_is}
 use Rattle.ix_query.proofs.answers.reader.ReaderNumbers.reach.Goals as goal
 use Rattle.ix_query.proofs.answers.reader.ReaderNumbers.reach.Goals.{then-not-stands_from, else-not-stands_from}

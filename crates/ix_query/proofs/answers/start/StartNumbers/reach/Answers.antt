@@ -1,5 +1,5 @@
 use Rattle.std.proofs.Common.{◌+◌, ◌-◌, ◌^◌, ◌++◌, ℕ, List, Option, Contains, option_to_list, sym, subst}
-use Rattle.ix_vbyte.specs.Gaps.{Ascends}
+use Rattle.ix_file.specs.Gaps.{Ascends}
 use Rattle.ix_query.specs.Streams.{Reaches}
 use Rattle.ix_query.proofs.StreamLemmas.{ascends_from, reaches_start, first_at_hand}
 use Rattle.ix_query.proofs.answers.start.StartNumbers.reach.Goals as goal
