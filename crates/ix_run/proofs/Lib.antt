@@ -30,6 +30,7 @@ pub mod Sorting
 pub mod SpelledLemmas
 pub mod StopTermLemmas
 pub mod TermLemmas
+pub mod TermRows
 pub mod TextLaws
 pub mod WholeLists
 pub mod Writing

@@ -1,10 +1,15 @@
 //! The terms of a run with their coded lists, close together in memory.
-ghost use Rattle.std.specs.Prelude.{◌≡◌, [], ◌∷◌, ◌++◌, IfOk, MatchOption, OnErr, OnOk};
+ghost use Rattle.std.specs.Prelude.{◌≡◌, [], ◌∷◌, ◌++◌, length, take, IfOk, MatchOption, OnErr, OnOk};
+ghost use Rattle.ix_run.specs.HeldTerms.{BeginsWithRow, ReadsRow, bytes_of_row};
 ghost use Rattle.ix_run.specs.Runs.{term_shown};
 
 use ix_text::Memory;
-use std::alloc::Global;
+use ix_vbyte::{first_number, push_code};
+use std::alloc::{AllocError, Global};
 use std::marker::Model;
+
+/// How many bytes the row of a term has, or a few more: a run has mostly terms of few documents.
+const ROW_BYTES: usize = 6;
 
 /// A term with its coded list.
 #[derive(Clone, Copy)]
@@ -21,12 +26,62 @@ pub(crate) struct CodedTerm<'a> {
 
 /// What is kept of a term beside its text and its list.
 #[derive(Clone, Copy)]
-pub(crate) struct TermRow {
+struct TermRow {
     // the bytes of its text and of its list
-    text: usize,
-    list: usize,
+    text: u32,
+    list: u32,
     documents: u32,
     last: u32,
+}
+
+/// A number of bytes as a row has it. 2^32 bytes or more find no room.
+fn byte_count(bytes: usize) -> Result<u32, Memory>
+    ensures { IfOk result (λ count. count ≡ bytes) }
+{
+    u32::try_from(bytes).map_err(|_| AllocError)
+}
+
+/// Appends the codes of a row's numbers. A refusal leaves the rows as they were.
+fn push_row(rows: &mut Vec<u8>, row: TermRow) -> Result<(), AllocError>
+    ensures pushed { OnOk result (rows.new.items ≡ rows.old.items ++ bytes_of_row row) }
+    ensures kept { OnErr result (rows.new.items ≡ rows.old.items) }
+{
+    let start = rows.len();
+    let pushed = append_row(rows, row);
+    if pushed.is_err() {
+        rows.truncate(start);
+    }
+    pushed
+}
+
+/// The same, but that a refusal may leave a beginning.
+fn append_row(rows: &mut Vec<u8>, row: TermRow) -> Result<(), AllocError>
+    ensures pushed { OnOk result (rows.new.items ≡ rows.old.items ++ bytes_of_row row) }
+    ensures kept { OnErr result (take (length rows.old.items) rows.new.items ≡ rows.old.items) }
+{
+    push_code(rows, row.text)?;
+    push_code(rows, row.list)?;
+    push_code(rows, row.documents)?;
+    push_code(rows, row.last)
+}
+
+/// The row at the front, and what follows it.
+#[inline(always)]
+fn first_row(rows: &[u8]) -> (TermRow, &[u8])
+    requires { BeginsWithRow rows.now }
+    ensures { ReadsRow rows.now result.0 result.1.now }
+{
+    let (text, rest) = first_number(rows);
+    let (list, rest) = first_number(rest);
+    let (documents, rest) = first_number(rest);
+    let (last, rest) = first_number(rest);
+    let row = TermRow {
+        text,
+        list,
+        documents,
+        last,
+    };
+    (row, rest)
 }
 
 /// Terms with their coded lists. Contracts see the list of their values.
@@ -37,7 +92,8 @@ pub(crate) struct CodedTerms {
     // one behind another
     texts: String,
     lists: Vec<u8>,
-    rows: Vec<TermRow>,
+    // coded
+    rows: Vec<u8>,
 }
 
 impl Model for CodedTerms {
@@ -55,32 +111,34 @@ impl Model for CodedTerms {
 }
 
 impl CodedTerms {
-    /// No terms, with room for the rows of so many.
+    /// No terms, with room for short rows of so many.
     pub(crate) fn with_capacity(alloc: Global, count: usize) -> Result<CodedTerms, Memory>
         ensures { IfOk result (λ terms. terms ≡ []) }
     {
         Ok(CodedTerms {
             texts: String::new(alloc),
             lists: Vec::new(alloc),
-            rows: Vec::with_capacity(alloc, count)?,
+            rows: Vec::with_capacity(alloc, count.saturating_mul(ROW_BYTES))?,
         })
     }
 
-    /// Adds a term behind the others. A refusal leaves them as they were.
+    /// Adds a term behind the others. A refusal, also of a text or a list of 2^32 bytes or more, leaves them as they
+    /// were.
     pub(crate) fn push(&mut self, term: CodedTerm<'_>) -> Result<(), Memory>
         ensures pushed { OnOk result (self.new ≡ self.old ++ term_shown term.entry ∷ []) }
         ensures kept { OnErr result (self.new ≡ self.old) }
     {
-        self.rows.reserve(1)?;
-        self.lists.reserve(term.list.len())?;
-        self.texts.push_str(term.term)?;
-        self.lists.extend_from_slice(term.list)?;
-        self.rows.push_reserved(TermRow {
-            text: term.term.len(),
-            list: term.list.len(),
+        let row = TermRow {
+            text: byte_count(term.term.len())?,
+            list: byte_count(term.list.len())?,
             documents: term.documents,
             last: term.last,
-        });
+        };
+        self.texts.reserve(term.term.len())?;
+        self.lists.reserve(term.list.len())?;
+        push_row(&mut self.rows, row)?;
+        self.texts.push_str(term.term)?;
+        self.lists.extend_from_slice(term.list)?;
         Ok(())
     }
 
@@ -91,7 +149,7 @@ impl CodedTerms {
         Ok(CodedTerms {
             texts: String::from_str(alloc, self.texts.as_str())?,
             lists: Vec::from_slice(alloc, self.lists.as_slice())?,
-            rows: self.rows,
+            rows: Vec::from_slice(alloc, self.rows.as_slice())?,
         })
     }
 
@@ -112,7 +170,7 @@ impl CodedTerms {
 pub(crate) struct TermWalk<'a> {
     texts: &'a str,
     lists: &'a [u8],
-    rows: &'a [TermRow],
+    rows: &'a [u8],
 }
 
 impl<'a> Model for TermWalk<'a> {
@@ -135,14 +193,17 @@ impl<'a> TermWalk<'a> {
         ensures { MatchOption result ((self.old ≡ []) × (self.new ≡ []))
             (λ term. self.old ≡ term_shown term ∷ self.new) }
     {
-        let (row, rows) = self.rows.split_first()?;
-        let texts = self.texts;
-        let (list, lists) = self.lists.split_at(row.list);
-        self.texts = &texts[row.text..];
+        if self.rows.is_empty() {
+            return None;
+        }
+        let (row, rows) = first_row(self.rows);
+        let (text, texts) = self.texts.split_at(row.text as usize);
+        let (list, lists) = self.lists.split_at(row.list as usize);
+        self.texts = texts;
         self.lists = lists;
         self.rows = rows;
         Some(CodedTerm {
-            term: &texts[..row.text],
+            term: text,
             documents: row.documents,
             last: row.last,
             list,
