@@ -214,12 +214,16 @@ fn push_text(section: &mut Vec<u8>, text: &[u8]) -> Result<(), AllocError> {
 
 /// Seven bits a byte, the most significant first, the top bit set in the last byte alone.
 fn push_number(section: &mut Vec<u8>, number: u32) -> Result<(), AllocError> {
-    for shift in [28, 21, 14, 7] {
-        if number >> shift != 0 {
-            section.push((number >> shift & 127) as u8)?;
+    let second = number / 128;
+    let third = second / 128;
+    let fourth = third / 128;
+    for digits in [fourth / 128, fourth, third, second] {
+        if digits != 0 {
+            section.push((digits % 128) as u8)?;
         }
     }
-    section.push((number & 127 | 128) as u8)
+    section.push((number % 128) as u8 + 128)?;
+    Ok(())
 }
 
 /// The number, which is small.
