@@ -1,5 +1,5 @@
 -- The commands of the program, with their options and operands, as `clap` reads them.
-use Rattle.std.specs.Prelude.{◌∷◌, [], ℤ, Some, codes, pos, true}
+use Rattle.std.specs.Prelude.{◌∷◌, [], ℤ, List, Some, codes, pos, true}
 use Rattle.clap.specs.Lexer.{usize_max}
 use Rattle.clap.specs.Simple.{App, Shape, built, new_app, new_rule, new_shape, with_subcommand}
 use Rattle.clap.specs.Walk.{Rule, Text}
@@ -23,41 +23,41 @@ operands_rule name = record (operand_rule name) {
   range = Some (record { start_inclusive = 1; end_inclusive = usize_max });
 }
 
+-- these rules behind those of a stop file and of a plan: `[--stop FILE] [--block N] [--bytes N] [--workers W]`
+abbrev pub with_plan_rules : List Rule → List Rule
+with_plan_rules rest =
+    option_rule (codes "stop")
+    ∷ number_rule (codes "block") (pos 1) (pos 268435456)
+    ∷ number_rule (codes "bytes") (pos 1) (pos 268435456)
+    ∷ number_rule (codes "workers") (pos 1) (pos 64)
+    ∷ rest
+
 -- `ask [--stop FILE] [--block N] [--bytes N] [--workers W] COLLECTION QUERY`
 abbrev pub ask_shape : Shape
 ask_shape = record (new_shape (codes "ask")) {
-  rules = option_rule (codes "stop")
-      ∷ number_rule (codes "block") (pos 1) (pos 268435456)
-      ∷ number_rule (codes "bytes") (pos 1) (pos 268435456)
-      ∷ number_rule (codes "workers") (pos 1) (pos 64)
-      ∷ operand_rule (codes "COLLECTION")
+  rules = with_plan_rules (
+      operand_rule (codes "COLLECTION")
       ∷ operand_rule (codes "QUERY")
-      ∷ [];
+      ∷ []);
 }
 
 -- `build [--stop FILE] [--block N] [--bytes N] [--workers W] [--runs FOLDER] COLLECTION INDEX`
 abbrev pub build_shape : Shape
 build_shape = record (new_shape (codes "build")) {
-  rules = option_rule (codes "stop")
-      ∷ number_rule (codes "block") (pos 1) (pos 268435456)
-      ∷ number_rule (codes "bytes") (pos 1) (pos 268435456)
-      ∷ number_rule (codes "workers") (pos 1) (pos 64)
-      ∷ option_rule (codes "runs")
+  rules = with_plan_rules (
+      option_rule (codes "runs")
       ∷ operand_rule (codes "COLLECTION")
       ∷ operand_rule (codes "INDEX")
-      ∷ [];
+      ∷ []);
 }
 
 -- `live [--stop FILE] [--block N] [--bytes N] [--workers W] [--searchers S] SCRIPT`
 abbrev pub live_shape : Shape
 live_shape = record (new_shape (codes "live")) {
-  rules = option_rule (codes "stop")
-      ∷ number_rule (codes "block") (pos 1) (pos 268435456)
-      ∷ number_rule (codes "bytes") (pos 1) (pos 268435456)
-      ∷ number_rule (codes "workers") (pos 1) (pos 64)
-      ∷ number_rule (codes "searchers") (pos 1) (pos 64)
+  rules = with_plan_rules (
+      number_rule (codes "searchers") (pos 1) (pos 64)
       ∷ operand_rule (codes "SCRIPT")
-      ∷ [];
+      ∷ []);
 }
 
 -- `search INDEX QUERY`

@@ -1,9 +1,9 @@
 -- The rows of the terms that match: each once, in order, and counted.
-use Rattle.std.proofs.Common.{◌≡◌, ◌∙◌, ℕ, zero, suc, ◌+◌, ◌<◌, ◌≤◌, ◌⊎◌, inl, inr, List, [], ◌∷◌, ◌++◌, map, length, take, get_or, slice_get, length-append, Option, None, Some, option_map, All, Contains, Ordering, Less, refl, sym, ap, ap₂, subst, arith, append-nil}
+use Rattle.std.proofs.Common.{◌≡◌, ◌∙◌, ℕ, zero, suc, ◌+◌, ◌<◌, ◌⊎◌, inl, inr, List, [], ◌∷◌, ◌++◌, map, length, take, get_or, slice_get, length-append, Option, None, Some, option_map, All, Contains, Less, refl, sym, ap, ap₂, subst, arith, append-nil}
 use Rattle.std.specs.Cmp.Lexicographic.{slice_cmp}
 use Rattle.std.specs.Ordering.{nat_cmp}
-use Rattle.std.specs.List.{AllByRecursion, AllPairs, flat_map}
-use Rattle.std.specs.List.Sorted.{IsStrictlyIncreasing, IsStrictlySortedBy}
+use Rattle.std.specs.List.{AllByRecursion, AllPairs}
+use Rattle.std.specs.List.Sorted.{IsStrictlySortedBy}
 use Rattle.std.proofs.lemmas.Grind.{flat_map-append}
 use Rattle.std.proofs.lemmas.List.{length-map, map-append, take_more}
 use Rattle.std.proofs.lemmas.List.Elements.{All-contains, Contains-get_or, recursion_from_All}
@@ -11,12 +11,12 @@ use Rattle.std.proofs.lemmas.List.Kept.{AllPairs-from_increasing}
 use Rattle.std.proofs.lemmas.Map.Keys.{Less-from_sorted}
 use Rattle.std.proofs.lemmas.Option.{get_or_from_slice_get, slice_get-get_or, slice_get-map, slice_get_cases, slice_get_within}
 use Rattle.ix_text.specs.ByteOrder.{IsAscending}
-use Rattle.ix_text.specs.Collections.{Collection, IsVocabulary}
+use Rattle.ix_text.specs.Collections.{Collection}
 use Rattle.ix_text.specs.Parts.{ArePartsOf, DictionaryEntry, HasPosition, IsEntryOf, IsTermPosting, Parts, Posting, terms_of}
 use Rattle.ix_file.specs.Opened.{document_counts}
 use Rattle.ix_gram.specs.Expanding.{AreMatches, IsMatch}
 use Rattle.ix_gram.specs.Patterns.{Matches}
-use Rattle.ix_ask.specs.Listing.{AreHolders, AreRows, IsCounted, IsIn, IsTermOf, TermRow, at_most_one, picked, row_line, row_lines, row_terms, term_rows}
+use Rattle.ix_ask.specs.Listing.{AreRows, IsCounted, IsIn, IsTermOf, TermRow, at_most_one, picked, row_line, row_lines, row_terms, term_rows}
 
 some_same : {A : Type 0} {x y : A} → Some x ≡ Some y → x ≡ y
 some_same e = cc

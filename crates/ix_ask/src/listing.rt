@@ -1,5 +1,5 @@
 //! The terms of an opened index that match a pattern, up to the lines that are written.
-ghost use Rattle.std.specs.Prelude.{◌≡◌, ◌<◌, ◌++◌, All, length, map, string_bytes};
+ghost use Rattle.std.specs.Prelude.{◌≡◌, ◌<◌, ◌++◌, All, length, string_bytes};
 ghost use Rattle.std.specs.Prelude.{IfOk, IfErr, OnOk};
 ghost use Rattle.ix_text.specs.Collections.{Collection};
 ghost use Rattle.ix_file.specs.Opened.{IsIndexOf};

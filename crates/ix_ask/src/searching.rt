@@ -1,5 +1,5 @@
 //! A question to an opened index, up to the names that are written.
-ghost use Rattle.std.specs.Prelude.{◌≡◌, ◌<◌, All, length, IfOk, IfErr};
+ghost use Rattle.std.specs.Prelude.{◌≡◌, ◌<◌, IfOk, IfErr};
 ghost use Rattle.ix_text.specs.Collections.{Collection};
 ghost use Rattle.ix_file.specs.Opened.{IsIndexOf};
 ghost use Rattle.ix_file.specs.Sections.{Version};

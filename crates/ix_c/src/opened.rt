@@ -1,5 +1,5 @@
 //! Questions to an index that is opened once and held behind a handle.
-ghost use Rattle.std.specs.Prelude.{◌≡◌, ◌≤◌, ℕ, IfErr, IfOk, List, None, Some, false};
+ghost use Rattle.std.specs.Prelude.{◌≡◌, ◌≤◌, ℕ, IfErr, IfOk, List, None, Some};
 ghost use Rattle.ix_ask.specs.declared.refusal.Area.TheVariants as area;
 ghost use Rattle.ix_c.specs.Opening.{RefusesOpening, StandsFor};
 ghost use Rattle.ix_c.specs.Searching.{AreFoundIn, AreListedIn, IsListed, IsSearched};

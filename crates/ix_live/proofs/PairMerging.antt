@@ -12,8 +12,8 @@ use Rattle.ix_text.proofs.PartsLemmas.{same_by_places, same_collection, same_col
 use Rattle.ix_file.specs.Endings.{WritesIndexText}
 use Rattle.ix_file.specs.IndexText.{IsIndexText}
 use Rattle.ix_file.specs.Sections.{FrontCoded}
-use Rattle.ix_run.specs.Heads.{Heading, parts_with}
-use Rattle.ix_run.specs.Sources.{Yielding}
+use Rattle.ix_merge.specs.Heads.{Heading, parts_with}
+use Rattle.ix_merge.specs.Sources.{Yielding}
 use Rattle.ix_merge.specs.Covers.{Cover}
 use Rattle.ix_merge.specs.Pieces.{ArePiecesOf, IsConcatenation, Piece, WritesConcatenation, heading_of_piece}
 use Rattle.ix_merge.proofs.Covering.{documents_under, laid_cover}

@@ -1,5 +1,5 @@
 //! New segments: documents that are built, and two segments that are merged.
-ghost use Rattle.std.specs.Prelude.{◌≡◌, ◌^◌, ◌≤◌, ◌+◌, ◌++◌, List, ℕ, length, IfErr, IfOk};
+ghost use Rattle.std.specs.Prelude.{◌^◌, ◌≤◌, ◌+◌, ◌++◌, List, ℕ, length, IfErr, IfOk};
 ghost use Rattle.ix_text.specs.Collections.{Collection, Document, collection_of};
 ghost use Rattle.ix_file.specs.IndexText.{IsIndexText};
 ghost use Rattle.ix_file.specs.Opened.{IsIndexOf};

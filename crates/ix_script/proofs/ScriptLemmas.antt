@@ -1,6 +1,6 @@
 -- What stretches of a script come to, one after another.
-use Rattle.std.proofs.Common.{◌≡◌, ℕ, zero, suc, ◌∙◌, ◌+◌, ◌-◌, ◌<◌, ◌≤◌, ◌⊎◌, inl, inr, Bool, false, ◌||◌, List, [], ◌∷◌, ◌++◌, length, map, take, drop, Option, None, Some, refl, sym, ap, ap₂, subst, arith, Result, Ok, Err, IfErr, IsErrAnd, append_assoc, append-nil, length-append, length-drop, take-append-drop}
-use Rattle.std.specs.Io.KnownBytes.{Appends, Keeps}
+use Rattle.std.proofs.Common.{◌≡◌, ℕ, ◌∙◌, ◌+◌, ◌-◌, ◌<◌, ◌≤◌, ◌⊎◌, inl, inr, Bool, false, ◌||◌, List, [], ◌∷◌, ◌++◌, length, map, take, drop, Option, None, Some, refl, sym, ap, ap₂, subst, arith, Result, Ok, Err, IfErr, IsErrAnd, append_assoc, append-nil, length-append, length-drop, take-append-drop}
+use Rattle.std.specs.Io.KnownBytes.{Appends}
 use Rattle.std.proofs.lemmas.Grind.{flat_map-append}
 use Rattle.std.proofs.Math.Seq.{take-add, take-append_seam}
 use Rattle.std.proofs.lemmas.List.{length-map, map-append, take-map}
@@ -13,7 +13,7 @@ use Rattle.ix_script.specs.PrintedAnswers.{answer_lines, lines_of}
 use Rattle.ix_script.specs.Runs.{Answered, Progress, Runs, is_some_name, published, some_found}
 use Rattle.ix_script.specs.Scripts.{AreBehindGroup, ArePublished, IsPrinted, IsReason, lacking, refused, unpublished, unwritten}
 use Rattle.ix_script.specs.Steps.{Publish, Step, Text}
-use Rattle.ix_script.specs.Stops.{IsUnprinted, RefusesChanges, RefusesGroup}
+use Rattle.ix_script.specs.Stops.{IsUnprinted, RefusesGroup}
 use Rattle.ix_script.specs.Stretches.{CarriesOut, Stops}
 use Rattle.ix_script.specs.declared.run_error.RunError.{RunError}
 use Rattle.ix_script.specs.declared.run_error.RunError.TheVariants.{Collection, Live, Memory, Unread, Write}

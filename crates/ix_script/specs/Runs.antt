@@ -1,5 +1,5 @@
 -- What the steps of a script do, one after another: what is published, what waits to be, and what is answered.
-use Rattle.std.specs.Prelude.{◌≡◌, ℕ, ◌<◌, Bool, true, false, List, [], ◌∷◌, ◌++◌, length}
+use Rattle.std.specs.Prelude.{◌≡◌, ◌<◌, Bool, true, false, List, [], ◌∷◌, ◌++◌, length}
 use Rattle.std.specs.List.{list_any}
 use Rattle.ix_text.specs.Collections.{Document, NamedText}
 use Rattle.ix_text.specs.CollectionText.{IsCollectionText}

@@ -24,6 +24,10 @@ progress_of indexer = record { published = indexer.published; pending = indexer.
 abbrev pub IsTeamOf : IndexerValue → TeamValue → Type 0
 IsTeamOf indexer team = (team.stop ≡ indexer.stop) × (team.history.book ≡ indexer.book) × (team.history.operations ≡ indexer.published)
 
+-- the indexer is of the same live index, in which what is published is as it was
+abbrev pub KeepsPublished : IndexerValue → IndexerValue → Type 0
+KeepsPublished before after = (after.stop ≡ before.stop) × (after.book ≡ before.book) × (after.published ≡ before.published)
+
 -- ---- why a step was refused
 
 -- why a file was not read: it is too large only where it has more bytes than a collection text may have

@@ -4,8 +4,8 @@ ghost use Rattle.ix_text.specs.CollectionText.{IsCollectionText};
 ghost use Rattle.ix_script.specs.Groups.{IsGroup, is_publish};
 ghost use Rattle.ix_script.specs.Runs.{Changes};
 ghost use Rattle.ix_script.specs.Steps.{Add, step_of};
-ghost use Rattle.ix_script.specs.Stops.{IsNoCollection, IsUnread, RefusesChanges, RefusesStep};
-ghost use Rattle.ix_script.specs.Stops.{progress_of};
+ghost use Rattle.ix_script.specs.Stops.{IsNoCollection, IsUnread, KeepsPublished, RefusesChanges};
+ghost use Rattle.ix_script.specs.Stops.{RefusesStep, progress_of};
 
 use crate::collection_files::{CollectionFiles, FileFault};
 use crate::run_error::RunError;
@@ -37,9 +37,7 @@ pub fn change_all<'t, R: Threads + Wait + Sync, F: CollectionFiles>(
     group: &[Step<'t>],
 ) -> Result<(), Stopped<'t>>
     requires { IsGroup (map step_of group.now) }
-    ensures same { (indexer.new.stop ≡ indexer.old.stop)
-        × (indexer.new.book ≡ indexer.old.book)
-        × (indexer.new.published ≡ indexer.old.published) }
+    ensures same { KeepsPublished indexer.old indexer.new }
     ensures changed { OnOk result (Changes (F.holds files.now) indexer.old.stop
         (map step_of group.now) (progress_of indexer.old) (progress_of indexer.new)) }
     ensures place { IfErr result (λ stopped. stopped.place < length group.now) }
@@ -67,9 +65,7 @@ fn change<'t, R: Threads + Wait + Sync, F: CollectionFiles>(
     step: &Step<'t>,
 ) -> Result<(), RunError<'t>>
     requires { is_publish (step_of step.now) ≡ false }
-    ensures same { (indexer.new.stop ≡ indexer.old.stop)
-        × (indexer.new.book ≡ indexer.old.book)
-        × (indexer.new.published ≡ indexer.old.published) }
+    ensures same { KeepsPublished indexer.old indexer.new }
     ensures changed { OnOk result (Changes (F.holds files.now) indexer.old.stop
         (step_of step.now ∷ []) (progress_of indexer.old) (progress_of indexer.new)) }
     ensures refused { IfErr result (RefusesStep (F.holds files.now) plan.now.workers
@@ -95,9 +91,7 @@ fn add<'t, R: Threads + Wait + Sync, F: CollectionFiles>(
     indexer: &mut Indexer,
     path: &'t str,
 ) -> Result<(), RunError<'t>>
-    ensures same { (indexer.new.stop ≡ indexer.old.stop)
-        × (indexer.new.book ≡ indexer.old.book)
-        × (indexer.new.published ≡ indexer.old.published) }
+    ensures same { KeepsPublished indexer.old indexer.new }
     ensures changed { OnOk result (Changes (F.holds files.now) indexer.old.stop
         (Add path.entry.now ∷ []) (progress_of indexer.old) (progress_of indexer.new)) }
     ensures refused { IfErr result (RefusesStep (F.holds files.now) plan.now.workers

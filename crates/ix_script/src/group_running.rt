@@ -6,7 +6,8 @@ ghost use Rattle.ix_script.specs.Jobs.{names_in};
 ghost use Rattle.ix_script.specs.PrintedAnswers.{answered_with, asked_in};
 ghost use Rattle.ix_script.specs.Runs.{Changes, Runs};
 ghost use Rattle.ix_script.specs.Steps.{step_of};
-ghost use Rattle.ix_script.specs.Stops.{IsTeamOf, RefusesChanges, RefusesGroup, progress_of};
+ghost use Rattle.ix_script.specs.Stops.{IsTeamOf, KeepsPublished, RefusesChanges};
+ghost use Rattle.ix_script.specs.Stops.{RefusesGroup, progress_of};
 ghost use Rattle.ix_script.specs.declared.run_error.RunError.TheVariants.{Memory};
 
 use crate::changing::{Stopped, change_all};
@@ -37,9 +38,7 @@ pub fn run_group<'t, R: Threads + Wait + Sync, F: CollectionFiles>(
 ) -> Result<(Team, Vec<Vec<String>>), RunError<'t>>
     requires group { IsGroup (map step_of group.now) }
     requires team { IsTeamOf indexer.old team }
-    ensures same { (indexer.new.stop ≡ indexer.old.stop)
-        × (indexer.new.book ≡ indexer.old.book)
-        × (indexer.new.published ≡ indexer.old.published) }
+    ensures same { KeepsPublished indexer.old indexer.new }
     ensures team { IfOk result (λ r. r.0 ≡ team) }
     ensures ran { IfOk result (λ r. Runs (F.holds files.now) indexer.old.stop
         (map step_of group.now) (progress_of indexer.old) (progress_of indexer.new)
@@ -64,9 +63,7 @@ fn answer_and_change<'t, R: Threads + Wait + Sync, F: CollectionFiles>(
 ) -> Result<(Team, Vec<Vec<String>>), RunError<'t>>
     requires group { IsGroup (map step_of group.now) }
     requires team { IsTeamOf indexer.old team }
-    ensures same { (indexer.new.stop ≡ indexer.old.stop)
-        × (indexer.new.book ≡ indexer.old.book)
-        × (indexer.new.published ≡ indexer.old.published) }
+    ensures same { KeepsPublished indexer.old indexer.new }
     ensures team { IfOk result (λ r. r.0 ≡ team) }
     ensures changed { IfOk result (λ r. Changes (F.holds files.now) indexer.old.stop
         (map step_of group.now) (progress_of indexer.old) (progress_of indexer.new)) }
@@ -81,9 +78,7 @@ fn answer_and_change<'t, R: Threads + Wait + Sync, F: CollectionFiles>(
     };
     let mut changes = || -> Result<(), Stopped<'_>>
         requires { IsGroup (map step_of group.now) }
-        ensures same { (indexer.exit.now.stop ≡ indexer.entry.now.stop)
-            × (indexer.exit.now.book ≡ indexer.entry.now.book)
-            × (indexer.exit.now.published ≡ indexer.entry.now.published) }
+        ensures same { KeepsPublished indexer.entry.now indexer.exit.now }
         ensures changed { OnOk result (Changes (F.holds files.entry.now) indexer.entry.now.stop
             (map step_of group.entry.now) (progress_of indexer.entry.now)
             (progress_of indexer.exit.now)) }

@@ -5,7 +5,7 @@ ghost use Rattle.ix_script.specs.Groups.{IsGroup};
 ghost use Rattle.ix_script.specs.Runs.{published};
 ghost use Rattle.ix_script.specs.Scripts.{ArePublished, IsCarriedOut, IsStopped, nothing_yet};
 ghost use Rattle.ix_script.specs.Steps.{step_of};
-ghost use Rattle.ix_script.specs.Stops.{IsTeamOf, progress_of};
+ghost use Rattle.ix_script.specs.Stops.{IsTeamOf, KeepsPublished, progress_of};
 ghost use Rattle.ix_script.specs.Stretches.{CarriesOut, Stops};
 ghost use Rattle.ix_script.specs.Teams.{IsOfIndex};
 ghost use Rattle.ix_script.specs.declared.run_error.RunError.TheVariants.{Live};
@@ -195,9 +195,7 @@ fn answer_group<'t, R: Threads + Wait + Sync, F: CollectionFiles, W: Write>(
 ) -> Result<(Team, bool), RunError<'t>>
     requires group { IsGroup (map step_of group.now) }
     requires team { IsTeamOf indexer.old team }
-    ensures same { (indexer.new.stop ≡ indexer.old.stop)
-        × (indexer.new.book ≡ indexer.old.book)
-        × (indexer.new.published ≡ indexer.old.published) }
+    ensures same { KeepsPublished indexer.old indexer.new }
     ensures team { IfOk result (λ r. r.0 ≡ team) }
     ensures ran { IfOk result (λ r. CarriesOut (F.holds files.now) indexer.old.stop
         (map step_of group.now) (progress_of indexer.old) (progress_of indexer.new)

@@ -1,6 +1,6 @@
 -- What the index tells is of its collection.
-use Rattle.std.proofs.Common.{rules, ◌∙◌, List, ℕ, subst, sym}
-use Rattle.ix_ask.specs.Listing.{picked, row_lines, term_rows}
+use Rattle.std.proofs.Common.{rules, List, ℕ, subst}
+use Rattle.ix_ask.specs.Listing.{picked, term_rows}
 use Rattle.ix_gram.specs.Patterns.{pieces_of}
 use Rattle.ix_text.specs.Parts.{terms_of}
 use Rattle.ix_gram.specs.Expanding.{AreMatches}

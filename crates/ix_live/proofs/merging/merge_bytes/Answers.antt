@@ -2,7 +2,7 @@ use Rattle.std.proofs.Common.{◌≡◌, ◌∙◌, List, [], ◌∷◌, ◌++�
 use Rattle.std.proofs.lemmas.List.{length-map}
 use Rattle.ix_text.specs.Parts.{ArePartsOf, row_of}
 use Rattle.ix_file.specs.Opened.{Opened}
-use Rattle.ix_run.specs.RunSources.{HasLeft, SourceValue}
+use Rattle.ix_merge.specs.RunSources.{HasLeft, SourceValue}
 use Rattle.ix_live.specs.Segments.{of_documents}
 use Rattle.ix_live.proofs.PairMerging.{text_of_all, written_of_two}
 use Rattle.ix_live.proofs.merging.merge_bytes.Goals as goal

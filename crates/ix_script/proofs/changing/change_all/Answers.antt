@@ -1,5 +1,5 @@
 -- The steps before the place were carried out.
-use Rattle.std.proofs.Common.{rules, ◌≡◌, false, ◌∙◌, ◌∷◌, [], arith, map, take, drop, subst, sym, length, suc}
+use Rattle.std.proofs.Common.{rules, ◌≡◌, false, ◌∙◌, ◌∷◌, [], arith, map, take, drop, subst, sym, suc}
 use Rattle.std.proofs.lemmas.List.{take_all}
 use Rattle.ix_script.specs.Groups.{is_publish}
 use Rattle.ix_script.specs.Runs.{Changes}

@@ -1,10 +1,8 @@
 -- The additions and removals of a group, and its answers, are what its steps do.
-use Rattle.std.proofs.Common.{◌∙◌, map, sym}
-use Rattle.std.proofs.lemmas.List.{length-map}
+use Rattle.std.proofs.Common.{map}
 use Rattle.ix_script.specs.Jobs.{names_in}
 use Rattle.ix_script.specs.PrintedAnswers.{asked_in}
 use Rattle.ix_script.specs.Steps.{step_of}
-use Rattle.ix_script.specs.Stops.{progress_of}
 use Rattle.ix_script.proofs.RunLemmas.{as_many_answers, group_runs, ok_of_both}
 use Rattle.ix_script.proofs.group_running.run_group.Goals as goal
 

@@ -1,9 +1,7 @@
 -- One round after another.
-use Rattle.std.proofs.Common.{◌-◌, ◌+◌, ◌∙◌, arith, drop, length, length-drop, map, take, subst, sym}
+use Rattle.std.proofs.Common.{◌-◌, ◌∙◌, arith, drop, length, length-drop, map, take}
 use Rattle.std.proofs.lemmas.List.{take_all}
 use Rattle.ix_script.specs.Steps.{step_of}
-use Rattle.ix_script.specs.Stops.{progress_of}
-use Rattle.ix_script.specs.Stretches.{CarriesOut, Stops}
 use Rattle.ix_script.proofs.ScriptLemmas.{carries_then, carries_then_stops, handed_on, more_is_published, so_far_published, stretch_more, stretch_rest}
 use Rattle.ix_script.proofs.running.run_on.Goals as goal
 

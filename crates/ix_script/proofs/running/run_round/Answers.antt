@@ -1,7 +1,5 @@
 -- A group, and the publish behind it.
-use Rattle.std.proofs.Common.{inl, map, option_map, subst, sym, List}
-use Rattle.ix_script.specs.Runs.{Progress}
-use Rattle.ix_script.specs.Scripts.{ArePublished}
+use Rattle.std.proofs.Common.{inl, map, subst, sym, List}
 use Rattle.ix_script.specs.Steps.{Step, step_of}
 use Rattle.ix_script.specs.Stops.{progress_of}
 use Rattle.ix_script.specs.Stretches.{CarriesOut}
