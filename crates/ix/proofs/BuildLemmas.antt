@@ -5,10 +5,13 @@ use Rattle.std.specs.Borrow.{Bor}
 use Rattle.ix_text.specs.Collections.{NamedText}
 use Rattle.ix_text.specs.CollectionText.{IsCollectionText}
 use Rattle.ix.specs.AskedFiles.{IsStopHeld}
+use Rattle.ix_build.specs.BuildErrors.{IsInvertRefusal, IsMergeRefusal}
 use Rattle.ix_build.specs.GivenBack.{GivesBlocksBack}
 use Rattle.ix_build.specs.Plans.{PlanValue}
 use Rattle.ix_build.specs.RunPaths.{run_path}
-use Rattle.ix.specs.BuiltIndexes.{AreOfFiles, ComeBack, IsUnbuilt, RefusesDocuments, of_folder, of_memory}
+use Rattle.ix_build.specs.declared.build_error.BuildError.{BuildError}
+use Rattle.ix_build.specs.declared.build_error.BuildError.TheVariants.{Thread, Spill, Write, Memory}
+use Rattle.ix.specs.BuiltIndexes.{AreOfFiles, ComeBack, IsRefusalBy, IsUnbuilt, RefusesDocuments, of_folder, of_memory}
 use Rattle.ix.specs.Files.{Holding, IsFront, Keeping}
 use Rattle.ix.specs.Refusals.{IsUnsaved}
 use Rattle.ix_ask.specs.declared.refusal.EngineRefusal.TheVariants as engine
@@ -42,3 +45,16 @@ pub come_back : (P : Type 0) (kept : Keeping) (plan : PlanValue) (stop : List (L
     → ComeBack kept plan stop documents → P
 come_back P kept plan stop documents memory files (of_memory none) = memory none
 come_back P kept plan stop documents memory files (of_folder folder named told back) = files folder named told back
+
+-- what is refused to runs in memory is so by any plan
+pub inverting_refused : (plan : PlanValue) (documents : List NamedText) (error : BuildError) → IsInvertRefusal plan.workers error → IsRefusalBy plan documents error
+inverting_refused plan documents (Thread worker) is = record { any = is; of_memory = λ _. is }
+inverting_refused plan documents (Spill place) is = absurd is
+inverting_refused plan documents Write is = absurd is
+inverting_refused plan documents Memory is = record { any = tt; of_memory = λ _. tt }
+
+pub merging_refused : (plan : PlanValue) (documents : List NamedText) (error : BuildError) → IsMergeRefusal error → IsRefusalBy plan documents error
+merging_refused plan documents (Thread worker) is = absurd is
+merging_refused plan documents (Spill place) is = absurd is
+merging_refused plan documents Write is = record { any = tt; of_memory = λ _. tt }
+merging_refused plan documents Memory is = record { any = tt; of_memory = λ _. tt }

@@ -36,3 +36,7 @@ alike_saved contents saves path untold begun ended collection empty writes saved
   alike = writes.alike;
   saved = index_saved contents saves path untold begun ended writes.whole empty writes.written saved;
 }
+
+-- an index of a collection is one of a collection like it
+pub saved_alike : (saves : Holding) (path : List ℕ) (collection : Collection) → SavesIndex saves path collection → SavesAlike saves path collection
+saved_alike saves path collection saved = record { whole = collection; alike = record { stop = refl; rows = refl }; saved = saved }

@@ -10,8 +10,7 @@ use Rattle.ix_run.specs.RunSources.{HasGiven, HasLeft, unread}
 use Rattle.ix_run.specs.Sources.{IsUnread}
 use Rattle.ix_merge.specs.Pieces.{Piece, WritesConcatenation}
 use Rattle.ix_build.specs.Blocks.{bounds_from}
-use Rattle.ix_build.specs.RunPieces.{AreRunsOf}
-use Rattle.ix_build.proofs.BlockPieces.{pieces_from}
+use Rattle.ix_build.specs.RunPieces.{AreRunsOf, pieces_from}
 use Rattle.ix_build.proofs.BuiltBlocks.{blocks_written}
 use Rattle.ix_build.proofs.RunMerging.{heading_held, runs_written}
 

@@ -16,6 +16,7 @@ use Rattle.ix_merge.specs.Pieces.{Piece, IsConcatenation, heading_of_piece}
 use Rattle.ix_merge.specs.Refusals.{AreTooLarge, DifferInStop}
 use Rattle.ix_merge.specs.Rows.{tokens_in, tokens_under}
 use Rattle.ix_merge.proofs.Covering.{documents_under, laid_cover}
+use Rattle.ix_build.specs.RunPieces.{pieces_from}
 use Rattle.ix_build.proofs.BlockLemmas.{all_in}
 use Rattle.ix_build.proofs.Consecutive.{AreConsecutive, StandsIn, are_all}
 
@@ -38,11 +39,6 @@ unfolding collection_of
 documents_counted stop texts = length-map texts _
 
 -- ---- the pieces of blocks
-
--- each block's collection, where the first one begins with this number
-abbrev pub pieces_from : ℕ → List (List ℕ) → List (List NamedText) → List Piece
-pieces_from first stop [] = []
-pieces_from first stop (block ∷ blocks) = record { first = first; collection = collection_of stop block } ∷ pieces_from (first + length block) stop blocks
 
 abbrev pub documents_of : Piece → List Document
 documents_of piece = piece.collection.documents

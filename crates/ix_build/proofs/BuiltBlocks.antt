@@ -22,9 +22,9 @@ use Rattle.ix_build.specs.Blocks.{bounds_from}
 use Rattle.ix_build.specs.BlockRuns.{IsRunOfBlock}
 use Rattle.ix_build.specs.BuildErrors.{MayComeOfMerge}
 use Rattle.ix_build.specs.Built.{headings_of}
-use Rattle.ix_build.specs.RunPieces.{AreRunsOf, WritesRuns}
+use Rattle.ix_build.specs.RunPieces.{AreRunsOf, WritesRuns, pieces_from}
 use Rattle.ix_build.proofs.BlockLemmas.{all_in}
-use Rattle.ix_build.proofs.BlockPieces.{cover, headings_from, no_difference, no_gap, no_overlap, not_too_large, pieces_from, rows_are, stop_of, whole_is}
+use Rattle.ix_build.proofs.BlockPieces.{cover, headings_from, no_difference, no_gap, no_overlap, not_too_large, rows_are, stop_of, whole_is}
 use Rattle.ix_build.proofs.Consecutive.{same_at_each}
 
 -- ---- runs and pieces

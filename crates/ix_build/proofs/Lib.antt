@@ -7,6 +7,7 @@ pub mod Consecutive
 pub mod FolderLemmas
 pub mod LowestLemmas
 pub mod LowestUnsaved
+pub mod MergedParts
 pub mod OutcomeLemmas
 pub mod OverBlocks
 pub mod ReadBackLemmas

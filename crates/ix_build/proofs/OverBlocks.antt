@@ -23,11 +23,11 @@ use Rattle.ix_build.specs.AlikeFronts.{LeavesAlikeFront, WritesAlike}
 use Rattle.ix_build.specs.Blocks.{bounds_from}
 use Rattle.ix_build.specs.BlockRuns.{IsRunOfBlock}
 use Rattle.ix_build.specs.GivenBack.{IsTextOfBlock}
-use Rattle.ix_build.specs.RunPieces.{AreRunsOf}
+use Rattle.ix_build.specs.RunPieces.{AreRunsOf, pieces_from}
 use Rattle.ix_build.specs.ReadBack.{IsReadBack, MayBeMerged, TellBytes, WritesReadBack}
 use Rattle.ix_build.specs.SavingMakers.{IsHeadOfBlock}
 use Rattle.ix_build.proofs.BlockLemmas.{all_in}
-use Rattle.ix_build.proofs.BlockPieces.{headings_from, pieces_from, rows_are, stop_of, whole_is}
+use Rattle.ix_build.proofs.BlockPieces.{headings_from, rows_are, stop_of, whole_is}
 use Rattle.ix_build.proofs.BuiltBlocks.{blocks_left, blocks_refused, headings_are, piece_between, runs_of_blocks}
 use Rattle.ix_build.proofs.Consecutive.{same_at_each}
 use Rattle.ix_build.proofs.ReadBackLemmas.{headings_read}

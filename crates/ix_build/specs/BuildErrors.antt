@@ -5,9 +5,9 @@ use Rattle.ix_merge.specs.declared.merge_error.MergeError.{MergeError}
 use Rattle.ix_merge.specs.declared.merge_error.MergeError.TheVariants as merge
 use Rattle.ix_build.specs.declared.build_error.BuildError.{BuildError}
 use Rattle.ix_build.specs.declared.build_error.BuildError.TheVariants.{Thread, Spill, Write, Memory}
-use Rattle.ix_build.specs.declared.by_error.ByError.{ByError}
-use Rattle.ix_build.specs.declared.by_error.ByError.TheVariants as by
 use Rattle.ix_build.specs.declared.errors.MakeError.TheVariants as make
+use Rattle.ix_build.specs.declared.errors.WorkError.{WorkError}
+use Rattle.ix_build.specs.declared.errors.WorkError.TheVariants as work
 use Rattle.ix_build.specs.Blocks.{IsBlockPlace}
 use Rattle.ix_build.specs.Plans.{PlanValue}
 
@@ -35,13 +35,12 @@ MayComeOfMerge merge.TooLarge = ⊥
 MayComeOfMerge merge.Write = Unit {0}
 MayComeOfMerge merge.Memory = Unit {0}
 
--- the errors of makers that make the runs of consecutive blocks and refuse none
-abbrev pub MayComeOfBlocks : ByError → Type 0
-MayComeOfBlocks (by.Thread worker) = Unit {0}
-MayComeOfBlocks (by.Make place make.Refused) = ⊥
-MayComeOfBlocks (by.Make place make.Memory) = Unit {0}
-MayComeOfBlocks (by.Merge error) = MayComeOfMerge error
-MayComeOfBlocks by.Memory = Unit {0}
+-- the errors of work shared among makers that refuse no place
+abbrev pub MayComeOfWork : WorkError → Type 0
+MayComeOfWork (work.Thread worker) = Unit {0}
+MayComeOfWork (work.Make place make.Refused) = ⊥
+MayComeOfWork (work.Make place make.Memory) = Unit {0}
+MayComeOfWork work.Memory = Unit {0}
 
 -- a merge's refused write, or want of memory
 abbrev pub told_of_merge : {E : Type 0} → MergeError E → BuildError
@@ -53,12 +52,11 @@ told_of_merge merge.TooLarge = Memory
 told_of_merge merge.Write = Write
 told_of_merge merge.Memory = Memory
 
--- the error as it is told: a thread that was not started, a merge's refused write, or want of memory
-abbrev pub told_of : ByError → BuildError
-told_of (by.Thread worker) = Thread worker
-told_of (by.Make place error) = Memory
-told_of (by.Merge error) = told_of_merge error
-told_of by.Memory = Memory
+-- a thread that was not started, or want of memory
+abbrev pub told_of_work : WorkError → BuildError
+told_of_work (work.Thread worker) = Thread worker
+told_of_work (work.Make place error) = Memory
+told_of_work work.Memory = Memory
 
 -- which errors come with runs in a folder: `Thread` of one of the plan's workers, and `Spill` of a block
 abbrev pub IsFolderRefusal : PlanValue → List NamedText → BuildError → Type 0
@@ -73,6 +71,20 @@ IsBuildRefusal workers (Thread worker) = worker < workers
 IsBuildRefusal workers (Spill place) = ⊥
 IsBuildRefusal workers Write = Unit {0}
 IsBuildRefusal workers Memory = Unit {0}
+
+-- which errors come of inverting by so many workers
+abbrev pub IsInvertRefusal : ℕ → BuildError → Type 0
+IsInvertRefusal workers (Thread worker) = worker < workers
+IsInvertRefusal workers (Spill place) = ⊥
+IsInvertRefusal workers Write = ⊥
+IsInvertRefusal workers Memory = Unit {0}
+
+-- which errors come of merging runs in memory
+abbrev pub IsMergeRefusal : BuildError → Type 0
+IsMergeRefusal (Thread worker) = ⊥
+IsMergeRefusal (Spill place) = ⊥
+IsMergeRefusal Write = Unit {0}
+IsMergeRefusal Memory = Unit {0}
 
 -- the errors that come before a byte is written
 abbrev pub IsBeforeWriting : BuildError → Type 0

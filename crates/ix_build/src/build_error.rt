@@ -1,10 +1,10 @@
 //! Why a collection is not built.
 ghost use Rattle.std.specs.Prelude.{◌≡◌};
 
-use crate::by_error::ByError;
-use crate::errors::MakeError;
+use crate::errors::{MakeError, WorkError};
 use ix_merge::MergeError;
 use ix_run::RunTextError;
+use ix_text::Memory;
 use std::{error, fmt};
 
 /// Why a collection is not built.
@@ -22,7 +22,7 @@ pub enum BuildError {
 }
 
 impl BuildError {
-    ghost use Rattle.ix_build.specs.BuildErrors.{MayComeOfBlocks, MayComeOfMerge, build_error_number, told_of};
+    ghost use Rattle.ix_build.specs.BuildErrors.{MayComeOfMerge, MayComeOfWork, build_error_number, told_of_merge, told_of_work};
     ghost use Rattle.ix_build.specs.ReadBack.{told_of_read_merge};
 
     /// The error's number in the list of these errors, from 1.
@@ -37,19 +37,27 @@ impl BuildError {
         }
     }
 
-    /// The error of makers of blocks as an error of the whole. Blocks one after another are never refused for what
-    /// they are.
-    pub(crate) fn of(error: ByError) -> BuildError
-        requires { MayComeOfBlocks error }
-        ensures { result ≡ told_of error }
+    /// The error of work that makers of blocks share, none of whom refuses a block.
+    pub(crate) fn of_work(error: WorkError) -> BuildError
+        requires { MayComeOfWork error }
+        ensures { result ≡ told_of_work error }
     {
         match error {
-            ByError::Thread(worker) => BuildError::Thread(worker),
-            ByError::Make(_, MakeError::Refused) => unreachable!(),
-            ByError::Make(_, MakeError::Memory) | ByError::Memory => BuildError::Memory,
-            ByError::Merge(MergeError::Write) => BuildError::Write,
-            ByError::Merge(MergeError::Source(_, _) | MergeError::Memory) => BuildError::Memory,
-            ByError::Merge(_) => unreachable!(),
+            WorkError::Thread(worker) => BuildError::Thread(worker),
+            WorkError::Make(_, MakeError::Refused) => unreachable!(),
+            WorkError::Make(_, MakeError::Memory) | WorkError::Memory => BuildError::Memory,
+        }
+    }
+
+    /// The error of a merge of runs in memory, which is not for what they are.
+    pub(crate) fn of_merge(error: MergeError<Memory>) -> BuildError
+        requires { MayComeOfMerge error }
+        ensures { result ≡ told_of_merge error }
+    {
+        match error {
+            MergeError::Write => BuildError::Write,
+            MergeError::Source(_, _) | MergeError::Memory => BuildError::Memory,
+            _ => unreachable!(),
         }
     }
 

@@ -1,22 +1,15 @@
 //! Building the index text of a collection.
-ghost use Rattle.std.specs.Prelude.{◌≡◌, ◌+◌, ◌<◌, length, map, vec_len, All, IfErr, IfOk, OnErr, OnOk};
+ghost use Rattle.std.specs.Prelude.{IfErr, OnErr, OnOk};
 ghost use Rattle.std.specs.Io.KnownBytes.{Keeps};
 ghost use Rattle.ix_text.specs.Collections.{collection_of};
-ghost use Rattle.ix_text.specs.Docs.{named_text};
-ghost use Rattle.ix_text.specs.Sizes.{AreSmall};
 ghost use Rattle.ix_merge.specs.Endings.{WritesIndexText};
 ghost use Rattle.ix_build.specs.AlikeFronts.{LeavesAlikeFront};
-ghost use Rattle.ix_build.specs.Blocks.{AscendUpTo};
-ghost use Rattle.ix_build.specs.BlockMakers.{IsMakerOf};
 ghost use Rattle.ix_build.specs.BuildErrors.{IsBeforeWriting, IsBuildRefusal};
 
-use crate::block_maker::BlockMaker;
-use crate::blocks::bounds_of;
 use crate::build_error::BuildError;
-use crate::built::Built;
-use crate::by_makers::build_by;
+use crate::inverting::invert_all;
 use crate::plan::Plan;
-use ix_text::{Collection, Doc, Memory, StopList};
+use ix_text::{Collection, StopList};
 use std::alloc::Global;
 use std::io::Write;
 use std::sync::Wait;
@@ -45,46 +38,6 @@ pub fn build<W: Write, R: Threads + Wait + Sync>(
     ensures front { OnErr result (LeavesAlikeFront (collection_of stop.now collection.now)
         (W.contents out.old) (W.contents out.new)) }
 {
-    let docs = collection.docs();
-    let Ok(bounds) = bounds_of(alloc, docs, plan.cut()) else {
-        return Err(BuildError::Memory);
-    };
-    let bounds = bounds.as_slice();
-    let Ok(makers) = makers_of(alloc, docs, stop, bounds, plan.workers()) else {
-        return Err(BuildError::Memory);
-    };
-    let Built { makers: _, result } = build_by(rt, alloc, makers, block_count(bounds), out);
-    match result {
-        Ok(()) => Ok(()),
-        Err(error) => Err(BuildError::of(error)),
-    }
-}
-
-/// How many blocks there are between the bounds.
-pub(crate) fn block_count(bounds: &[usize]) -> usize
-    requires { 0 < length bounds.now }
-    ensures { result + 1 ≡ length bounds.now }
-{
-    bounds.len() - 1
-}
-
-/// So many makers of the blocks between the bounds.
-fn makers_of<'a>(
-    alloc: Global,
-    docs: &'a [Doc<'a>],
-    stop: &'a StopList,
-    bounds: &'a [usize],
-    workers: usize,
-) -> Result<Vec<BlockMaker<'a>>, Memory>
-    requires ascending { AscendUpTo (length docs.now) bounds.now }
-    requires small { AreSmall (map named_text docs.now) }
-    ensures as_many { IfOk result (λ makers. vec_len makers ≡ workers) }
-    ensures each { IfOk result (λ makers.
-        All (IsMakerOf (map named_text docs.now) stop.now bounds.now) makers.items) }
-{
-    let mut makers = Vec::with_capacity(alloc, workers)?;
-    for _ in 0..workers {
-        makers.push_reserved(BlockMaker::new(alloc, docs, stop, bounds));
-    }
-    Ok(makers)
+    let blocks = invert_all(rt, alloc, collection, stop, plan)?;
+    blocks.merge_into(alloc, out)
 }

@@ -9,7 +9,7 @@ ghost use Rattle.ix_build.specs.ReadBack.{TellBytes, TellsUnread};
 
 use crate::blocks::bounds_of;
 use crate::build_error::BuildError;
-use crate::building::block_count;
+use crate::inverting::block_count;
 use crate::plan::Plan;
 use crate::reading::merge_saved;
 use crate::saving::{Saved, save_blocks};

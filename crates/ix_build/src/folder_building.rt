@@ -12,9 +12,10 @@ ghost use Rattle.ix_build.specs.RunPaths.{run_path};
 
 use crate::blocks::bounds_of;
 use crate::build_error::BuildError;
-use crate::building::{block_count, build};
+use crate::building::build;
 use crate::building_over::{BuiltOver, build_over};
 use crate::folder::{FolderStore, run_path};
+use crate::inverting::block_count;
 use crate::plan::Plan;
 use crate::run_files::RunFiles;
 use ix_text::{Collection, Memory, StopList};

@@ -1,18 +1,22 @@
 //! `ix build`: builds an index file of a collection file.
 
-ghost use Rattle.std.specs.Prelude.{IfOk, IfErr, OnOk};
-ghost use Rattle.ix_text.specs.Collections.{collection_of};
+ghost use Rattle.std.specs.Prelude.{ℕ, List, IfOk, IfErr, IfSome, OnOk};
+ghost use Rattle.std.specs.Io.KnownBytes.{IsAtEnd};
+ghost use Rattle.ix_text.specs.Collections.{NamedText, collection_of};
 ghost use Rattle.ix_text.specs.CollectionText.{IsCollectionText};
+ghost use Rattle.ix_build.specs.Plans.{PlanValue};
+ghost use Rattle.ix_build.specs.RunPieces.{AreRunsOfTexts};
 ghost use Rattle.ix.specs.BuiltIndexes.{ComeBack, IsBuildRefused, IsBuilt, IsUnbuilt};
 ghost use Rattle.ix.specs.BuiltIndexes.{RefusesDocuments};
 ghost use Rattle.ix.specs.Files.{keeping_of};
+ghost use Rattle.ix.specs.Refusals.{IsUnsaved};
 ghost use Rattle.ix.specs.SavedIndexes.{SavesAlike, SavesIndex};
 
 use crate::command::ask::{read_file, read_stop_list};
 use crate::files::{FileSource, FileTarget};
 use crate::refusal::Refusal;
 use ix_ask::EngineRefusal;
-use ix_build::{Plan, RunFiles, build_with_files};
+use ix_build::{InvertedBlocks, Plan, RunFiles, build_with_files, invert_all};
 use ix_text::{Collection, StopList};
 use std::alloc::Global;
 use std::sync::Wait;
@@ -22,7 +26,8 @@ use std::thread::Threads;
 /// words of the stop file, where one is named, are left out. Where the plan names a folder, it is
 /// one of `runs`.
 ///
-/// The index file is created once the collection was read.
+/// The index file is created once the collection was read. Where the runs are kept in memory, the
+/// collection is let go before they are merged.
 pub fn run<'a, R: Threads + Wait + Sync, F: FileSource + FileTarget, S: RunFiles>(
     rt: &R,
     alloc: Global,
@@ -42,7 +47,15 @@ pub fn run<'a, R: Threads + Wait + Sync, F: FileSource + FileTarget, S: RunFiles
     let stop = read_stop_list(alloc, files, stop)?;
     let text = read_file(files, collection)?;
     let documents = documents_of(alloc, &text)?;
-    save(rt, alloc, files, runs, &documents, &stop, plan, output)
+    if plan.folder().is_some() {
+        return save(rt, alloc, files, runs, &documents, &stop, plan, output);
+    }
+    let writer = create(files, output)?;
+    let blocks = invert(rt, alloc, &documents, &stop, plan)?;
+    // The text is most of what is held, and the runs have nothing of it.
+    drop(documents);
+    drop(text);
+    save_merged(alloc, files, blocks, writer, output)
 }
 
 /// The documents of a collection text.
@@ -56,7 +69,68 @@ fn documents_of<'t, 'a>(alloc: Global, text: &'t [u8]) -> Result<Collection<'t>,
     }
 }
 
-/// Saves the index text of the collection of these documents.
+/// Creates the file of this path.
+fn create<'a, F: FileTarget>(files: &F, path: &'a str) -> Result<F::Writer, Refusal<'a>>
+    ensures created { IfOk result (λ writer. IsAtEnd (F.Writer.contents writer)) }
+    ensures refused { IfErr result (IsUnsaved path.entry.now) }
+{
+    match files.create(path) {
+        Ok(writer) => Ok(writer),
+        Err(fault) => Err(Refusal::unsaved(path, fault)),
+    }
+}
+
+/// Ends the file of this path with what the writer holds.
+fn close<'a, F: FileTarget>(files: &F, path: &'a str, writer: F::Writer) -> Result<(), Refusal<'a>>
+    ensures saved { OnOk result
+        (IfSome (F.Writer.contents writer) (F.saved files.now path.entry.now)) }
+    ensures refused { IfErr result (IsUnsaved path.entry.now) }
+{
+    match files.close(path, writer) {
+        Ok(()) => Ok(()),
+        Err(fault) => Err(Refusal::unsaved(path, fault)),
+    }
+}
+
+/// Inverts the blocks of these documents.
+fn invert<'a, R: Threads + Wait + Sync>(
+    rt: &R,
+    alloc: Global,
+    documents: &Collection<'_>,
+    stop: &StopList,
+    plan: &Plan,
+) -> Result<InvertedBlocks, Refusal<'a>>
+    ensures inverted { IfOk result (AreRunsOfTexts stop.now documents.now) }
+    ensures refused { (path : List ℕ) → IfErr result (IsUnbuilt plan.now documents.now path) }
+{
+    match invert_all(rt, alloc, documents, stop, plan) {
+        Ok(blocks) => Ok(blocks),
+        Err(error) => Err(Refusal::Engine(EngineRefusal::Build(error))),
+    }
+}
+
+/// Merges the runs of blocks into the file that was created under this path.
+fn save_merged<'a, F: FileTarget>(
+    alloc: Global,
+    files: &F,
+    blocks: InvertedBlocks,
+    mut writer: F::Writer,
+    path: &'a str,
+) -> Result<(), Refusal<'a>>
+    requires { IsAtEnd (F.Writer.contents writer) }
+    ensures saved { (stop : List (List ℕ)) (documents : List NamedText)
+        → AreRunsOfTexts stop documents blocks → OnOk result
+        (SavesIndex (F.saved files.now) path.entry.now (collection_of stop documents)) }
+    ensures refused { (plan : PlanValue) (documents : List NamedText)
+        → IfErr result (IsUnbuilt plan documents path.entry.now) }
+{
+    if let Err(error) = blocks.merge_into(alloc, &mut writer) {
+        return Err(Refusal::Engine(EngineRefusal::Build(error)));
+    }
+    close(files, path, writer)
+}
+
+/// Saves the index text of the collection of these documents, by runs where the plan says.
 fn save<'a, R: Threads + Wait + Sync, F: FileTarget, S: RunFiles>(
     rt: &R,
     alloc: Global,
@@ -75,15 +149,9 @@ fn save<'a, R: Threads + Wait + Sync, F: FileTarget, S: RunFiles>(
         (collection_of stop.now documents.now)) }
     ensures refused { IfErr result (IsUnbuilt plan.now documents.now path.entry.now) }
 {
-    let mut writer = match files.create(path) {
-        Ok(writer) => writer,
-        Err(fault) => return Err(Refusal::unsaved(path, fault)),
-    };
+    let mut writer = create(files, path)?;
     if let Err(error) = build_with_files(rt, alloc, runs, documents, stop, plan, &mut writer) {
         return Err(Refusal::Engine(EngineRefusal::Build(error)));
     }
-    match files.close(path, writer) {
-        Ok(()) => Ok(()),
-        Err(fault) => Err(Refusal::unsaved(path, fault)),
-    }
+    close(files, path, writer)
 }

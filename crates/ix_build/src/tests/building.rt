@@ -2,7 +2,7 @@
 ghost use Rattle.std.specs.Prelude.{◌≡◌};
 
 use super::{FIVE_DOCUMENTS, FIVE_DOCUMENTS_INDEX};
-use crate::{BuildError, Cut, Plan, Runs, build};
+use crate::{BuildError, Cut, Plan, Runs, build, invert_all};
 use ix_text::{Collection, StopList};
 use std::alloc::Global;
 use std::io::{self, Write};
@@ -78,6 +78,21 @@ fn stop_word(rt: HostRuntime) -> Result<(), Fail> {
         "to\n",
         STOP_WORD_INDEX,
     )
+}
+
+#[test]
+fn text_let_go_before_the_merge(rt: HostRuntime) -> Result<(), Fail> {
+    let text = Vec::from_slice(rt.alloc(), FIVE_DOCUMENTS)?;
+    let collection = Collection::read(rt.alloc(), &text)?;
+    let stop = StopList::empty(rt.alloc());
+    let plan = Plan::new(Cut::Docs(2), 3, Runs::Memory).expect(&rt, "a plan");
+    let blocks = invert_all(&rt, rt.alloc(), &collection, &stop, &plan)?;
+    drop(collection);
+    drop(text);
+    let mut out = Vec::new(rt.alloc());
+    blocks.merge_into(rt.alloc(), &mut out)?;
+    assert_eq!(rt; out.as_slice(), FIVE_DOCUMENTS_INDEX);
+    Ok(())
 }
 
 /// A writer that takes one byte at a time, and so many of them.

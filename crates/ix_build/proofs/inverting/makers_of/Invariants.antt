@@ -2,7 +2,7 @@ use Rattle.std.proofs.Common.{◌≡◌, ◌≤◌, map, vec_len, All}
 use Rattle.std.specs.Vec.{vec_capacity}
 use Rattle.ix_text.specs.Docs.{named_text}
 use Rattle.ix_build.specs.BlockMakers.{IsMakerOf}
-use Rattle.ix_build.proofs.building.makers_of.Given as goal
+use Rattle.ix_build.proofs.inverting.makers_of.Given as goal
 
 abbrev pub invariant-loop : goal.invariant-loop
 invariant-loop l = record {
