@@ -85,10 +85,17 @@ def where(functions, name):
     return [(file, own) for file, own, body in functions for _ in range(calls(body, name))]
 
 
+def inverting_files(crate):
+    """The files of a crate that bring in the `invert` of ix_run."""
+    root = CRATES / crate / "src"
+    return sorted(path.relative_to(root).as_posix() for path in root.rglob("*.rt")
+                  if re.search(r"\buse ix_run::(?:\{[^}]*\b)?invert\b", text_of(path)))
+
+
 build = functions_of("ix_build")
 for start, goal in [
-    ("build", "build_by"), ("build_with_files", "build"), ("build_with_files", "build_over"),
-    ("build_by", "work_all"), ("build_over", "work_all"),
+    ("build", "invert_all"), ("build", "merge_into"), ("build_with_files", "build"), ("build_with_files", "build_over"),
+    ("invert_all", "work_all"), ("build_by", "work_all"), ("build_over", "work_all"),
 ]:
     check(f"`{start}` of ix_build reaches `{goal}`", reaches(build, start, goal))
 inverting = where(build, "invert")
@@ -98,13 +105,15 @@ made = [(file, own) for file, own, body in build for _ in re.findall(r"\.make\("
 check("ix_build asks a maker at one place alone, in the workers' loop", made == [("worker.rt", "work")], made)
 
 program = functions_of("ix")
-check("ix inverts in the command `run` alone", {file for file, _ in where(program, "invert")} == {"command/run_file.rt"},
-      where(program, "invert"))
-check("the command `build` builds by `build`", reaches([f for f in program if f[0] == "command/build.rt"], "run", "build"))
+inverting = inverting_files("ix")
+check("ix inverts in the command `run` alone", inverting == ["command/run_file.rt"], inverting)
+building = [f for f in program if f[0] == "command/build.rt"]
+for goal in ["invert_all", "merge_into", "build_with_files"]:
+    check(f"the command `build` reaches `{goal}`", reaches(building, "run", goal))
 
 asking = functions_of("ix_ask")
-check("ix_ask inverts without threads alone", where(asking, "invert") == [("alone.rt", "index_documents")],
-      where(asking, "invert"))
+inverting = inverting_files("ix_ask")
+check("ix_ask inverts without threads alone, a whole collection and a part", inverting == ["alone.rt", "inverting.rt"], inverting)
 check("`ask` of ix_ask reaches no `invert` of its own", not reaches(asking, "ask", "invert"))
 check("`ask` of ix_ask reaches `build`", reaches(asking, "ask", "build"))
 
