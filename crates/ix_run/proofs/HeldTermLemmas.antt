@@ -1,10 +1,9 @@
 -- Terms with their lists close together: what is held is what the rows tell.
-use Rattle.std.proofs.Common.{◌≡◌, ℕ, ◌^◌, ◌<◌, ◌≤◌, Option, List, [], ◌∷◌, ◌++◌, length, take, drop, flat_map, All, IsUtf8, refl, sym, ap, ap₂, subst, ◌∙◌, arith, append_assoc, append-nil, length-append, ◌+◌}
+use Rattle.std.proofs.Common.{◌≡◌, ℕ, ◌<◌, ◌≤◌, Option, List, [], ◌∷◌, ◌++◌, length, take, drop, flat_map, All, IsUtf8, refl, sym, ap, ap₂, subst, ◌∙◌, arith, append_assoc, append-nil, length-append, ◌+◌}
 use Rattle.std.proofs.lemmas.List.{drop_at, nil_from_length, take_at}
 use Rattle.std.proofs.lemmas.List.Elements.{All-head, All-nil, All-push, All-tail}
 use Rattle.std.proofs.lemmas.Str.{IsCharBoundary-at_seam, IsUtf8-append, IsUtf8-nil}
 use Rattle.std.specs.Str.{IsCharBoundary}
-use Rattle.ix_vbyte.specs.CodesIn.{numbers_in}
 use Rattle.ix_vbyte.proofs.Walks.{numbers_in-nil}
 use Rattle.ix_run.specs.HeldTerms.{HoldTerms, BeginsWithRow, MayBeHeld, ReadsRow, bytes_of_row, row_of_term, terms_in, terms_told}
 use Rattle.std.specs.Io.KnownBytes.{Appends}

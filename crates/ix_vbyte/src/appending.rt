@@ -122,6 +122,78 @@ pub fn push_posting(
         < vec_len out.old + length (posting_bytes (document + 1 - next) (document, positions.now))) }
     ensures capacity { vec_capacity out.old ≤ vec_capacity out.new }
 {
+    if let [position] = positions {
+        push_single(out, next, document, *position)
+    } else {
+        push_any_posting(out, next, document, positions)
+    }
+}
+
+/// The same of one position. Four postings of five are such, and mostly their gaps have short codes: these are written in
+/// the caller.
+#[inline(always)]
+fn push_single(out: &mut Vec<u8>, next: u32, document: u32, position: u32) -> Result<(), AllocError>
+    requires follows { next ≤ document }
+    requires low { document < 2 ^ 32 - 1 }
+    requires within { position < 2 ^ 32 - 1 }
+    ensures ok { OnOk result (out.new.items
+        ≡ out.old.items ++ posting_bytes (document + 1 - next) (document, position ∷ [])) }
+    ensures err { OnErr result (out.new.items ≡ out.old.items) }
+    ensures full { OnErr result (vec_capacity out.old
+        < vec_len out.old + length (posting_bytes (document + 1 - next) (document, position ∷ []))) }
+    ensures capacity { vec_capacity out.old ≤ vec_capacity out.new }
+{
+    let gap = document + 1 - next;
+    let room = out.capacity() - out.len();
+    if gap < LONG && position < LONG - 1 && room >= SHORT {
+        push_short(out, gap);
+        out.push_reserved(ONE);
+        push_short(out, position + 1);
+        return Ok(());
+    }
+    push_long_single(out, next, document, position)
+}
+
+/// The same, where a code is long or there is no room for short ones.
+#[cold]
+#[inline(never)]
+fn push_long_single(
+    out: &mut Vec<u8>,
+    next: u32,
+    document: u32,
+    position: u32,
+) -> Result<(), AllocError>
+    requires follows { next ≤ document }
+    requires low { document < 2 ^ 32 - 1 }
+    requires within { position < 2 ^ 32 - 1 }
+    ensures ok { OnOk result (out.new.items
+        ≡ out.old.items ++ posting_bytes (document + 1 - next) (document, position ∷ [])) }
+    ensures err { OnErr result (out.new.items ≡ out.old.items) }
+    ensures full { OnErr result (vec_capacity out.old
+        < vec_len out.old + length (posting_bytes (document + 1 - next) (document, position ∷ []))) }
+    ensures capacity { vec_capacity out.old ≤ vec_capacity out.new }
+{
+    push_any_posting(out, next, document, &[position])
+}
+
+/// The same of any number of positions.
+#[inline]
+fn push_any_posting(
+    out: &mut Vec<u8>,
+    next: u32,
+    document: u32,
+    positions: &[u32],
+) -> Result<(), AllocError>
+    requires follows { next ≤ document }
+    requires low { document < 2 ^ 32 - 1 }
+    requires ascending { Ascends 0 (2 ^ 32 - 1) positions.now }
+    ensures ok { OnOk result (out.new.items
+        ≡ out.old.items ++ posting_bytes (document + 1 - next) (document, positions.now)) }
+    ensures err { OnErr result (out.new.items ≡ out.old.items) }
+    ensures full { OnErr result (vec_capacity out.old
+        < vec_len out.old + length (posting_bytes (document + 1 - next) (document, positions.now))) }
+    ensures capacity { vec_capacity out.old ≤ vec_capacity out.new }
+{
     let start = out.len();
     let pushed = append_posting(out, document + 1 - next, positions);
     if pushed.is_err() {
@@ -144,60 +216,6 @@ fn append_posting(out: &mut Vec<u8>, gap: u32, positions: &[u32]) -> Result<(), 
     push_code(out, gap)?;
     push_code(out, positions.len() as u32)?;
     append_gaps(out, 0, positions)
-}
-
-/// Appends the posting of a document with one position, as [`push_posting`] does one with any number of them. Where
-/// memory is refused, which it is only where it finds no room, nothing was appended.
-///
-/// Four postings of five are such, and mostly their gaps have short codes: these are written in the caller.
-#[inline(always)]
-pub fn push_single(
-    out: &mut Vec<u8>,
-    next: u32,
-    document: u32,
-    position: u32,
-) -> Result<(), AllocError>
-    requires follows { next ≤ document }
-    requires low { document < 2 ^ 32 - 1 }
-    requires within { position < 2 ^ 32 - 1 }
-    ensures ok { OnOk result (out.new.items
-        ≡ out.old.items ++ posting_bytes (document + 1 - next) (document, position ∷ [])) }
-    ensures err { OnErr result (out.new.items ≡ out.old.items) }
-    ensures full { OnErr result (vec_capacity out.old
-        < vec_len out.old + length (posting_bytes (document + 1 - next) (document, position ∷ []))) }
-    ensures capacity { vec_capacity out.old ≤ vec_capacity out.new }
-{
-    let gap = document + 1 - next;
-    let room = out.capacity() - out.len();
-    if gap < LONG && position < LONG - 1 && room >= SHORT {
-        push_short(out, gap);
-        out.push_reserved(ONE);
-        push_short(out, position + 1);
-        return Ok(());
-    }
-    push_long_single(out, next, document, position)
-}
-
-/// The same, where the codes are long or there is no room for short ones.
-#[cold]
-#[inline(never)]
-fn push_long_single(
-    out: &mut Vec<u8>,
-    next: u32,
-    document: u32,
-    position: u32,
-) -> Result<(), AllocError>
-    requires follows { next ≤ document }
-    requires low { document < 2 ^ 32 - 1 }
-    requires within { position < 2 ^ 32 - 1 }
-    ensures ok { OnOk result (out.new.items
-        ≡ out.old.items ++ posting_bytes (document + 1 - next) (document, position ∷ [])) }
-    ensures err { OnErr result (out.new.items ≡ out.old.items) }
-    ensures full { OnErr result (vec_capacity out.old
-        < vec_len out.old + length (posting_bytes (document + 1 - next) (document, position ∷ []))) }
-    ensures capacity { vec_capacity out.old ≤ vec_capacity out.new }
-{
-    push_posting(out, next, document, &[position])
 }
 
 /// Appends the code of a number of one byte or two, for which there is room.
