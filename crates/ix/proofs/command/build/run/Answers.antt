@@ -19,8 +19,8 @@ returns-in_err-documents-clause-refused g c =
     handed_up _ c.from_residual-in_err-documents.result c.in_err-documents.field-0.0 c.from_residual-in_err-documents.ensures.1
     (no_documents front.whole c.in_ok-stop.stop front.held c.in_ok-stop.ensures.held (refuses_documents_whole _ front.whole _ front.cut refused))
 
-pub returns-then-clause-built : goal.returns-then-clause-built
-returns-then-clause-built g c =
+pub returns-then-is_some-clause-built : goal.returns-then-is_some-clause-built
+returns-then-is_some-clause-built g c =
     let front = c.in_ok-text.ensures.front in
     let read = rw c.deref.ensures.value at c.in_ok-documents.ensures.read in
     ok_of_both c.save.result (λ saved alike. record {
@@ -31,8 +31,8 @@ returns-then-clause-built g c =
       alike = alike;
     }) c.save.ensures.saved c.save.ensures.alike
 
-pub returns-then-clause-refused : goal.returns-then-clause-refused
-returns-then-clause-refused g c =
+pub returns-then-is_some-clause-refused : goal.returns-then-is_some-clause-refused
+returns-then-is_some-clause-refused g c =
     let front = c.in_ok-text.ensures.front in
     let read = rw c.deref.ensures.value at c.in_ok-documents.ensures.read in
     err_weaker c.save.result (IsUnbuilt c.args.plan.now c.in_ok-documents.documents c.args.output.now) _
