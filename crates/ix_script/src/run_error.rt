@@ -1,6 +1,5 @@
 //! Why a script was not carried out to its end.
 
-
 use ix_live::LiveError;
 use ix_text::CollectionError;
 
