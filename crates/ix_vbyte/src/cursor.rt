@@ -22,7 +22,8 @@ use std::marker::Model;
 pub struct Posting<'a> {
     /// The document's number, from 0.
     pub document: u32,
-    positions: Positions<'a>,
+    /// Its positions, none of them passed yet, unless the caller passed some here.
+    pub positions: Positions<'a>,
 }
 
 impl<'a> Posting<'a> {
