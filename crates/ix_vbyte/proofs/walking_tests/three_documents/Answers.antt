@@ -1,7 +1,7 @@
-use Rattle.std.proofs.Common.{◌^◌, ◌-◌, [], ◌∷◌, List, refl, arith}
+use Rattle.std.proofs.Common.{◌^◌, ◌-◌, [], ◌∷◌, refl, arith}
 use Rattle.std.proofs.lemmas.List.Elements.{All-nil, All-cons}
 use Rattle.ix_vbyte.specs.Code.{code_of}
-use Rattle.ix_vbyte.specs.Postings.{ArePostings, IsPosting, Posting}
+use Rattle.ix_vbyte.specs.Postings.{ArePostings, IsPosting}
 use Rattle.ix_vbyte.proofs.walking_tests.three_documents.Goals as goal
 
 are_three : ArePostings 0 (2 ^ 32 - 1) ((0, 1 ∷ []) ∷ (1, 0 ∷ []) ∷ (3, 0 ∷ 2 ∷ []) ∷ [])
