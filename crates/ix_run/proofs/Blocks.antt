@@ -14,13 +14,12 @@ use Rattle.ix_run.specs.Dictionaries.{AreBefore, HoldsOccurrences}
 use Rattle.ix_run.specs.Inverted.{IsLawfulDocument, Occurrence, document_of, documents_of, occurrences_in, occurrences_of, postings_of, tokens_of}
 use Rattle.ix_run.specs.Heads.{row_of_doc}
 use Rattle.ix_run.specs.Runs.{IsRunOf, IsTooLarge, RunValue, TermValue}
-use Rattle.ix_run.specs.TermLists.{HoldsPostings, IsBefore}
+use Rattle.ix_run.specs.TermLists.{HoldsPostings, IsBefore, ListValue}
 use Rattle.ix_run.specs.declared.head.RunDoc.{RunDoc}
-use Rattle.ix_run.specs.declared.term_list.TermList.{TermList}
 use Rattle.ix_run.proofs.Inverting.{are_parts, parts_of, terms_shown}
 
 -- the documents are inverted into the dictionary, they have these rows, and so many tokens may follow
-pub record IsInvertedBefore {Y S : Type 0} (stop : List (List ℕ)) (documents : List Document) (number : ℕ) (dictionary : HashMap (String Y) TermList S) (rows : List RunDoc) (left : ℕ) : Type 0 where
+pub record IsInvertedBefore {Y S : Type 0} (stop : List (List ℕ)) (documents : List Document) (number : ℕ) (dictionary : HashMap (String Y) ListValue S) (rows : List RunDoc) (left : ℕ) : Type 0 where
   pub shown : map row_of_doc rows ≡ map row_of documents
   pub held : HoldsOccurrences dictionary (occurrences_of 0 documents)
   pub before : AreBefore dictionary number 0
@@ -47,19 +46,19 @@ tokens_of-append (x ∷ xs) d =
     let more = tokens_of-append xs d in omega (arith, one, two, more)
 
 -- nothing is inverted yet
-pub nothing_inverted : {Y S : Type 0} (stop : List (List ℕ)) (dictionary : HashMap (String Y) TermList S) (rows : List RunDoc) → dictionary.entries ≡ [] → rows ≡ [] → IsInvertedBefore stop [] 0 dictionary rows (2 ^ 28)
+pub nothing_inverted : {Y S : Type 0} (stop : List (List ℕ)) (dictionary : HashMap (String Y) ListValue S) (rows : List RunDoc) → dictionary.entries ≡ [] → rows ≡ [] → IsInvertedBefore stop [] 0 dictionary rows (2 ^ 28)
 nothing_inverted {Y} stop dictionary rows empty none =
     let absent : (term : List ℕ) → get_by_text dictionary term ≡ None = λ term. ap (lookup (λ k. bytes_eq term (string_bytes k))) empty in
     record {
       shown = ap (map row_of_doc) none;
-      held = record { each = λ term. let P : Option TermList → Type 0 = λ o. MatchOption o (postings_of term [] ≡ []) (λ l. HoldsPostings l (postings_of term [])) in subst P (sym (absent term)) refl };
-      before = record { each = λ term. let P : Option TermList → Type 0 = λ o. IfSome o (λ l. IsBefore l 0 0) in subst P (sym (absent term)) tt };
+      held = record { each = λ term. let P : Option ListValue → Type 0 = λ o. MatchOption o (postings_of term [] ≡ []) (λ l. HoldsPostings l (postings_of term [])) in subst P (sym (absent term)) refl };
+      before = record { each = λ term. let P : Option ListValue → Type 0 = λ o. IfSome o (λ l. IsBefore l 0 0) in subst P (sym (absent term)) tt };
       lawful = All-nil (IsLawfulDocument stop);
       count = refl;
     }
 
 -- one document more
-pub one_more_inverted : {Y S : Type 0} (stop : List (List ℕ)) (documents more : List Document) (number : ℕ) (old new : HashMap (String Y) TermList S) (rows rows' : List RunDoc) (left : ℕ) (document : Document) (row : RunDoc)
+pub one_more_inverted : {Y S : Type 0} (stop : List (List ℕ)) (documents more : List Document) (number : ℕ) (old new : HashMap (String Y) ListValue S) (rows rows' : List RunDoc) (left : ℕ) (document : Document) (row : RunDoc)
     → more ≡ documents ++ document ∷ [] → rows' ≡ rows ++ row ∷ [] → length documents ≡ number → row_of_doc row ≡ row_of document → length document.tokens ≤ left
     → ((occurrences : List Occurrence) → HoldsOccurrences old occurrences → HoldsOccurrences new (occurrences ++ occurrences_in number 0 document.tokens))
     → AreBefore new (number + 1) 0 → IsLawfulDocument stop document

@@ -1,9 +1,9 @@
 -- Codes of one byte and of two, where they are held.
-use Rattle.std.proofs.Common.{◌≡◌, ℕ, ◌+◌, ◌*◌, ◌/◌, ◌%◌, ◌<◌, ◌≤◌, List, [], ◌∷◌, Option, length, get_or, refl, sym, subst, arith}
-use Rattle.std.proofs.KnownBytes.{Consumes-trans, Keeps-refl}
+use Rattle.std.proofs.Common.{◌≡◌, ℕ, ◌+◌, ◌%◌, ◌<◌, ◌≤◌, List, [], ◌∷◌, Option, length, get_or, refl, sym, subst}
+use Rattle.std.proofs.KnownBytes.{Keeps-refl}
 use Rattle.std.specs.Io.KnownBytes.{Consumes, prepend_known}
 use Rattle.ix_vbyte.specs.Code.{code_of}
-use Rattle.ix_vbyte.proofs.ShortPostings.{code_of-one, code_of-two}
+use Rattle.ix_vbyte.proofs.ShortPostings.{code_of-one}
 use Rattle.ix_run.proofs.InputLemmas.{held, byte_taken}
 
 -- a held byte is taken

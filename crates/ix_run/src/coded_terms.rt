@@ -35,7 +35,7 @@ struct TermRow {
 }
 
 /// A number of bytes as a row has it. 2^32 bytes or more find no room.
-fn byte_count(bytes: usize) -> Result<u32, Memory>
+pub(crate) fn byte_count(bytes: usize) -> Result<u32, Memory>
     ensures { IfOk result (λ count. count ≡ bytes) }
 {
     u32::try_from(bytes).map_err(|_| AllocError)
