@@ -31,6 +31,7 @@ mod token_counts;
 pub use errors::{RunError, WriteError};
 pub use head::{RunDoc, RunHead};
 pub use inversion::invert;
+pub use ix_vbyte::VbError;
 pub use laws::{
     no_run_text_begins_another, run_text_has_eighteen_bytes, run_text_tells_collection,
 };
