@@ -164,8 +164,8 @@ fn do_line<'a, R: Threads + Wait + Sync, F: FileSource + FileTarget, S: RunFiles
             collection,
             query,
         } => ask::run(rt, alloc, files, stop, &plan, collection, query, out),
-        Line::Search { index, query } => search::run(alloc, files, index, query, out),
-        Line::Terms { index, pattern } => terms::run(alloc, files, index, pattern, out),
+        Line::Search { index, query } => { search::run(rt, alloc, files, index, query, out) },
+        Line::Terms { index, pattern } => { terms::run(rt, alloc, files, index, pattern, out) },
         Line::Build {
             stop,
             plan,
@@ -194,7 +194,7 @@ fn do_line<'a, R: Threads + Wait + Sync, F: FileSource + FileTarget, S: RunFiles
             Ok(()) => Ok(ONE_FILE),
             Err(refusal) => Err(refusal),
         },
-        Line::Upgrade { old, new } => match upgrade::run(alloc, files, old, new) {
+        Line::Upgrade { old, new } => match upgrade::run(rt, alloc, files, old, new) {
             Ok(()) => Ok(ONE_FILE),
             Err(refusal) => Err(refusal),
         },

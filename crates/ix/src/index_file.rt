@@ -7,9 +7,11 @@ use crate::refusal::Refusal;
 use ix_ask::EngineRefusal;
 use ix_file::{OpenError, Volume};
 use std::alloc::Global;
+use std::thread::Threads;
 
-/// The index in the file of this path, which is read whole.
-pub fn open_index<'a, F: FileSource>(
+/// The index in the file of this path, which is read whole, and of which two parts are checked side by side.
+pub fn open_index<'a, R: Threads, F: FileSource>(
+    rt: &R,
     alloc: Global,
     files: &F,
     path: &'a str,
@@ -19,7 +21,7 @@ pub fn open_index<'a, F: FileSource>(
 {
     // No bound that a machine could meet is set to an index text, so there is room for any.
     match files.read(path, usize::MAX) {
-        Ok(bytes) => match Volume::open(alloc, bytes) {
+        Ok(bytes) => match Volume::open_beside(rt, alloc, bytes) {
             Ok(volume) => Ok(volume),
             Err(error) => Err(Refusal::Engine(EngineRefusal::Index(error))),
         },

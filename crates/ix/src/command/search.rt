@@ -9,10 +9,12 @@ use crate::refusal::Refusal;
 use ix_ask::search;
 use std::alloc::Global;
 use std::io::Write;
+use std::thread::Threads;
 
 /// Writes the names of the documents of the index file that answer the query, and answers how many
 /// there are. The query is read under the stop list of the index.
-pub fn run<'a, F: FileSource, W: Write>(
+pub fn run<'a, R: Threads, F: FileSource, W: Write>(
+    rt: &R,
     alloc: Global,
     files: &F,
     index: &'a str,
@@ -24,6 +26,6 @@ pub fn run<'a, F: FileSource, W: Write>(
     ensures refused { IfErr result (IsSearchRefused (F.holds files.now) index.entry.now query.now
         (W.contents out.old) (W.contents out.new)) }
 {
-    let volume = open_index(alloc, files, index)?;
+    let volume = open_index(rt, alloc, files, index)?;
     Ok(search(alloc, &volume.index(), query, out)?)
 }

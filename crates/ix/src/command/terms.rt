@@ -9,10 +9,12 @@ use crate::refusal::Refusal;
 use ix_ask::list_terms;
 use std::alloc::Global;
 use std::io::Write;
+use std::thread::Threads;
 
 /// Writes the terms of the index file that match the pattern, each with in how many documents it
 /// is, and answers how many terms there are.
-pub fn run<'a, F: FileSource, W: Write>(
+pub fn run<'a, R: Threads, F: FileSource, W: Write>(
+    rt: &R,
     alloc: Global,
     files: &F,
     index: &'a str,
@@ -24,6 +26,6 @@ pub fn run<'a, F: FileSource, W: Write>(
     ensures refused { IfErr result (IsListingRefused (F.holds files.now) index.entry.now
         pattern.now (W.contents out.old) (W.contents out.new)) }
 {
-    let volume = open_index(alloc, files, index)?;
+    let volume = open_index(rt, alloc, files, index)?;
     Ok(list_terms(alloc, &volume.index(), pattern, out)?)
 }

@@ -15,12 +15,14 @@ use ix_file::{Index, Volume};
 use ix_merge::{IndexSource, MergeError, merge};
 use std::alloc::Global;
 use std::io::Write;
+use std::thread::Threads;
 
 /// Writes an index file of version 2 of the collection that an index file holds, which may be of
 /// version 1 or 2.
 ///
 /// The new file is created once the old one was read.
-pub fn run<'a, F: FileSource + FileTarget>(
+pub fn run<'a, R: Threads, F: FileSource + FileTarget>(
+    rt: &R,
     alloc: Global,
     files: &F,
     old: &'a str,
@@ -31,7 +33,7 @@ pub fn run<'a, F: FileSource + FileTarget>(
     ensures refused { IfErr result (IsUpgradeRefused (F.holds files.now)
         old.entry.now new.entry.now) }
 {
-    let volume = open_index(alloc, files, old)?;
+    let volume = open_index(rt, alloc, files, old)?;
     match save(alloc, files, &volume, new) {
         Ok(()) => Ok(()),
         Err(fault) => Err(Refusal::unsaved(new, fault)),

@@ -3,11 +3,11 @@ use Rattle.std.proofs.Common.{◌<◌, length, arith}
 use Rattle.ix.proofs.IndexLemmas.{index_room, opened_whole, refused_whole}
 use Rattle.ix.proofs.index_file.open_index.Goals as goal
 
-pub returns-in-Ok-open-clause-opened : goal.returns-in-Ok-open-clause-opened
-returns-in-Ok-open-clause-opened g c =
+pub returns-in-Ok-open_beside-clause-opened : goal.returns-in-Ok-open_beside-clause-opened
+returns-in-Ok-open_beside-clause-opened g c =
     let bytes = c.in-Ok.bytes in
     let short : length bytes.items < index_room = omega (arith, bytes.ok.0, bytes.ok.1, bytes.small) in
-    opened_whole (g.F.FileSource.holds c.args.files.now) c.args.path.now bytes.items c.in-Ok-open.volume c.in-Ok.ensures short c.in-Ok-open.ensures.found
+    opened_whole (g.F.FileSource.holds c.args.files.now) c.args.path.now bytes.items c.in-Ok-open_beside.volume c.in-Ok.ensures short c.in-Ok-open_beside.ensures.found
 
 pub returns-in-Err-clause-refused : goal.returns-in-Err-clause-refused
 returns-in-Err-clause-refused g c =

@@ -1,9 +1,9 @@
 -- The blocks of the plan's cut, one after another, are the collection.
-use Rattle.std.proofs.Common.{ℕ, ◌≤◌, ◌^◌, ◌≡◌, List, map, sym, ap, subst, arith}
+use Rattle.std.proofs.Common.{ℕ, ◌≤◌, ◌^◌, List, map, sym, subst, arith}
 use Rattle.std.proofs.lemmas.Result.{IfErr-at_err, IfOk-at_ok}
 use Rattle.ix_text.specs.Collections.{NamedText, collection_of, token_total}
 use Rattle.ix_text.specs.Docs.{named_text}
-use Rattle.ix_text.specs.Sizes.{AreSmall, text_bytes}
+use Rattle.ix_text.specs.Sizes.{AreSmall}
 use Rattle.ix_text.proofs.SizeLemmas.{tokens_no_more_than_bytes}
 use Rattle.ix_build.specs.Blocks.{AreBounds}
 use Rattle.ix_build.specs.BlockRuns.{GivesRun, StaysMakerOf}
