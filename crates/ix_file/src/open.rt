@@ -1,16 +1,9 @@
 //! The exact reading of an index text, section by section: each part is accepted exactly where it is the part of
 //! lawful values, and gives those.
-ghost use Rattle.std.specs.Prelude.{◌≡◌, ◌⊎◌, ◌^◌, ◌<◌, ◌≤◌, List, All, IfOk, IfErr};
-ghost use Rattle.ix_text.specs.Parts.{Posting};
-ghost use Rattle.ix_file.specs.Catalogs.{AreNoSections, IsCatalogOf};
+ghost use Rattle.std.specs.Prelude.{◌≡◌, ◌⊎◌, ◌^◌, ◌<◌, ◌≤◌, IfOk, IfErr};
+ghost use Rattle.ix_file.specs.Catalogs.{AreGramRowsOf, AreLongListsOf, AreNoSections, IsCatalogOf};
 ghost use Rattle.ix_file.specs.Frames.{texts_in, version_in};
-ghost use Rattle.ix_file.specs.Grams.{AreGramsOfTerms};
-ghost use Rattle.ix_file.specs.LongLists.{IsLongIn};
-ghost use Rattle.ix_file.specs.OpenedGrams.{IsGramRow, grams_in};
-ghost use Rattle.ix_file.specs.OpenedRows.{rows_in};
-ghost use Rattle.ix_file.specs.PlacedTerms.{terms_in};
-ghost use Rattle.ix_file.specs.ReadLists.{AreListsIn};
-ghost use Rattle.ix_file.specs.Sections.{grams_section};
+ghost use Rattle.ix_file.specs.OpenedGrams.{grams_in};
 ghost use Rattle.ix_file.specs.Spelled.{AreSectionsOf};
 ghost use Rattle.ix_file.specs.Tables.{AreTablesOf, parts_in};
 ghost use Rattle.ix_file.specs.declared.open_error.OpenError.TheVariants.{Memory};
@@ -81,11 +74,33 @@ pub(crate) fn read_tables_beside<R: Threads>(
         frame.now.documents frame.now.terms) }
 {
     let catalog = read_catalog(alloc, frame)?;
-    let (longs, grams) = join(
-        rt,
-        || catalog.check_postings(alloc, frame),
-        || catalog.check_grams(alloc, frame),
-    );
+    let check_postings = || -> Result<Vec<LongList>, OpenError>
+        requires few { frame.now.documents ≤ 2 ^ 28 }
+        requires catalog { IsCatalogOf (version_in frame.now.version) (texts_in frame.now.sections)
+            catalog frame.now.documents frame.now.terms }
+        ensures found { IfOk result (λ found.
+            AreLongListsOf (texts_in frame.entry.now.sections) catalog found.items) }
+        ensures refused { IfErr result (λ error. (error ≡ Memory)
+            ⊎ AreNoSections (version_in frame.entry.now.version)
+            (texts_in frame.entry.now.sections) frame.entry.now.documents
+            frame.entry.now.terms) }
+    {
+        catalog.check_postings(alloc, frame)
+    };
+    let check_grams = || -> Result<Vec<GramRow>, OpenError>
+        requires few { frame.now.terms < 2 ^ 32 }
+        requires catalog { IsCatalogOf (version_in frame.now.version) (texts_in frame.now.sections)
+            catalog frame.now.documents frame.now.terms }
+        ensures found { IfOk result (λ found.
+            AreGramRowsOf (texts_in frame.entry.now.sections) catalog found.items) }
+        ensures refused { IfErr result (λ error. (error ≡ Memory)
+            ⊎ AreNoSections (version_in frame.entry.now.version)
+            (texts_in frame.entry.now.sections) frame.entry.now.documents
+            frame.entry.now.terms) }
+    {
+        catalog.check_grams(alloc, frame)
+    };
+    let (longs, grams) = join(rt, check_postings, check_grams);
     let longs = longs?;
     let grams = grams?;
     Ok(tables_of(frame, catalog, longs, grams))
@@ -101,16 +116,8 @@ fn tables_of(
     requires few { frame.now.documents ≤ 2 ^ 28 }
     requires catalog { IsCatalogOf (version_in frame.now.version) (texts_in frame.now.sections)
         catalog frame.now.documents frame.now.terms }
-    requires lists { (lists : List (List Posting)) × AreListsIn
-        (rows_in (texts_in frame.now.sections).documents catalog.rows.items)
-        (texts_in frame.now.sections).postings catalog.terms lists }
-    requires entered { All (IsLongIn (texts_in frame.now.sections).postings catalog.terms)
-        longs.items }
-    requires grams { AreGramsOfTerms (terms_in catalog.terms)
-        (grams_in (texts_in frame.now.sections).grams grams.items)
-        × ((texts_in frame.now.sections).grams ≡ grams_section
-        (grams_in (texts_in frame.now.sections).grams grams.items)) }
-    requires gaps { All (IsGramRow (texts_in frame.now.sections).grams) grams.items }
+    requires longs { AreLongListsOf (texts_in frame.now.sections) catalog longs.items }
+    requires grams { AreGramRowsOf (texts_in frame.now.sections) catalog grams.items }
     ensures version { result.version ≡ frame.now.version }
     ensures tables { AreTablesOf (texts_in frame.now.sections) result }
     ensures spelled { AreSectionsOf (version_in frame.now.version)

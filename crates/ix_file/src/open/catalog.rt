@@ -52,17 +52,9 @@ pub(crate) fn read_catalog(alloc: Global, frame: &Frame<'_>) -> Result<Catalog, 
 }
 
 impl Catalog {
-    ghost use Rattle.std.specs.Prelude.{◌≡◌, ◌⊎◌, ◌^◌, ◌<◌, ◌≤◌, List, All, IfOk, IfErr};
-    ghost use Rattle.ix_text.specs.Parts.{Posting};
-    ghost use Rattle.ix_file.specs.Catalogs.{AreNoSections, IsCatalogOf};
+    ghost use Rattle.std.specs.Prelude.{◌≡◌, ◌⊎◌, ◌^◌, ◌<◌, ◌≤◌, IfOk, IfErr};
+    ghost use Rattle.ix_file.specs.Catalogs.{AreGramRowsOf, AreLongListsOf, AreNoSections, IsCatalogOf};
     ghost use Rattle.ix_file.specs.Frames.{texts_in, version_in};
-    ghost use Rattle.ix_file.specs.Grams.{AreGramsOfTerms};
-    ghost use Rattle.ix_file.specs.LongLists.{IsLongIn};
-    ghost use Rattle.ix_file.specs.OpenedGrams.{IsGramRow, grams_in};
-    ghost use Rattle.ix_file.specs.OpenedRows.{rows_in};
-    ghost use Rattle.ix_file.specs.PlacedTerms.{terms_in};
-    ghost use Rattle.ix_file.specs.ReadLists.{AreListsIn};
-    ghost use Rattle.ix_file.specs.Sections.{grams_section};
     ghost use Rattle.ix_file.specs.declared.open_error.OpenError.TheVariants.{Memory};
 
     /// Checks the list of each term, where it stands in POSTINGS, and that no token of the documents is claimed twice.
@@ -77,11 +69,8 @@ impl Catalog {
         requires few { frame.now.documents ≤ 2 ^ 28 }
         requires catalog { IsCatalogOf (version_in frame.now.version) (texts_in frame.now.sections)
             self.now frame.now.documents frame.now.terms }
-        ensures found { IfOk result (λ _. (lists : List (List Posting)) × AreListsIn
-            (rows_in (texts_in frame.now.sections).documents self.now.rows.items)
-            (texts_in frame.now.sections).postings self.now.terms lists) }
-        ensures entered { IfOk result (λ longs.
-            All (IsLongIn (texts_in frame.now.sections).postings self.now.terms) longs.items) }
+        ensures found { IfOk result (λ longs.
+            AreLongListsOf (texts_in frame.now.sections) self.now longs.items) }
         ensures refused { IfErr result (λ error. (error ≡ Memory)
             ⊎ AreNoSections (version_in frame.now.version) (texts_in frame.now.sections)
             frame.now.documents frame.now.terms) }
@@ -104,12 +93,8 @@ impl Catalog {
         requires few { frame.now.terms < 2 ^ 32 }
         requires catalog { IsCatalogOf (version_in frame.now.version) (texts_in frame.now.sections)
             self.now frame.now.documents frame.now.terms }
-        ensures grams { IfOk result (λ rows. AreGramsOfTerms (terms_in self.now.terms)
-            (grams_in (texts_in frame.now.sections).grams rows.items)
-            × ((texts_in frame.now.sections).grams ≡ grams_section
-            (grams_in (texts_in frame.now.sections).grams rows.items))) }
-        ensures gaps { IfOk result (λ rows.
-            All (IsGramRow (texts_in frame.now.sections).grams) rows.items) }
+        ensures found { IfOk result (λ rows.
+            AreGramRowsOf (texts_in frame.now.sections) self.now rows.items) }
         ensures refused { IfErr result (λ error. (error ≡ Memory)
             ⊎ AreNoSections (version_in frame.now.version) (texts_in frame.now.sections)
             frame.now.documents frame.now.terms) }

@@ -24,12 +24,12 @@ returns c =
       terms_counted = is.terms_counted;
       sizes = is.sizes;
       laid_out = is.laid_out;
-      lists = c.requires.lists.0;
-      listed = c.requires.lists.1;
-      longs = c.requires.entered;
-      of_terms = c.requires.grams.0;
-      grams = c.requires.grams.1;
-      gaps = c.requires.gaps;
+      lists = c.requires.longs.lists;
+      listed = c.requires.longs.listed;
+      longs = c.requires.longs.entered;
+      of_terms = c.requires.grams.of_terms;
+      grams = c.requires.grams.spelled;
+      gaps = c.requires.grams.gaps;
     } in
     record {
       version = refl;

@@ -19,3 +19,6 @@ returns-in_err-rows-clause-refused c =
     (λ none. inr (λ parts grams lawful of is.
     no_grams (version_in c.args.frame.now.version) (texts_in c.args.frame.now.sections) c.args.frame.now.documents c.args.frame.now.terms parts grams lawful of is c.args.self.now.terms c.requires.catalog.dictionary none))
     c.in_err-rows.ensures.refused)
+
+pub returns-clause-found : goal.returns-clause-found
+returns-clause-found c = record { of_terms = c.in_ok-rows.ensures.grams.0; spelled = c.in_ok-rows.ensures.grams.1; gaps = c.in_ok-rows.ensures.rows }

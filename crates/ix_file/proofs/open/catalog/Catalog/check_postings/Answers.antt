@@ -47,4 +47,5 @@ returns-clause-found c =
     let texts = texts_in c.args.frame.now.sections in
     let rows = rows_in texts.documents c.args.self.now.rows.items in
     let has : HasTokens c.in_ok-tokens.tokens rows = rw (← c.deref.ensures.value) (c.in_ok-tokens.ensures texts.documents) in
-    c.in_ok-longs.ensures.found rows has
+    let found = c.in_ok-longs.ensures.found rows has in
+    record { lists = found.0; listed = found.1; entered = c.in_ok-longs.ensures.entered }
