@@ -84,9 +84,7 @@ pub(crate) fn read_tables_beside<R: Threads>(
             ⊎ AreNoSections (version_in frame.entry.now.version)
             (texts_in frame.entry.now.sections) frame.entry.now.documents
             frame.entry.now.terms) }
-    {
-        catalog.check_postings(alloc, frame)
-    };
+    { catalog.check_postings(alloc, frame) };
     let check_grams = || -> Result<Vec<GramRow>, OpenError>
         requires few { frame.now.terms < 2 ^ 32 }
         requires catalog { IsCatalogOf (version_in frame.now.version) (texts_in frame.now.sections)
@@ -97,9 +95,7 @@ pub(crate) fn read_tables_beside<R: Threads>(
             ⊎ AreNoSections (version_in frame.entry.now.version)
             (texts_in frame.entry.now.sections) frame.entry.now.documents
             frame.entry.now.terms) }
-    {
-        catalog.check_grams(alloc, frame)
-    };
+    { catalog.check_grams(alloc, frame) };
     let (longs, grams) = join(rt, check_postings, check_grams);
     let longs = longs?;
     let grams = grams?;

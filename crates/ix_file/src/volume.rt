@@ -5,8 +5,8 @@ ghost use Rattle.ix_file.specs.Places.{ArePlacesIn, IsFramed, texts_at};
 
 use crate::layout::{MARK_BYTES, TRAILER_BYTES};
 use crate::open::frame::{FileSections, cut};
-use crate::open::{read_tables, read_tables_beside};
 use crate::open::tables::{Held, Tables};
+use crate::open::{read_tables, read_tables_beside};
 use crate::{Index, OpenError};
 use std::alloc::Global;
 use std::marker::Model;
