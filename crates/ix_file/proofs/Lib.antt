@@ -1,3 +1,4 @@
+pub mod Ahead
 pub mod AllLists
 pub mod AscendingLemmas
 pub mod Beginnings

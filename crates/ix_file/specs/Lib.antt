@@ -1,3 +1,4 @@
+pub mod Catalogs
 pub mod Claimed
 pub mod Dictionaries
 pub mod Endings

@@ -1,17 +1,14 @@
 //! The exact reading of an index text, section by section: each part is accepted exactly where it is the part of
 //! lawful values, and gives those.
-ghost use Rattle.std.specs.Prelude.{◌≡◌, ◌⊎◌, ℕ, ◌^◌, ◌<◌, ◌≤◌, List, sum_by, IfOk, IfErr};
-ghost use Rattle.ix_text.specs.Parts.{GramEntry, Parts, terms_of};
-ghost use Rattle.ix_text.specs.PartsLaws.{AreLawful};
-ghost use Rattle.ix_text.specs.TokenTables.{HasTokens};
+ghost use Rattle.std.specs.Prelude.{◌≡◌, ◌⊎◌, ◌^◌, ◌<◌, ◌≤◌, IfOk, IfErr};
+ghost use Rattle.ix_file.specs.Catalogs.{AreGramRowsOf, AreLongListsOf, AreNoSections, IsCatalogOf};
 ghost use Rattle.ix_file.specs.Frames.{texts_in, version_in};
-ghost use Rattle.ix_file.specs.Grams.{AreGramsOfTerms};
-ghost use Rattle.ix_file.specs.OpenedRows.{rows_in};
 ghost use Rattle.ix_file.specs.OpenedGrams.{grams_in};
 ghost use Rattle.ix_file.specs.Spelled.{AreSectionsOf};
 ghost use Rattle.ix_file.specs.Tables.{AreTablesOf, parts_in};
 ghost use Rattle.ix_file.specs.declared.open_error.OpenError.TheVariants.{Memory};
 
+pub(crate) mod catalog;
 pub(crate) mod claims;
 pub(crate) mod dictionary;
 #[cfg(test)]
@@ -27,16 +24,12 @@ pub(crate) mod tables;
 pub(crate) mod terms;
 
 use crate::OpenError;
-use crate::open::claims::Claims;
-use crate::open::dictionary::read_dictionary;
-use crate::open::documents::{Row, read_documents};
+use crate::open::catalog::{Catalog, read_catalog};
 use crate::open::frame::Frame;
-use crate::open::grams::read_grams;
-use crate::open::lists::check_lists;
-use crate::open::stop::read_stop;
-use crate::open::tables::Tables;
-use ix_text::TokenTable;
-use std::alloc::{AllocError, Global};
+use crate::open::grams::GramRow;
+use crate::open::tables::{LongList, Tables};
+use std::alloc::Global;
+use std::thread::{Threads, join};
 
 /// Reads the tables of an index text that was cut into its frame.
 ///
@@ -51,54 +44,90 @@ pub(crate) fn read_tables(alloc: Global, frame: &Frame<'_>) -> Result<Tables, Op
         (grams_in frame.now.sections.grams.now tables.grams.items) (texts_in frame.now.sections)
         frame.now.documents frame.now.terms) }
     ensures refused { IfErr result (λ error. (error ≡ Memory)
-        ⊎ ((parts : Parts) (grams : List GramEntry) → AreLawful parts →
-        AreGramsOfTerms (terms_of parts.entries) grams →
-        ¬ (AreSectionsOf (version_in frame.now.version) parts grams (texts_in frame.now.sections)
-        frame.now.documents frame.now.terms))) }
+        ⊎ AreNoSections (version_in frame.now.version) (texts_in frame.now.sections)
+        frame.now.documents frame.now.terms) }
 {
-    let sections = frame.sections;
-    let stop = read_stop(alloc, sections.stop)?;
-    let rows = read_documents(alloc, sections.documents, frame.documents)?;
-    let postings = sections.postings.len();
-    let terms = read_dictionary(
-        alloc,
-        frame.version,
-        sections.dictionary,
-        &stop,
-        frame.terms,
-        postings,
-    )?;
-    let tokens = table_of(alloc, &rows)?;
-    let claims = Claims::new(alloc, token_total(&rows), postings)?;
-    let longs = check_lists(alloc, sections.postings, &terms, &tokens, claims)?;
-    let grams = read_grams(alloc, sections.grams, &terms)?;
-    Ok(Tables {
+    let catalog = read_catalog(alloc, frame)?;
+    let longs = catalog.check_postings(alloc, frame)?;
+    let grams = catalog.check_grams(alloc, frame)?;
+    Ok(tables_of(frame, catalog, longs, grams))
+}
+
+/// Reads the tables as `read_tables` does: POSTINGS and GRAMS side by side, in two threads where there may be two.
+///
+/// The same errors in the same order: where both are refused, those of POSTINGS.
+pub(crate) fn read_tables_beside<R: Threads>(
+    rt: &R,
+    alloc: Global,
+    frame: &Frame<'_>,
+) -> Result<Tables, OpenError>
+    requires documents { frame.now.documents ≤ 2 ^ 28 }
+    requires terms { frame.now.terms < 2 ^ 32 }
+    ensures version { IfOk result (λ tables. tables.version ≡ frame.now.version) }
+    ensures tables { IfOk result (λ tables. AreTablesOf (texts_in frame.now.sections) tables) }
+    ensures spelled { IfOk result (λ tables. AreSectionsOf (version_in frame.now.version)
+        (parts_in (texts_in frame.now.sections) tables)
+        (grams_in frame.now.sections.grams.now tables.grams.items) (texts_in frame.now.sections)
+        frame.now.documents frame.now.terms) }
+    ensures refused { IfErr result (λ error. (error ≡ Memory)
+        ⊎ AreNoSections (version_in frame.now.version) (texts_in frame.now.sections)
+        frame.now.documents frame.now.terms) }
+{
+    let catalog = read_catalog(alloc, frame)?;
+    let check_postings = || -> Result<Vec<LongList>, OpenError>
+        requires few { frame.now.documents ≤ 2 ^ 28 }
+        requires catalog { IsCatalogOf (version_in frame.now.version) (texts_in frame.now.sections)
+            catalog frame.now.documents frame.now.terms }
+        ensures found { IfOk result (λ found.
+            AreLongListsOf (texts_in frame.entry.now.sections) catalog found.items) }
+        ensures refused { IfErr result (λ error. (error ≡ Memory)
+            ⊎ AreNoSections (version_in frame.entry.now.version)
+            (texts_in frame.entry.now.sections) frame.entry.now.documents
+            frame.entry.now.terms) }
+    { catalog.check_postings(alloc, frame) };
+    let check_grams = || -> Result<Vec<GramRow>, OpenError>
+        requires few { frame.now.terms < 2 ^ 32 }
+        requires catalog { IsCatalogOf (version_in frame.now.version) (texts_in frame.now.sections)
+            catalog frame.now.documents frame.now.terms }
+        ensures found { IfOk result (λ found.
+            AreGramRowsOf (texts_in frame.entry.now.sections) catalog found.items) }
+        ensures refused { IfErr result (λ error. (error ≡ Memory)
+            ⊎ AreNoSections (version_in frame.entry.now.version)
+            (texts_in frame.entry.now.sections) frame.entry.now.documents
+            frame.entry.now.terms) }
+    { catalog.check_grams(alloc, frame) };
+    let (longs, grams) = join(rt, check_postings, check_grams);
+    let longs = longs?;
+    let grams = grams?;
+    Ok(tables_of(frame, catalog, longs, grams))
+}
+
+/// The tables of what was read: a catalog, the places of the long lists, and the grams.
+fn tables_of(
+    frame: &Frame<'_>,
+    catalog: Catalog,
+    longs: Vec<LongList>,
+    grams: Vec<GramRow>,
+) -> Tables
+    requires few { frame.now.documents ≤ 2 ^ 28 }
+    requires catalog { IsCatalogOf (version_in frame.now.version) (texts_in frame.now.sections)
+        catalog frame.now.documents frame.now.terms }
+    requires longs { AreLongListsOf (texts_in frame.now.sections) catalog longs.items }
+    requires grams { AreGramRowsOf (texts_in frame.now.sections) catalog grams.items }
+    ensures version { result.version ≡ frame.now.version }
+    ensures tables { AreTablesOf (texts_in frame.now.sections) result }
+    ensures spelled { AreSectionsOf (version_in frame.now.version)
+        (parts_in (texts_in frame.now.sections) result)
+        (grams_in frame.now.sections.grams.now result.grams.items) (texts_in frame.now.sections)
+        frame.now.documents frame.now.terms }
+{
+    let Catalog { stop, rows, terms } = catalog;
+    Tables {
         version: frame.version,
         stop,
         rows,
         terms,
         longs,
         grams,
-    })
-}
-
-/// The table of the tokens of documents, of which there are at most 2^28.
-fn table_of(alloc: Global, rows: &[Row]) -> Result<TokenTable, AllocError>
-    requires { sum_by (λ row. row.tokens) rows.now ≤ 2 ^ 28 }
-    ensures { IfOk result (λ table. (section : List ℕ) →
-        HasTokens table (rows_in section rows.now)) }
-{
-    let mut table = TokenTable::new(alloc)?;
-    for row in rows {
-        table.push(row.tokens)?;
     }
-    Ok(table)
-}
-
-/// How many tokens documents have, of which there are at most 2^28.
-fn token_total(rows: &[Row]) -> u32
-    requires { sum_by (λ row. row.tokens) rows.now ≤ 2 ^ 28 }
-    ensures { result ≡ sum_by (λ row. row.tokens) rows.now }
-{
-    rows.iter().map(|row| row.tokens).sum()
 }

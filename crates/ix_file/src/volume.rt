@@ -5,11 +5,12 @@ ghost use Rattle.ix_file.specs.Places.{ArePlacesIn, IsFramed, texts_at};
 
 use crate::layout::{MARK_BYTES, TRAILER_BYTES};
 use crate::open::frame::{FileSections, cut};
-use crate::open::read_tables;
 use crate::open::tables::{Held, Tables};
+use crate::open::{read_tables, read_tables_beside};
 use crate::{Index, OpenError};
 use std::alloc::Global;
 use std::marker::Model;
+use std::thread::Threads;
 
 /// Where each section behind POSTINGS begins, and where the last ends.
 #[derive(Clone, Copy, Debug, PartialEq, Eq)]
@@ -82,6 +83,31 @@ impl Volume {
     {
         let frame = cut(&bytes)?;
         let tables = read_tables(alloc, &frame)?;
+        let places = places_of(&bytes, frame.sections);
+        Ok(Volume {
+            bytes,
+            places,
+            tables,
+        })
+    }
+
+    /// Opens an index text as `open` does, and checks POSTINGS and GRAMS side by side, each in a thread of its own where
+    /// there may be two. It answers the same: of two errors that of POSTINGS.
+    pub fn open_beside<R: Threads>(
+        rt: &R,
+        alloc: Global,
+        bytes: Vec<u8>,
+    ) -> Result<Volume, OpenError>
+        ensures found { IfOk result (λ volume. (collection : Collection)
+            × IsIndexOf volume volume.version collection × IsIndexText volume.version collection
+            bytes.items) }
+        ensures exact { (version : FormatVersion) (collection : Collection) →
+            IsIndexText version collection bytes.items →
+            MatchResult result (λ volume. IsIndexOf volume version collection)
+            (λ error. error ≡ Memory) }
+    {
+        let frame = cut(&bytes)?;
+        let tables = read_tables_beside(rt, alloc, &frame)?;
         let places = places_of(&bytes, frame.sections);
         Ok(Volume {
             bytes,

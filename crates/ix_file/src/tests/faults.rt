@@ -1,18 +1,25 @@
 //! Why texts with faulty sections are refused.
-use super::opening::refusal;
+use super::opening::{refusal, refusal_beside};
 use super::plain::framed_text;
 use std::alloc::Global;
 use std::test::Fail;
+use std::thread::Threads;
 
 /// A text from the bytes of its sections and the counts of its trailer, and why it is refused.
 pub(crate) type Case<'a> = ([&'a [u8]; 5], [u32; 2], &'a str);
 
-/// Whether the texts of a version with these sections are refused so.
-pub(crate) fn are_refused(alloc: Global, version: u8, cases: &[Case<'_>]) -> Result<bool, Fail> {
+/// Whether the texts of a version with these sections are refused so, also where they are checked in two threads.
+pub(crate) fn are_refused(
+    rt: &impl Threads,
+    alloc: Global,
+    version: u8,
+    cases: &[Case<'_>],
+) -> Result<bool, Fail> {
     for &(sections, counts, want) in cases {
         let text = framed_text(alloc, version, sections, counts)?;
         let got = refusal(alloc, &text)?;
-        if got.as_str() != want {
+        let beside = refusal_beside(rt, alloc, text)?;
+        if got.as_str() != want || beside.as_str() != want {
             return Ok(false);
         }
     }
@@ -62,7 +69,7 @@ const STOP_AND_DOCS: [Case<'_>; 20] = [
 
 #[test]
 fn faults_of_stop_terms_and_documents(rt: HostRuntime) -> Result<(), Fail> {
-    assert!(rt; are_refused(rt.alloc(), b'1', &STOP_AND_DOCS)?);
-    assert!(rt; are_refused(rt.alloc(), b'2', &STOP_AND_DOCS)?);
+    assert!(rt; are_refused(&rt, rt.alloc(), b'1', &STOP_AND_DOCS)?);
+    assert!(rt; are_refused(&rt, rt.alloc(), b'2', &STOP_AND_DOCS)?);
     Ok(())
 }

@@ -177,6 +177,8 @@ fn a_hundred_thousand_postings(rt: HostRuntime) -> Result<(), Fail> {
     assert_eq!(rt; tell(&rt, alloc, &mut slow, &stop, &rows, &entries), Ok(()));
     assert!(rt; slow.bytes == text);
 
+    let volume = Volume::open_beside(&rt, alloc, text.clone()?)?;
+    check_index(&rt, alloc, &volume.index(), &rows, &entries)?;
     let volume = Volume::open(alloc, text)?;
     check_index(&rt, alloc, &volume.index(), &rows, &entries)
 }

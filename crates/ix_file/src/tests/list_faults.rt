@@ -216,6 +216,6 @@ const LISTS: [Case<'_>; 18] = [
 
 #[test]
 fn faults_of_lists(rt: HostRuntime) -> Result<(), Fail> {
-    assert!(rt; are_refused(rt.alloc(), b'1', &LISTS)?);
+    assert!(rt; are_refused(&rt, rt.alloc(), b'1', &LISTS)?);
     Ok(())
 }

@@ -10,6 +10,7 @@ use crate::{DocRow, Index, OpenError, Volume};
 use std::alloc::Global;
 use std::process::Abort;
 use std::test::Fail;
+use std::thread::Threads;
 
 /// The rows of the documents of an index.
 pub(crate) fn rows_in<'a>(alloc: Global, index: &Index<'a>) -> Result<Vec<DocRow<'a>>, Fail> {
@@ -54,6 +55,18 @@ fn written_again(rt: &impl Abort, alloc: Global, index: &Index<'_>) -> Result<Ve
 /// Why the text is refused, as it is printed, or nothing.
 pub(crate) fn refusal(alloc: Global, text: &[u8]) -> Result<String, Fail> {
     match Index::open(alloc, text) {
+        Ok(_) => Ok(String::new(alloc)),
+        Err(error) => Ok(error.to_string(alloc)?),
+    }
+}
+
+/// The same where it is checked in two threads.
+pub(crate) fn refusal_beside(
+    rt: &impl Threads,
+    alloc: Global,
+    text: Vec<u8>,
+) -> Result<String, Fail> {
+    match Volume::open_beside(rt, alloc, text) {
         Ok(_) => Ok(String::new(alloc)),
         Err(error) => Ok(error.to_string(alloc)?),
     }

@@ -111,7 +111,7 @@ const FRONT_FAULTS: [Case<'_>; 3] = [
 
 #[test]
 fn faults_of_terms_and_grams(rt: HostRuntime) -> Result<(), Fail> {
-    assert!(rt; are_refused(rt.alloc(), b'1', &TERMS_AND_GRAMS)?);
-    assert!(rt; are_refused(rt.alloc(), b'2', &FRONT_FAULTS)?);
+    assert!(rt; are_refused(&rt, rt.alloc(), b'1', &TERMS_AND_GRAMS)?);
+    assert!(rt; are_refused(&rt, rt.alloc(), b'2', &FRONT_FAULTS)?);
     Ok(())
 }

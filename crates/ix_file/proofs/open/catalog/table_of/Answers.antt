@@ -4,7 +4,7 @@ use Rattle.ix_text.specs.TokenTables.{HasTokens}
 use Rattle.ix_file.specs.OpenedRows.{row_in, rows_in}
 use Rattle.ix_file.specs.declared.open.documents.Row.{Row}
 use Rattle.ix_file.proofs.TokenTotals.{room_for, rows_more}
-use Rattle.ix_file.proofs.open.table_of.Goals as goal
+use Rattle.ix_file.proofs.open.catalog.table_of.Goals as goal
 
 pub loop-row-init : goal.loop-row-init
 loop-row-init c section = c.in_ok-table.ensures
