@@ -7,6 +7,8 @@ from cases import CASES, FILES, lines
 GROWN = ("growth", "read", "write", "open", "start")
 READ_SIZES, WRITE_SIZES = (0, 1, 7), (0, 1, 7)
 SWEEPS = 3  # of a case with threads, whose order changes from run to run
+BUILDING = ("ask", "build")  # commands that are refused where a thread is
+THREADED = (*BUILDING, "live", "search", "terms", "upgrade")
 
 
 def prepare(program):
@@ -68,8 +70,8 @@ def by_open(program, case, got):
 
 
 def by_start(program, case, got):
-    if case.needs == "ix live" and is_whole(program, case, got):
-        return ()  # a searcher without a thread answers all the same
+    if case.words[0] not in BUILDING and is_whole(program, case, got):
+        return ()  # a searcher without a thread answers all the same, and an index is opened without one
     wrong = list(case.refusal_faults(program, got, lines(r"build 1: Thread\([0-9]+\)")))
     return wrong + [f"left {name}" for name in case.wrote if program.read(name)]
 
@@ -101,7 +103,7 @@ def work(program, kinds, task):
     """The kind's name, the case, how many calls were refused, in how many the answer was whole, and what was wrong."""
     number, kind = task
     case, (name, judge, how) = CASES[number], kinds[kind]
-    sweeps = SWEEPS if how["key"] == "growth" and case.name.startswith(("ask", "build", "live")) else 1
+    sweeps = SWEEPS if how["key"] == "growth" and case.words[0] in THREADED else 1
     tried, whole, wrong = 0, 0, []
     for _ in range(sweeps):
         count, answered, found = sweep(program, case, judge, **how)
