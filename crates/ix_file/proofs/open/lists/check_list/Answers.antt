@@ -4,7 +4,7 @@ use Rattle.std.proofs.lemmas.List.{take_rest}
 use Rattle.std.proofs.lemmas.Result.{err_from_is_err_and}
 use Rattle.ix_vbyte.specs.Postings.{list_bytes}
 use Rattle.ix_file.specs.ReadLists.{AreListedIn}
-use Rattle.ix_file.proofs.Ahead.{ahead_of_left, ahead_within, left_within}
+use Rattle.ix_file.proofs.Ahead.{ahead_of_left, left_within}
 use Rattle.ix_file.proofs.ListReading.{ListGoesOn, list_goes_on, list_goes_on_behind, no_next, nothing_left, postings_all, read_no_posting, read_one_posting}
 use Rattle.ix_vbyte.proofs.Places.{no_skips}
 use Rattle.ix_file.proofs.ListEntering.{place_kept, place_stands}
