@@ -10,7 +10,7 @@ use Rattle.std.proofs.lemmas.List.Elements.{All-get_or}
 use Rattle.std.specs.Cmp.Lexicographic.{slice_cmp}
 use Rattle.std.specs.Ordering.{nat_cmp, ordering_then}
 use Rattle.ix_run.specs.Heads.{Heading}
-use Rattle.ix_merge.specs.Keys.{Key, key_of, end_of, ComesFirst}
+use Rattle.ix_merge.specs.Keys.{key_of, end_of, ComesFirst}
 use Rattle.ix_merge.specs.Standings.{HasStanding, IsStanding, lead}
 use Rattle.ix_merge.specs.declared.standing.Standing.{Standing}
 use Rattle.ix_merge.proofs.KeyOrder.{first_if_below, first_if_same}

@@ -1,5 +1,4 @@
-use Rattle.std.proofs.Common.{◌≡◌, refl, sym, ap, ◌∙◌, arith}
-use Rattle.ix_merge.specs.Standings.{lead}
+use Rattle.std.proofs.Common.{sym, arith}
 use Rattle.ix_merge.proofs.Leads.{lead_more, lead_room, lead_zero}
 use Rattle.ix_merge.proofs.standing.lead_of.Goals as goal
 
