@@ -19,7 +19,8 @@ pub enum AnySource<'a, R> {
 impl<'a, R: Read + Drop> Source for AnySource<'a, R> {
     ghost use Rattle.ix_merge.specs.AnySources.{heading_of_source, term_of_source};
     ghost use Rattle.ix_merge.specs.AnySources.{SourceHasGiven, SourceIsDrained, SourceIsEnded, SourceMayFault, SourceMayYield};
-    ghost use Rattle.ix_merge.specs.declared.any_source.AnySource.TheVariants.{Run, Index};
+    ghost use Rattle.ix_merge.specs.AnySources.{source_drained_without_term, source_given_lawfully};
+    ghost use Rattle.ix_merge.specs.AnySources.{source_given_of_term, source_yielded_lawfully};
 
     type Error = RunTextError;
 
@@ -85,11 +86,11 @@ impl<'a, R: Read + Drop> Source for AnySource<'a, R> {
         }
     }
 
-    ghost drained_without_term = { elim [ Run s ↦ λ none some. absurd (some none) | Index s ↦ λ none some. absurd (some none) ] };
+    ghost drained_without_term = { source_drained_without_term };
 
-    ghost given_lawfully = { elim [ Run s ↦ λ finished at_hand read. read.lawful | Index s ↦ λ finished at_hand given. given.lawful ] };
+    ghost given_lawfully = { source_given_lawfully };
 
-    ghost given_of_term = { elim [ Run s ↦ λ finished at_hand read. read.of_term | Index s ↦ λ finished at_hand given. given.of_term ] };
+    ghost given_of_term = { source_given_of_term };
 
-    ghost yielded_lawfully = { elim [ Run s ↦ λ finished at_hand postings entries read may. may.whole finished at_hand read | Index s ↦ λ finished at_hand postings entries given left. given.completed postings entries left ] };
+    ghost yielded_lawfully = { source_yielded_lawfully R.remaining };
 }
