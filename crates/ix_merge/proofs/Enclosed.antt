@@ -1,6 +1,6 @@
 -- A source that is one part of another one: what its calls do is what calls of the other do.
 use Rattle.std.proofs.Common.{ℕ, List, Bool, true, false, Option, Some, None, MatchBool, MatchOption}
-use Rattle.ix_run.specs.Sources.{BeginsTerm, EndsPostings, EndsTerms, Giving, GivesPosting, Yielding}
+use Rattle.ix_run.specs.Sources.{BeginsTerm, EndsPostings, EndsTerms, Giving, GivesList, GivesPosting, Yielding}
 
 module _ {A B : Type 0} (enclose : A → B) (yields : Yielding B) (gives : Giving B) where
   pub encloses_posting : (Ended : Type 0) (old new : A) (positions : List ℕ) (found : Option ℕ)
@@ -18,3 +18,15 @@ module _ {A B : Type 0} (enclose : A → B) (yields : Yielding B) (gives : Givin
       (Ended × Over × EndsTerms yields gives is_drained (enclose old) (enclose new))
   encloses_term is_drained At Ended Over old new true (term, at, begins) = (term, at, record { skipped = begins.skipped; yielded = begins.yielded; given = begins.given; none = begins.none })
   encloses_term is_drained At Ended Over old new false (ended, over, ends) = (ended, over, record { skipped = ends.skipped; yielded = ends.yielded; given = ends.given; none = ends.none })
+
+  pub encloses_list : (old new : A) (first from documents to : ℕ) (before after : List ℕ)
+      → GivesList (λ s. yields (enclose s)) (λ s. gives (enclose s)) old new first from documents to before after
+      → GivesList yields gives (enclose old) (enclose new) first from documents to before after
+  encloses_list old new first from documents to before after gave = record {
+    postings = gave.postings;
+    yielded = gave.yielded;
+    given = gave.given;
+    count = gave.count;
+    last = gave.last;
+    coded = gave.coded;
+  }

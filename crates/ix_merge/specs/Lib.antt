@@ -1,3 +1,4 @@
+pub mod AnySources
 pub mod Beginnings
 pub mod Covers
 pub mod Headings

@@ -2,6 +2,7 @@
 //! concatenation, term by term, and no document is read again.
 #![tactic(auto)]
 
+mod any_source;
 mod concatenation;
 mod entry;
 mod index_head;
@@ -15,6 +16,7 @@ mod tests;
 mod tournament;
 mod turn;
 
+pub use any_source::AnySource;
 pub use concatenation::merge;
 pub use index_source::IndexSource;
 pub use merge_error::MergeError;

@@ -4,99 +4,103 @@ ghost use Rattle.ix_run.specs.RunSources.{HasGiven};
 ghost use Rattle.ix_run.specs.Sources.{IsUnread};
 
 use super::{Block, INDEX, merged, run_of, sample_block, text_of};
-use crate::{IndexSource, merge};
+use crate::{AnySource, IndexSource, merge};
 use ix_file::{Index, OpenError};
-use ix_run::{Run, RunHead, RunReader, RunSource, RunTextError, Source};
+use ix_run::{ListError, Listed, Run, RunHead, RunReader, RunSource, RunTextError, Source};
 use ix_text::Memory;
 use std::alloc::Global;
 use std::io::Read;
 use std::process::Abort;
 use std::test::Fail;
 
-/// A source of one of three kinds.
+/// A run in memory, or a source of one of the two other kinds.
 #[derive(Drop)]
 enum Mixed<'a, 'b> {
-    Run(RunSource<'a>),
-    Text(RunReader<&'a [u8]>),
-    Index(IndexSource<'b>),
+    Held(RunSource<'a>),
+    Other(AnySource<'b, &'a [u8]>),
 }
 
 impl<'a, 'b> Source for Mixed<'a, 'b> {
-    ghost use Rattle.ix_run.specs.Faults.{MayFault};
-    ghost use Rattle.ix_run.specs.Reading.{HasRead, IsDrained, IsEnded, MayYield, term_of};
-    ghost use Rattle.ix_run.specs.RunReaders.{heading_read};
     ghost use Rattle.ix_run.specs.RunSources.{HasGiven, HasLeft, IsAtEnd, IsAtEndOfTerm};
     ghost use Rattle.ix_run.specs.declared.run_text_error.RunTextError.TheVariants.{Memory};
     ghost use Rattle.std.specs.Prelude.{◌≡◌};
-    ghost use Rattle.ix_merge.specs.declared.tests.mixed.Mixed.TheVariants.{Run, Text, Index};
+    ghost use Rattle.ix_merge.specs.AnySources.{heading_of_source, term_of_source};
+    ghost use Rattle.ix_merge.specs.AnySources.{SourceHasGiven, SourceIsDrained, SourceIsEnded, SourceMayFault, SourceMayYield};
+    ghost use Rattle.ix_merge.specs.AnySources.{source_drained_without_term, source_given_lawfully};
+    ghost use Rattle.ix_merge.specs.AnySources.{source_given_of_term, source_yielded_lawfully};
+    ghost use Rattle.ix_merge.specs.declared.tests.mixed.Mixed.TheVariants.{Held, Other};
 
     type Error = RunTextError;
 
-    ghost heading = { elim [ Run s ↦ s.heading | Text s ↦ heading_read s | Index s ↦ s.heading ] };
+    ghost heading = { elim [ Held s ↦ s.heading | Other s ↦ heading_of_source s ] };
 
-    ghost current = { elim [ Run s ↦ s.term | Text s ↦ term_of s | Index s ↦ s.term ] };
+    ghost current = { elim [ Held s ↦ s.term | Other s ↦ term_of_source s ] };
 
-    ghost yields = { elim [ Run s ↦ HasLeft s | Text s ↦ MayYield ⟦<&'static [u8] as Read>⟧.remaining s | Index s ↦ HasLeft s ] };
+    ghost yields = { elim [ Held s ↦ HasLeft s | Other s ↦ SourceMayYield ⟦<&'static [u8] as Read>⟧.remaining s ] };
 
-    ghost gives = { elim [ Run s ↦ HasGiven s | Text s ↦ HasRead s | Index s ↦ HasGiven s ] };
+    ghost gives = { elim [ Held s ↦ HasGiven s | Other s ↦ SourceHasGiven s ] };
 
-    ghost is_drained = { elim [ Run s ↦ IsAtEndOfTerm s | Text s ↦ IsDrained s | Index s ↦ IsAtEndOfTerm s ] };
+    ghost is_drained = { elim [ Held s ↦ IsAtEndOfTerm s | Other s ↦ SourceIsDrained s ] };
 
-    ghost is_ended = { elim [ Run s ↦ IsAtEnd s | Text s ↦ IsEnded s | Index s ↦ IsAtEnd s ] };
+    ghost is_ended = { elim [ Held s ↦ IsAtEnd s | Other s ↦ SourceIsEnded s ] };
 
-    ghost faults = { elim [ Run s ↦ λ error. (¬ (IsAtEnd s)) × (error ≡ Memory) | Text s ↦ MayFault ⟦<&'static [u8] as Read>⟧.remaining s | Index s ↦ λ error. (¬ (IsAtEnd s)) × (error ≡ Memory) ] };
+    ghost faults = { elim [ Held s ↦ λ error. (¬ (IsAtEnd s)) × (error ≡ Memory) | Other s ↦ SourceMayFault ⟦<&'static [u8] as Read>⟧.remaining s ] };
 
     fn head(&self) -> &RunHead {
         match self {
-            Mixed::Run(source) => source.head(),
-            Mixed::Text(source) => Source::head(source),
-            Mixed::Index(source) => source.head(),
+            Mixed::Held(source) => source.head(),
+            Mixed::Other(source) => source.head(),
         }
     }
 
     fn next_term(&mut self) -> Result<bool, RunTextError> {
         match self {
-            Mixed::Run(source) => match source.next_term() {
+            Mixed::Held(source) => match source.next_term() {
                 Ok(more) => Ok(more),
                 Err(_) => Err(RunTextError::Memory),
             },
-            Mixed::Text(source) => source.next_term(),
-            Mixed::Index(source) => match source.next_term() {
-                Ok(more) => Ok(more),
-                Err(_) => Err(RunTextError::Memory),
-            },
+            Mixed::Other(source) => source.next_term(),
         }
     }
 
     fn term(&self) -> &str {
         match self {
-            Mixed::Run(source) => source.term(),
-            Mixed::Text(source) => source.term(),
-            Mixed::Index(source) => source.term(),
+            Mixed::Held(source) => source.term(),
+            Mixed::Other(source) => source.term(),
         }
     }
 
     fn next_posting(&mut self, positions: &mut Vec<u32>) -> Result<Option<u32>, RunTextError> {
         match self {
-            Mixed::Run(source) => match source.next_posting(positions) {
+            Mixed::Held(source) => match source.next_posting(positions) {
                 Ok(found) => Ok(found),
                 Err(_) => Err(RunTextError::Memory),
             },
-            Mixed::Text(source) => source.next_posting(positions),
-            Mixed::Index(source) => match source.next_posting(positions) {
-                Ok(found) => Ok(found),
-                Err(_) => Err(RunTextError::Memory),
-            },
+            Mixed::Other(source) => source.next_posting(positions),
         }
     }
 
-    ghost drained_without_term = { elim [ Run s ↦ λ none some. absurd (some none) | Text s ↦ λ none some. absurd (some none) | Index s ↦ λ none some. absurd (some none) ] };
+    fn take_list(
+        &mut self,
+        next: u32,
+        out: &mut Vec<u8>,
+    ) -> Result<Listed, ListError<RunTextError>> {
+        match self {
+            Mixed::Held(source) => match source.take_list(next, out) {
+                Ok(listed) => Ok(listed),
+                Err(_) => Err(ListError::Memory),
+            },
+            Mixed::Other(source) => source.take_list(next, out),
+        }
+    }
 
-    ghost given_lawfully = { elim [ Run s ↦ λ finished at_hand given. given.lawful | Text s ↦ λ finished at_hand read. read.lawful | Index s ↦ λ finished at_hand given. given.lawful ] };
+    ghost drained_without_term = { elim [ Held s ↦ λ none some. absurd (some none) | Other s ↦ source_drained_without_term s ] };
 
-    ghost given_of_term = { elim [ Run s ↦ λ finished at_hand given. given.of_term | Text s ↦ λ finished at_hand read. read.of_term | Index s ↦ λ finished at_hand given. given.of_term ] };
+    ghost given_lawfully = { elim [ Held s ↦ λ finished at_hand given. given.lawful | Other s ↦ source_given_lawfully s ] };
 
-    ghost yielded_lawfully = { elim [ Run s ↦ λ finished at_hand postings entries given left. given.completed postings entries left | Text s ↦ λ finished at_hand postings entries read may. may.whole finished at_hand read | Index s ↦ λ finished at_hand postings entries given left. given.completed postings entries left ] };
+    ghost given_of_term = { elim [ Held s ↦ λ finished at_hand given. given.of_term | Other s ↦ source_given_of_term s ] };
+
+    ghost yielded_lawfully = { elim [ Held s ↦ λ finished at_hand postings entries given left. given.completed postings entries left | Other s ↦ source_yielded_lawfully ⟦<&'static [u8] as Read>⟧.remaining s ] };
 }
 
 /// Documents as a run, as its text and as an index text that counts them from 0.
@@ -191,9 +195,15 @@ fn source_in<'a, 'b>(
     ensures { IfOk result (IsUnread ⟦<Mixed<'a, 'b> as Source>⟧.gives) }
 {
     match form % 3 {
-        0 => Ok(Mixed::Run(block.run.source())),
-        1 => Ok(Mixed::Text(RunReader::open(alloc, block.text.as_slice())?)),
-        _ => Ok(Mixed::Index(source_at(rt, alloc, index, block.first)?)),
+        0 => Ok(Mixed::Held(block.run.source())),
+        1 => Ok(Mixed::Other(AnySource::Run(RunReader::open(
+            alloc,
+            block.text.as_slice(),
+        )?))),
+        _ => {
+            let source = source_at(rt, alloc, index, block.first)?;
+            Ok(Mixed::Other(AnySource::Index(source)))
+        }
     }
 }
 

@@ -1,0 +1,75 @@
+-- What a source tells that is a run text, as it is read, or an opened index: what its part tells.
+use Rattle.std.specs.Prelude.{◌≡◌, ℕ, List, ◌++◌, Option, None, option_map}
+use Rattle.ix_text.specs.Parts.{DictionaryEntry, Posting}
+use Rattle.ix_run.specs.Faults.{MayFault}
+use Rattle.ix_run.specs.Heads.{Heading}
+use Rattle.ix_run.specs.Reading.{HasRead, IsDrained, IsEnded, MayYield, term_of}
+use Rattle.ix_run.specs.RunReaders.{heading_read}
+use Rattle.ix_run.specs.RunSources.{HasGiven, HasLeft, IsAtEnd, IsAtEndOfTerm}
+use Rattle.ix_run.specs.Sources.{AreWhole, IsLawfulFront, closed}
+use Rattle.ix_run.specs.declared.run_text_error.RunTextError.{RunTextError}
+use Rattle.ix_run.specs.declared.run_text_error.RunTextError.TheVariants.{Memory}
+use Rattle.ix_merge.specs.declared.any_source.AnySource.{AnySource}
+use Rattle.ix_merge.specs.declared.any_source.AnySource.TheVariants.{Run, Index}
+
+-- the number of its first document, its stop terms, and the rows of its documents
+abbrev pub heading_of_source : {R : Type 0} → AnySource R → Heading
+heading_of_source (Run run) = heading_read run
+heading_of_source (Index index) = index.heading
+
+-- the term at hand, if one is
+abbrev pub term_of_source : {R : Type 0} → AnySource R → Option (List ℕ)
+term_of_source (Run run) = term_of run
+term_of_source (Index index) = index.term
+
+-- postings of the term at hand, and entries behind it, that it may yield yet
+abbrev pub SourceMayYield : {R : Type 0} → (R → Option (List ℕ)) → AnySource R → List Posting → List DictionaryEntry → Type 0
+SourceMayYield remaining (Run run) = MayYield remaining run
+SourceMayYield remaining (Index index) = HasLeft index
+
+-- finished entries, and the one at hand with the postings given of it, that it may have given so far
+abbrev pub SourceHasGiven : {R : Type 0} → AnySource R → List DictionaryEntry → Option DictionaryEntry → Type 0
+SourceHasGiven (Run run) = HasRead run
+SourceHasGiven (Index index) = HasGiven index
+
+-- no posting of the term at hand is left
+abbrev pub SourceIsDrained : {R : Type 0} → AnySource R → Type 0
+SourceIsDrained (Run run) = IsDrained run
+SourceIsDrained (Index index) = IsAtEndOfTerm index
+
+-- no term is left
+abbrev pub SourceIsEnded : {R : Type 0} → AnySource R → Type 0
+SourceIsEnded (Run run) = IsEnded run
+SourceIsEnded (Index index) = IsAtEnd index
+
+-- an error with which it may answer yet: of an index, want of memory alone, and none at its end
+abbrev pub SourceMayFault : {R : Type 0} → (R → Option (List ℕ)) → AnySource R → RunTextError → Type 0
+SourceMayFault remaining (Run run) error = MayFault remaining run error
+SourceMayFault remaining (Index index) error = (¬ (IsAtEnd index)) × (error ≡ Memory)
+
+-- ---- its laws
+
+-- where no term is at hand, no posting of one is left
+pub source_drained_without_term : {R : Type 0} (source : AnySource R) → term_of_source source ≡ None → SourceIsDrained source
+source_drained_without_term (Run run) none = λ some. absurd (some none)
+source_drained_without_term (Index index) none = λ some. absurd (some none)
+
+-- what it gave so far is the front of a lawful dictionary
+pub source_given_lawfully : {R : Type 0} (source : AnySource R) (finished : List DictionaryEntry) (at_hand : Option DictionaryEntry)
+    → SourceHasGiven source finished at_hand → IsLawfulFront (heading_of_source source) finished at_hand
+source_given_lawfully (Run run) finished at_hand read = read.lawful
+source_given_lawfully (Index index) finished at_hand given = given.lawful
+
+-- the entry at hand is that of the term at hand
+pub source_given_of_term : {R : Type 0} (source : AnySource R) (finished : List DictionaryEntry) (at_hand : Option DictionaryEntry)
+    → SourceHasGiven source finished at_hand → option_map (λ entry. entry.term) at_hand ≡ term_of_source source
+source_given_of_term (Run run) finished at_hand read = read.of_term
+source_given_of_term (Index index) finished at_hand given = given.of_term
+
+-- what it gave so far and what it yields yet are a lawful whole
+pub source_yielded_lawfully : {R : Type 0} (remaining : R → Option (List ℕ)) (source : AnySource R) (finished : List DictionaryEntry) (at_hand : Option DictionaryEntry)
+    (postings : List Posting) (entries : List DictionaryEntry)
+    → SourceHasGiven source finished at_hand → SourceMayYield remaining source postings entries
+    → AreWhole (heading_of_source source) (closed finished at_hand postings ++ entries)
+source_yielded_lawfully remaining (Run run) finished at_hand postings entries read may = may.whole finished at_hand read
+source_yielded_lawfully remaining (Index index) finished at_hand postings entries given left = given.completed postings entries left
