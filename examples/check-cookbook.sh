@@ -72,6 +72,11 @@ prints "a collection in parts" "1@example.org
 2@example.org" "$("$ix" search mail.ix 'london')"
 "$ix" build mail.tsv whole.ix
 prints "the index of its parts is that of the whole" same "$(cmp -s mail.ix whole.ix && echo same)"
+printf 'c@example.org\tanother flight to paris\n' | "$ix" build - later.ix
+"$ix" merge all.ix mail.ix later.ix
+prints "an index goes on with what came since" "1@example.org
+2@example.org
+c@example.org" "$("$ix" search all.ix 'london OR paris')"
 mkdir runs
 "$ix" build --runs runs --block 1 mail.tsv mail.ix
 prints "the index of runs in a folder is the same, and the folder empty" same "$(cmp -s mail.ix whole.ix && rmdir runs && echo same)"

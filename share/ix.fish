@@ -5,7 +5,7 @@ complete -c ix -n __fish_use_subcommand -a build -d 'build an index of a collect
 complete -c ix -n __fish_use_subcommand -a search -d 'print the names of the documents of an index that answer a query'
 complete -c ix -n __fish_use_subcommand -a terms -d 'print the terms of an index that match a pattern'
 complete -c ix -n __fish_use_subcommand -a run -d 'invert a part of a collection into a run file'
-complete -c ix -n __fish_use_subcommand -a merge -d 'merge run files into an index'
+complete -c ix -n __fish_use_subcommand -a merge -d 'merge run files and indexes into an index'
 complete -c ix -n __fish_use_subcommand -a upgrade -d 'write an index anew, in the newest version of the format'
 complete -c ix -n __fish_use_subcommand -a live -d 'carry out a script on an index that is searched while it grows'
 complete -c ix -n __fish_use_subcommand -a help -d 'print help on a command'

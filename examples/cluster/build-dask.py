@@ -64,6 +64,7 @@ def main():
             everywhere(client, ix, "count", work, pieces)
             here("number", work)
             everywhere(client, ix, "run", work, pieces)
+            everywhere(client, ix, "merge", work, here("groups", work))
             everywhere(client, ix, "merge", work, here("indexes", work))
     except subprocess.CalledProcessError as fault:
         print(f"build-dask.py: not built: {' '.join(fault.cmd[2:])}: status {fault.returncode}", file=sys.stderr)

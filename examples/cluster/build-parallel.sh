@@ -18,11 +18,12 @@ pieces=$(realpath "$(dirname "$0")")/pieces.py
 
 # everywhere STEP: runs the step for each name that comes in, side by side
 everywhere() {
-    parallel --will-cite --env IX --retries 4 --halt soon,fail=1 "$pieces" "$1" "$work" '{}'
+    parallel --will-cite --no-run-if-empty --env IX --retries 4 --halt soon,fail=1 "$pieces" "$1" "$work" '{}'
 }
 
 "$pieces" cut "$collection" "$work" "$@"
 "$pieces" list "$work" | everywhere count
 "$pieces" number "$work"
 "$pieces" list "$work" | everywhere run
+"$pieces" groups "$work" | everywhere merge
 "$pieces" indexes "$work" | everywhere merge

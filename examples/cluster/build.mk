@@ -1,6 +1,6 @@
 # Builds the indexes of a collection by GNU make:
 #
-#   make -j 4 -f examples/cluster/build.mk COLLECTION=notes.tsv WORK=work [CUT='--bytes N --together K --stop FILE']
+#   make -j 4 -f examples/cluster/build.mk COLLECTION=notes.tsv WORK=work [CUT='--bytes N --together K --fan-in M --stop FILE']
 #
 # Each step is tried three times. What was made stands, so the same words once more go on where a build was cut off.
 # The indexes are WORK/i0000.ix and so on.
@@ -19,6 +19,7 @@ all:
 $(WORK)/plan.mk:
 	@$(STEP) cut $(COLLECTION) $(WORK) $(CUT)
 	@echo "PIECES = $$($(STEP) list $(WORK) | tr '\n' ' ')" > $@
+	@echo "GROUPS = $$($(STEP) groups $(WORK) | tr '\n' ' ')" >> $@
 	@echo "INDEXES = $$($(STEP) indexes $(WORK) | tr '\n' ' ')" >> $@
 include $(WORK)/plan.mk
 
@@ -33,5 +34,8 @@ $(WORK)/first: $(PIECES:%=$(WORK)/%.count)
 $(PIECES:%=$(WORK)/%.run): $(WORK)/%.run: $(WORK)/first
 	@$(call TRIED,$(STEP) run $(WORK) $*)
 
-$(INDEXES:%=$(WORK)/%.ix): $(WORK)/%.ix: $(PIECES:%=$(WORK)/%.run)
+$(GROUPS:%=$(WORK)/%.ix): $(WORK)/%.ix: $(PIECES:%=$(WORK)/%.run)
+	@$(call TRIED,$(STEP) merge $(WORK) $*)
+
+$(INDEXES:%=$(WORK)/%.ix): $(WORK)/%.ix: $(PIECES:%=$(WORK)/%.run) $(GROUPS:%=$(WORK)/%.ix)
 	@$(call TRIED,$(STEP) merge $(WORK) $*)

@@ -197,7 +197,7 @@ def twice_and_lost():
 
 def many_runs():
     """More runs than a process may have files open, where nobody raises its limit: each of them in one merge."""
-    done("cut small", PIECES, "cut", "c.tsv", "many.work", "--bytes", "350", "--stop", "stop.txt")
+    done("cut small", PIECES, "cut", "c.tsv", "many.work", "--bytes", "350", "--fan-in", "5000", "--stop", "stop.txt")
     os.environ["IX"] = IX
     sys.dont_write_bytecode = True
     sys.path.insert(0, str(HERE))
@@ -213,6 +213,32 @@ def many_runs():
     done(f"{len(names)} runs merged", PIECES, "merge", "many.work", "i0000")
     check("more than 1024 runs", len(names) > 1024, len(names))
     same("their index is that of ix build", "many.work/i0000.ix", "whole.ix")
+
+
+def two_levels():
+    """Groups of runs are merged first, and then their indexes: the same index, in each of the three ways."""
+    options = ["--bytes", "30000", "--fan-in", "3", "--stop", "stop.txt"]
+    ways = {
+        "parallel": [HERE / "build-parallel.sh", "c.tsv", "parallel.two", *options],
+        "make": ["make", "-s", "-j4", "-f", HERE / "build.mk", "COLLECTION=c.tsv", "WORK=make.two", f"CUT={' '.join(options)}"],
+        "dask": [sys.executable, HERE / "build-dask.py", "c.tsv", "dask.two", *options],
+    }
+    for way, words in ways.items():
+        done(f"built in two levels by {way}", *words)
+        groups = run(PIECES, "groups", f"{way}.two").stdout.split()
+        check("there are several groups", len(groups) > 3, groups)
+        same(f"the index of two levels by {way} is that of ix build", f"{way}.two/i0000.ix", "whole.ix")
+    done("indexes of three pieces are planned", PIECES, "cut", "c.tsv", "few.two", "--bytes", "20000", "--together", "3", "--fan-in", "3")
+    check("they have no groups", run(PIECES, "groups", "few.two").stdout == "")
+    second = Path("make.two/i0000/g001.ix")
+    text = bytearray(second.read_bytes())
+    text[40] ^= 1
+    second.write_bytes(text)
+    ended = run(PIECES, "merge", "make.two", "i0000")
+    check("an index of a group that was changed", ended.returncode == 2 and "ix: index" in ended.stderr, ended.stderr)
+    second.unlink()
+    ended = run(PIECES, "merge", "make.two", "i0000")
+    check("an index of a group that was lost", ended.returncode == 2 and "Read(g001.ix)" in ended.stderr, ended.stderr)
 
 
 def searching():
@@ -246,7 +272,7 @@ def main():
         os.chdir(folder)
         os.environ.update(TMPDIR=folder, PARALLEL_HOME=folder, DASK_CONFIG=folder)  # where parallel and Dask keep files
         collection("c.tsv", 3000)
-        for part in (cutting, three_ways, lost_worker, twice_and_lost, many_runs, searching):
+        for part in (cutting, three_ways, two_levels, lost_worker, twice_and_lost, many_runs, searching):
             part()
         os.chdir("/")
     print(f"{failed} failed" if failed else "all as expected")
