@@ -213,6 +213,17 @@ def merging():
     gives("a run that is there twice", ["merge", "c.ix", "run-0", "run-2", "run-4", "run-0"], 2, b"", b"ix: merge 2: Overlap(0)")
     Path("short").write_bytes(Path("run-0").read_bytes()[:-1])
     gives("a run without its last byte", ["merge", "c.ix", "short"], 2, b"", b"ix: merge 4: Source(0, Number(Cut))")
+    Path("front.txt").write_bytes(b"".join(lines[:2]))
+    Path("rest.txt").write_bytes(b"".join(lines[2:]))
+    for part in ("front", "rest"):
+        gives(f"build {part} for merging", ["build", f"{part}.txt", f"{part}.ix"], 0)
+    for inputs in (("front.ix", "rest.ix"), ("run-0", "rest.ix"), ("front.ix", "run-4", "run-2")):
+        gives(f"merge {' '.join(inputs)}", ["merge", "c.ix", *inputs], 0)
+        holds(f"the index that {' '.join(inputs)} make", "c.ix", FIVE_INDEX)
+    gives("an index behind a run that goes on", ["merge", "c.ix", "run-2", "front.ix"], 2, b"", b"ix: merge 1: Gap(0)")
+    Path("short.ix").write_bytes(Path("rest.ix").read_bytes()[:-1])
+    gives("an index without its last byte", ["merge", "c.ix", "run-0", "short.ix"], 2, b"", b"ix: index 3: Trailer")
+    gives("a file that is neither", ["merge", "c.ix", "front.ix", "rest.txt"], 2, b"", b"ix: merge 4: Source(1, Magic)")
     gives("no runs", ["merge", "c.ix"], 2, b"", b"ix: arguments refused")
     gives("a run that is not there", ["merge", "fresh.ix", "run-0", "none"], 2, b"", b"ix: file 1: Read(none)")
     check("no output where a run is not there", not Path("fresh.ix").exists())

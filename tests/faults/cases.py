@@ -134,6 +134,8 @@ def merging():
     for order in (("run-0", "run-2", "run-4"), ("run-4", "run-0", "run-2")):
         yield Case(f"merge {' '.join(order)}", "merge", "new.ix", *order, wrote={"new.ix": index_text(FIVE)}, memory=memory,
                    reads=reads, writes=("merge 6: Write",))
+    yield Case("merge, an index", "merge", "new.ix", "five-1.ix", wrote={"new.ix": index_text(FIVE)},
+               memory=(*memory, "index 20: Memory"), reads=(r"merge 4: Source\(0, (Read|Magic)\)",), writes=("merge 6: Write",))
     yield Case("merge, a run missing", "merge", "new.ix", "run-4", "run-0", status=2, line=b"ix: merge 1: Gap(2)", memory=memory, reads=reads)
     yield Case("merge, a cut run", "merge", "new.ix", "short.run", status=2, line=b"ix: merge 4: Source(0, Number(Cut))",
                memory=memory, reads=reads, writes=("merge 6: Write",), wrote={})

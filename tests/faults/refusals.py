@@ -66,7 +66,7 @@ def by_nothing(program, case, got):
 def by_open(program, case, got):
     if is_whole(program, case, got):
         return ()
-    return case.refusal_faults(program, got, re.compile(rb"ix: (file [12]: (Read|Write)\([a-z0-9.-]+\)|build 2: Spill\([0-9]+\))\n"))
+    return case.refusal_faults(program, got, re.compile(rb"ix: (file [12]: (Read|Write)\([a-z0-9.-]+\)|build 2: Spill\([0-9]+\)|merge 4: Source\([0-9], Magic\))\n"))
 
 
 def by_start(program, case, got):

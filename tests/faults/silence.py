@@ -14,7 +14,7 @@ REFUSED = [
     (("run", "--first", "268435456", "five.txt", "out"), b"ix: run 1: TooLarge\n"),
     (("merge", "out", "none.run"), b"ix: file 1: Read(none.run)\n"),
     (("merge", "out", "run-0", "run-2", "five.txt"), b"ix: merge 4: Source(2, Magic)\n"),
-    (("merge", "out", "run-0", "five-2.ix"), b"ix: merge 4: Source(1, Magic)\n"),
+    (("merge", "out", "run-0", "short.ix"), b"ix: index 3: Trailer\n"),
     (("upgrade", "none.ix", "out"), b"ix: file 1: Read(none.ix)\n"),
     (("upgrade", "short.ix", "out"), b"ix: index 3: Trailer\n"),
     (("upgrade", "run-0", "out"), b"ix: index 1: Short\n"),
