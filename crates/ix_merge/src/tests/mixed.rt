@@ -196,10 +196,7 @@ fn source_in<'a, 'b>(
 {
     match form % 3 {
         0 => Ok(Mixed::Held(block.run.source())),
-        1 => Ok(Mixed::Other(AnySource::Run(RunReader::open(
-            alloc,
-            block.text.as_slice(),
-        )?))),
+        1 => Ok(Mixed::Other(AnySource::Run(RunReader::open(alloc, block.text.as_slice())?))),
         _ => {
             let source = source_at(rt, alloc, index, block.first)?;
             Ok(Mixed::Other(AnySource::Index(source)))
