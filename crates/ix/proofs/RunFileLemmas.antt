@@ -17,7 +17,8 @@ use Rattle.ix_run.specs.declared.run_text_error.RunTextError.{RunTextError}
 use Rattle.ix_run.specs.declared.run_text_error.RunTextError.TheVariants as run_text_error
 use Rattle.ix_merge.specs.Pieces.{MayYieldPiece, ArePiecesOf, Piece}
 use Rattle.ix.specs.Files.{Holding}
-use Rattle.ix.specs.MergedRuns.{AreOpened, HoldHeads, HoldRuns, HoldsHead, HoldsRun, IsOpened, LacksHead, RefusesHead}
+use Rattle.ix.specs.MergeInputs.{IsOpened}
+use Rattle.ix.specs.MergedRuns.{LacksHead, RefusesHead}
 
 -- ---- one file
 
