@@ -1,5 +1,5 @@
 -- Files that are merged, at their places in a list.
-use Rattle.std.proofs.Common.{◌≡◌, ◌∙◌, ◌⊎◌, ℕ, zero, suc, ◌+◌, ◌<◌, ◌≤◌, ◌^◌, List, [], ◌∷◌, ◌++◌, length, map, max, take, get_or, Option, Some, None, All, refl, sym, ap, subst, arith, inl, inr}
+use Rattle.std.proofs.Common.{◌≡◌, ◌∙◌, ◌⊎◌, ℕ, zero, suc, ◌+◌, ◌<◌, ◌≤◌, ◌^◌, List, [], ◌∷◌, ◌++◌, length, map, max, take, get_or, Option, Some, None, All, refl, sym, ap, subst, arith, inl, inr, append_assoc, append-nil}
 use Rattle.std.specs.Prelude.{slice_get, option_map}
 use Rattle.std.specs.Borrow.{Bor}
 use Rattle.std.proofs.Math.Seq.{take-append_seam, take-length}
@@ -373,3 +373,61 @@ refuses_unsaved headings path told is = is
 -- the path at a place of a list that is passed
 pub path_at : (paths : List (Bor (List ℕ))) (k : ℕ) (d : Bor (List ℕ)) → k < length paths → slice_get (texts_of paths) k ≡ Some (get_or paths k d).now
 path_at paths k d below = slice_get-map (λ (word : Bor (List ℕ)). word.now) paths k ∙ ap (option_map (λ (word : Bor (List ℕ)). word.now)) (slice_get-get_or paths k d below)
+
+-- ---- sources, one after the other
+
+-- The sources so far are those of the parts that were taken, and these are left.
+pub record MadeSoFar {R : Type 0} (indexes : List Opened) (parts left : List (Part R)) (sources : List (AnySource R)) : Type 0 where
+  pub taken : List (Part R)
+  pub whole : parts ≡ taken ++ left
+  pub made : AreSourcesOf indexes taken sources
+
+pub made_none : {R : Type 0} (indexes : List Opened) (parts left : List (Part R)) (sources : List (AnySource R)) → parts ≡ left → sources ≡ [] → MadeSoFar indexes parts left sources
+made_none indexes parts left sources all none = record {
+  taken = [];
+  whole = all;
+  made = record {
+    as_many = ap length none;
+    each = λ place p s at there. cc;
+  };
+}
+
+pub made_more : {R : Type 0} (indexes : List Opened) (parts left rest : List (Part R)) (sources : List (AnySource R)) (p : Part R) (s : AnySource R) → left ≡ p ∷ rest → IsSourceOf indexes p s → MadeSoFar indexes parts left sources
+    → MadeSoFar indexes parts rest (sources ++ s ∷ [])
+made_more {R} indexes parts left rest sources p s one is so_far =
+    let taken = so_far.taken in
+    record {
+      taken = taken ++ p ∷ [];
+      whole = so_far.whole ∙ ap (λ (l : List (Part R)). taken ++ l) one ∙ sym (append_assoc taken (p ∷ []) rest);
+      made = record {
+        as_many = omega (arith, length-append sources (s ∷ []), length-append taken (p ∷ []), so_far.made.as_many);
+        each = λ place q t found there.
+            elim (slice_get_push taken p place q found) [
+              | inl before ↦
+                  let within : place < length taken = slice_get_within taken place q before in
+                  let below : place < length sources = omega (arith, within, so_far.made.as_many) in
+                  so_far.made.each place q t before (sym (slice_get_left sources (s ∷ []) place below) ∙ there)
+              | inr last ↦
+                  let here : place ≡ length sources = omega (arith, last.0, so_far.made.as_many) in
+                  let same : Some s ≡ Some t = sym (slice_get_last sources s) ∙ ap (slice_get (sources ++ s ∷ [])) (sym here) ∙ there in
+                  let source_is : s ≡ t = cc in
+                  subst (λ (q' : Part R). IsSourceOf indexes q' t) last.1 (subst (λ (t' : AnySource R). IsSourceOf indexes p t') source_is is)
+            ];
+      };
+    }
+
+pub made_all : {R : Type 0} (indexes : List Opened) (parts left : List (Part R)) (sources : List (AnySource R)) → left ≡ [] → MadeSoFar indexes parts left sources → AreSourcesOf indexes parts sources
+made_all {R} indexes parts left sources none so_far =
+    let whole : parts ≡ so_far.taken = so_far.whole ∙ ap (λ (l : List (Part R)). so_far.taken ++ l) none ∙ append-nil so_far.taken in
+    subst (λ (ps : List (Part R)). AreSourcesOf indexes ps sources) (sym whole) so_far.made
+
+-- what holds of all holds of one in the middle
+all_middle : {X : Type 0} (P : X → Type 0) (xs : List X) (x : X) (rest : List X) → All P (xs ++ x ∷ rest) → P x
+all_middle P [] x rest all = all 0 x (omega arith)
+all_middle P (y ∷ xs) x rest all = all_middle P xs x rest (λ k d below. all (suc k) d (omega (arith, below)))
+
+pub next_stands : {R : Type 0} (indexes : List Opened) (parts left rest : List (Part R)) (sources : List (AnySource R)) (p : Part R) → left ≡ p ∷ rest → All (StandsIn indexes) parts → MadeSoFar indexes parts left sources
+    → StandsIn indexes p
+next_stands {R} indexes parts left rest sources p one all so_far =
+    let whole : parts ≡ so_far.taken ++ p ∷ rest = so_far.whole ∙ ap (λ (l : List (Part R)). so_far.taken ++ l) one in
+    all_middle (StandsIn indexes) so_far.taken p rest (subst (All (StandsIn indexes)) whole all)

@@ -17,6 +17,7 @@ use ix_merge::{AnySource, merge};
 use sources::{indexes_of, sources_of};
 use std::alloc::{AllocError, Global};
 use std::io::Read;
+use std::thread::Threads;
 
 /// Merges run files and index files into an index file of version 2.
 ///
@@ -26,7 +27,8 @@ use std::io::Read;
 ///
 /// Each run file is read as a stream, and each index file as a whole. The index file is created
 /// once all of them were opened.
-pub fn run<'a, F: FileSource + FileTarget>(
+pub fn run<'a, R: Threads, F: FileSource + FileTarget>(
+    rt: &R,
     alloc: Global,
     files: &F,
     index: &'a str,
@@ -41,7 +43,7 @@ pub fn run<'a, F: FileSource + FileTarget>(
         parts,
         volumes,
         end: _,
-    } = open_all(alloc, files, inputs)?;
+    } = open_all(rt, alloc, files, inputs)?;
     let indexes = match indexes_of(alloc, &volumes) {
         Ok(indexes) => indexes,
         Err(AllocError) => return Err(Refusal::Engine(EngineRefusal::Memory)),

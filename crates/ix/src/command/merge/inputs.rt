@@ -1,8 +1,13 @@
 //! The files that are merged, opened, and the numbers at which the documents of indexes begin.
 
-ghost use Rattle.std.specs.Prelude.{◌≤◌, ◌^◌, IfOk, IfErr, OnOk, length};
+ghost use Rattle.std.specs.Prelude.{◌≡◌, ◌≤◌, ◌^◌, IfOk, IfErr, OnOk, length};
 ghost use Rattle.ix.specs.Lines.{texts_of};
 ghost use Rattle.ix.specs.MergedRuns.{RefusesHead, RefusesInput, RefusesInputs};
+ghost use Rattle.ix.specs.MergedRuns.{end_of as end_of_heading};
+ghost use Rattle.ix.specs.declared.refusal.Refusal.TheVariants as refusal;
+ghost use Rattle.ix_ask.specs.declared.refusal.EngineRefusal.TheVariants as engine;
+ghost use Rattle.ix_merge.specs.declared.merge_error.MergeError.TheVariants as merge_error;
+ghost use Rattle.ix_run.specs.Heads.{heading_of};
 ghost use Rattle.ix.specs.MergeInputs.{Adds, AreOpened, IsInput, IsNear, RefusesMore};
 ghost use Rattle.ix_run.specs.declared.run_text_error.RunTextError.TheVariants.{Magic};
 
@@ -16,6 +21,7 @@ use ix_run::{RunHead, RunReader, RunTextError};
 use ix_text::MAX_DOCUMENTS;
 use std::alloc::Global;
 use std::io::Read;
+use std::thread::Threads;
 
 /// A file that was opened.
 #[derive(Drop)]
@@ -92,17 +98,23 @@ impl<R: Read + Drop> Inputs<R> {
 }
 
 /// One above the number of the last document of a run, or its first number where it has none.
-fn end_of(head: &RunHead) -> u32 {
+fn end_of(head: &RunHead) -> u32
+    requires { end_of_heading (heading_of head.now) ≤ 2 ^ 28 }
+    ensures { result ≡ end_of_heading (heading_of head.now) }
+{
     head.first + head.docs.len() as u32
 }
 
 /// The refusal of the file at this place of the list.
-fn refusal_at<'a>(place: usize, error: RunTextError) -> Refusal<'a> {
+fn refusal_at<'a>(place: usize, error: RunTextError) -> Refusal<'a>
+    ensures { result ≡ refusal.Engine (engine.Merge (merge_error.Source place error)) }
+{
     Refusal::Engine(EngineRefusal::Merge(MergeError::Source(place, error)))
 }
 
 /// Opens the files of these paths.
-pub fn open_all<'a, F: FileSource>(
+pub fn open_all<'a, R: Threads, F: FileSource>(
+    rt: &R,
     alloc: Global,
     files: &F,
     paths: &[&'a str],
@@ -117,7 +129,7 @@ pub fn open_all<'a, F: FileSource>(
         end: 0,
     };
     for (place, path) in paths.iter().enumerate() {
-        let input = open(alloc, files, path, place)?;
+        let input = open(rt, alloc, files, path, place)?;
         inputs.add(input, place)?;
     }
     Ok(inputs)
@@ -125,7 +137,8 @@ pub fn open_all<'a, F: FileSource>(
 
 /// Opens the file of this path, which stands at this place in the list: a run file, or an index
 /// file where it does not begin as a run does.
-fn open<'a, F: FileSource>(
+fn open<'a, R: Threads, F: FileSource>(
+    rt: &R,
     alloc: Global,
     files: &F,
     path: &'a str,
@@ -142,14 +155,15 @@ fn open<'a, F: FileSource>(
     };
     match RunReader::open(alloc, reader) {
         Ok(run) => Ok(Input::Run(run)),
-        Err(RunTextError::Magic) => open_volume(alloc, files, path, place),
+        Err(RunTextError::Magic) => open_volume(rt, alloc, files, path, place),
         Err(error) => Err(refusal_at(place, error)),
     }
 }
 
 /// Opens the file of this path, which does not begin as a run does, as an index file. Where it does
 /// not begin as one either, or is not read a second time, it is told as a file that is no run.
-fn open_volume<'a, F: FileSource>(
+fn open_volume<'a, R: Threads, F: FileSource>(
+    rt: &R,
     alloc: Global,
     files: &F,
     path: &'a str,
@@ -160,7 +174,7 @@ fn open_volume<'a, F: FileSource>(
         (IsInput (F.holds files.now) F.Reader.remaining path.entry.now) }
     ensures refused { IfErr result (RefusesInput (F.holds files.now) path.entry.now place) }
 {
-    match open_index(alloc, files, path) {
+    match open_index(rt, alloc, files, path) {
         Ok(volume) => Ok(Input::Index(volume)),
         Err(Refusal::Read(_)) => Err(refusal_at(place, RunTextError::Magic)),
         Err(Refusal::Engine(EngineRefusal::Index(OpenError::Short | OpenError::Magic))) => {

@@ -1,0 +1,7 @@
+-- the sources so far are those of the parts so far
+use Rattle.std.specs.Vec.Iter.{into_iter_items}
+use Rattle.ix.proofs.MergedFileLemmas.{MadeSoFar}
+use Rattle.ix.proofs.command.merge.sources.sources_of.Given as goal
+
+abbrev pub invariant-loop-part : goal.invariant-loop-part
+invariant-loop-part g l = MadeSoFar l.indexes l.fn.parts.items (into_iter_items l.part-iterator) l.sources.items
