@@ -28,8 +28,8 @@ use Rattle.ix_merge.specs.declared.any_source.AnySource.TheVariants as source
 use Rattle.ix.specs.Files.{Holding}
 use Rattle.ix.specs.IndexFiles.{IsIndexHeld}
 use Rattle.ix.specs.Lines.{texts_of}
-use Rattle.ix.specs.MergeInputs.{Adds, AreOpened, AreSourcesOf, IsIndexPart, IsInput, IsOpened, IsPart, IsSourceOf, RefusesMore, StandsIn}
-use Rattle.ix.specs.MergedRuns.{HoldHeadings, HoldPieces, HoldsHead, HoldsHeading, HoldsPiece, IsMerged, RefusesInput, RefusesInputs, RefusesMerge, SavesConcatenation, end_of, greatest_end, unread as unread_file}
+use Rattle.ix.specs.MergeInputs.{Adds, AreOpened, AreSourcesOf, IsIndexPart, IsInput, IsNear, IsOpened, IsPart, IsSourceOf, RefusesMore, StandsIn}
+use Rattle.ix.specs.MergedRuns.{HoldHeadings, HoldPieces, HoldsHead, HoldsHeading, HoldsPiece, IsMerged, IsMergeRefused, RefusesInput, RefusesInputs, RefusesMerge, SavesConcatenation, end_of, greatest_end, unmerged, unread as unread_file}
 use Rattle.ix.specs.Refusals.{IsUnsaved}
 use Rattle.ix.specs.declared.command.merge.inputs.Input.{Input}
 use Rattle.ix.specs.declared.command.merge.inputs.Input.TheVariants as input
@@ -186,16 +186,21 @@ module _ {R : Type 0} (holds : Holding) (remaining : R → Option (List ℕ)) wh
           heading_held path inputs.volumes.items (take place so_far.headings) p.0 heading (so_far.each place path p.0 heading (slice_get_front count paths place path at) p.1 there);
     }
 
+    -- documents of a run in a file have numbers below 2^28
+    pub input_near : (count : ℕ) (i : Input R) (path : List ℕ) → slice_get paths count ≡ Some path → IsInput holds remaining path i → IsNear i
+    input_near count (input.Run reader) path at is = is.head.lawful.few_documents
+    input_near count (input.Index volume) path at is = tt
+
     -- why one more file was not added
-    pub refused_more : (inputs : Inputs R) (count : ℕ) (so_far : AreOpened holds remaining paths inputs count) (i : Input R) (path : List ℕ) (told : Refusal) → slice_get paths count ≡ Some path → count ≤ length paths
+    pub refused_more : (inputs : Inputs R) (count : ℕ) (so_far : AreOpened holds remaining paths inputs count) (i : Input R) (path : List ℕ) (told : Refusal) → slice_get paths count ≡ Some path
         → IsInput holds remaining path i → RefusesMore inputs.end count i told → RefusesInputs holds paths told
-    refused_more inputs count so_far (input.Run reader) path told at few is refuses = record {
+    refused_more inputs count so_far (input.Run reader) path told at is refuses = record {
       place = count;
       path = path;
       at_place = at;
       refuses = inl (memory_refused holds path count told refuses);
     }
-    refused_more inputs count so_far (input.Index volume) path told at few is refuses = record {
+    refused_more inputs count so_far (input.Index volume) path told at is refuses = record {
       place = count;
       path = path;
       at_place = at;
@@ -205,7 +210,7 @@ module _ {R : Type 0} (holds : Holding) (remaining : R → Option (List ℕ)) wh
             let size = ap (λ (rows : List DocumentRow). length rows) is.index.parts.rows in
             inr (record {
               before = so_far.headings;
-              held = headings_so_far inputs count so_far few;
+              held = headings_so_far inputs count so_far (omega (arith, slice_get_within paths count path at));
               piece = record { first = inputs.end; collection = is.collection };
               index = record { version = is.version; held = is.held; behind = so_far.end };
               many = omega (arith, many.0, size);
@@ -307,8 +312,9 @@ module _ {R : Type 0} (holds : Holding) (remaining : R → Option (List ℕ)) wh
         source_unread path.0 _ (get_or sources k d) (made_at k path.0 (get_or sources k d) path.1 (slice_get-get_or sources k d below)).is
 
     sources_headed : map heading_of_source sources ≡ opened.headings
-    sources_headed = same_by_places (map heading_of_source sources) opened.headings (length-map sources heading_of_source ∙ made.as_many ∙ opened.as_many ∙ sym opened.headed)
-    (λ place heading at. go place heading (slice_get sources place) refl (sym (slice_get-map heading_of_source sources place) ∙ at))
+    sources_headed =
+        same_by_places (map heading_of_source sources) opened.headings (length-map sources heading_of_source ∙ made.as_many ∙ opened.as_many ∙ sym opened.headed)
+        (λ place heading at. go place heading (slice_get sources place) refl (sym (slice_get-map heading_of_source sources place) ∙ at))
       where
         go : (place : ℕ) (heading : Heading) (o : Option (AnySource R)) → slice_get sources place ≡ o → option_map heading_of_source o ≡ Some heading → slice_get opened.headings place ≡ Some heading
         go place heading None is e = cc
@@ -325,8 +331,9 @@ module _ {R : Type 0} (holds : Holding) (remaining : R → Option (List ℕ)) wh
 
     module _ (pieces : List Piece) (are : ArePiecesOf (SourceMayYield remaining) heading_of_source sources pieces) where
       pieces_headed : map heading_of_piece pieces ≡ map heading_of_source sources
-      pieces_headed = same_by_places (map heading_of_piece pieces) (map heading_of_source sources) (length-map pieces heading_of_piece ∙ are.as_many ∙ sym (length-map sources heading_of_source))
-      (λ place heading at. go place heading (slice_get pieces place) refl (sym (slice_get-map heading_of_piece pieces place) ∙ at))
+      pieces_headed =
+          same_by_places (map heading_of_piece pieces) (map heading_of_source sources) (length-map pieces heading_of_piece ∙ are.as_many ∙ sym (length-map sources heading_of_source))
+          (λ place heading at. go place heading (slice_get pieces place) refl (sym (slice_get-map heading_of_piece pieces place) ∙ at))
         where
           go : (place : ℕ) (heading : Heading) (o : Option Piece) → slice_get pieces place ≡ o → option_map heading_of_piece o ≡ Some heading → slice_get (map heading_of_source sources) place ≡ Some heading
           go place heading None is e = cc
@@ -374,6 +381,14 @@ refuses_unsaved headings path told is = is
 pub path_at : (paths : List (Bor (List ℕ))) (k : ℕ) (d : Bor (List ℕ)) → k < length paths → slice_get (texts_of paths) k ≡ Some (get_or paths k d).now
 path_at paths k d below = slice_get-map (λ (word : Bor (List ℕ)). word.now) paths k ∙ ap (option_map (λ (word : Bor (List ℕ)). word.now)) (slice_get-get_or paths k d below)
 
+-- the source of the index of a number
+pub source_of_index : {R : Type 0} (indexes : List Opened) (p : Part R) (first number : ℕ) (index : Opened) (value : SourceValue) → p ≡ part.Index first number → index ≡ get_or indexes number index → StandsIn indexes p
+    → value ≡ unread (run_value first index.parts) → IsSourceOf indexes p (source.Index value)
+source_of_index {R} indexes p first number index value is at stands made =
+    let there : StandsIn {R = R} indexes (part.Index first number) = subst (λ (q : Part R). StandsIn indexes q) is stands in
+    let below : number < length indexes = slice_get_within indexes number there.0 there.1 in
+    subst (λ (q : Part R). IsSourceOf indexes q (source.Index value)) (sym is) (index, slice_get-get_or indexes number index below ∙ ap Some (sym at), ap source.Index made)
+
 -- ---- sources, one after the other
 
 -- The sources so far are those of the parts that were taken, and these are left.
@@ -416,10 +431,11 @@ made_more {R} indexes parts left rest sources p s one is so_far =
       };
     }
 
-pub made_all : {R : Type 0} (indexes : List Opened) (parts left : List (Part R)) (sources : List (AnySource R)) → left ≡ [] → MadeSoFar indexes parts left sources → AreSourcesOf indexes parts sources
-made_all {R} indexes parts left sources none so_far =
-    let whole : parts ≡ so_far.taken = so_far.whole ∙ ap (λ (l : List (Part R)). so_far.taken ++ l) none ∙ append-nil so_far.taken in
+pub made_all : {R : Type 0} (indexes : List Opened) (parts left : List (Part R)) (sources : List (AnySource R)) → length left ≡ 0 → MadeSoFar indexes parts left sources → AreSourcesOf indexes parts sources
+made_all {R} indexes parts [] sources none so_far =
+    let whole : parts ≡ so_far.taken = so_far.whole ∙ append-nil so_far.taken in
     subst (λ (ps : List (Part R)). AreSourcesOf indexes ps sources) (sym whole) so_far.made
+made_all indexes parts (p ∷ left) sources none so_far = absurd (omega (arith, none))
 
 -- what holds of all holds of one in the middle
 all_middle : {X : Type 0} (P : X → Type 0) (xs : List X) (x : X) (rest : List X) → All P (xs ++ x ∷ rest) → P x
@@ -431,3 +447,16 @@ pub next_stands : {R : Type 0} (indexes : List Opened) (parts left rest : List (
 next_stands {R} indexes parts left rest sources p one all so_far =
     let whole : parts ≡ so_far.taken ++ p ∷ rest = so_far.whole ∙ ap (λ (l : List (Part R)). so_far.taken ++ l) one in
     all_middle (StandsIn indexes) so_far.taken p rest (subst (All (StandsIn indexes)) whole all)
+
+-- want of memory for the sources
+pub sources_without_memory : {R : Type 0} (holds : Holding) (remaining : R → Option (List ℕ)) (paths : List (List ℕ)) (inputs : Inputs R) (output : List ℕ) → AreOpened holds remaining paths inputs (length paths)
+    → IsMergeRefused holds paths output (refusal.Engine engine.Memory)
+sources_without_memory holds remaining paths inputs output opened =
+    let held = subst (λ (ps : List (List ℕ)). HoldHeadings holds ps opened.headings) (take-length paths) (headings_so_far holds remaining paths inputs (length paths) opened (omega arith)) in
+    unmerged opened.headings held tt
+
+-- as many files were opened as there are texts of the words
+pub all_opened : {R : Type 0} (holds : Holding) (remaining : R → Option (List ℕ)) (words : List (Bor (List ℕ))) (inputs : Inputs R) → AreOpened holds remaining (texts_of words) inputs (length words)
+    → AreOpened holds remaining (texts_of words) inputs (length (texts_of words))
+all_opened holds remaining words inputs opened =
+    subst (λ (n : ℕ). AreOpened holds remaining (texts_of words) inputs n) (sym (length-map words (λ (word : Bor (List ℕ)). word.now))) opened

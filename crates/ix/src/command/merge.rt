@@ -39,11 +39,12 @@ pub fn run<'a, R: Threads, F: FileSource + FileTarget>(
     ensures refused { IfErr result (IsMergeRefused (F.holds files.now)
         (texts_of inputs.now) index.entry.now) }
 {
+    let opened = open_all(rt, alloc, files, inputs)?;
     let Inputs {
         parts,
         volumes,
         end: _,
-    } = open_all(rt, alloc, files, inputs)?;
+    } = opened;
     let indexes = match indexes_of(alloc, &volumes) {
         Ok(indexes) => indexes,
         Err(AllocError) => return Err(Refusal::Engine(EngineRefusal::Memory)),
@@ -64,9 +65,9 @@ fn save<'a, R: Read + Drop, F: FileTarget>(
 ) -> Result<(), Refusal<'a>>
     requires { All (IsUnread SourceHasGiven) sources.items }
     ensures saved { OnOk result (SavesConcatenation (SourceMayYield R.remaining) heading_of_source
-        sources.items (F.saved files.now) path.entry.now) }
+        sources.entry.items (F.saved files.now) path.entry.now) }
     ensures refused { IfErr result
-        (RefusesMerge (map heading_of_source sources.items) path.entry.now) }
+        (RefusesMerge (map heading_of_source sources.entry.items) path.entry.now) }
 {
     let mut writer = match files.create(path) {
         Ok(writer) => writer,

@@ -32,7 +32,8 @@ pub fn sources_of<'a, R: Read + Drop>(
 {
     let mut sources = Vec::new(alloc);
     for part in parts {
-        sources.push(source_of(alloc, part, indexes)?)?;
+        let source = source_of(alloc, part, indexes)?;
+        sources.push(source)?;
     }
     Ok(sources)
 }

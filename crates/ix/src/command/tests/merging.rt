@@ -102,8 +102,14 @@ fn files_that_are_no_indexes_are_not_merged(rt: HostRuntime) -> Result<(), Fail>
         }
     }
     for (words, line) in [
-        (["merge", "new", "0", "changed"].as_slice(), "ix: index 17: Grams\n"),
-        (["merge", "new", "0", "long text"].as_slice(), "ix: merge 4: Source(1, Magic)\n"),
+        (
+            ["merge", "new", "0", "changed"].as_slice(),
+            "ix: index 17: Grams\n",
+        ),
+        (
+            ["merge", "new", "0", "long text"].as_slice(),
+            "ix: merge 4: Source(1, Magic)\n",
+        ),
     ] {
         expect(&rt, &disk, words, line)?;
         assert!(rt; disk.get("new").is_err());
