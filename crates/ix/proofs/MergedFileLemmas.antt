@@ -18,7 +18,6 @@ use Rattle.ix_run.specs.RunSources.{HasGiven, HasLeft, SourceValue, heading_show
 use Rattle.ix_run.specs.RunText.{run_layout}
 use Rattle.ix_run.specs.Runs.{run_value}
 use Rattle.ix_run.specs.Sources.{IsUnread}
-use Rattle.ix_run.specs.declared.run_reader.RunReader.{RunReader}
 use Rattle.ix_merge.proofs.IndexSources.{index_yields, unread_index}
 use Rattle.ix_merge.proofs.Laying.{slice_get_left}
 use Rattle.ix_merge.specs.AnySources.{SourceHasGiven, SourceMayYield, heading_of_source}
@@ -28,7 +27,7 @@ use Rattle.ix_merge.specs.declared.any_source.AnySource.TheVariants as source
 use Rattle.ix.specs.Files.{Holding}
 use Rattle.ix.specs.IndexFiles.{IsIndexHeld}
 use Rattle.ix.specs.Lines.{texts_of}
-use Rattle.ix.specs.MergeInputs.{Adds, AreOpened, AreSourcesOf, IsIndexPart, IsInput, IsNear, IsOpened, IsPart, IsSourceOf, RefusesMore, StandsIn}
+use Rattle.ix.specs.MergeInputs.{Adds, AreOpened, AreSourcesOf, IsInput, IsNear, IsOpened, IsPart, IsSourceOf, RefusesMore, StandsIn}
 use Rattle.ix.specs.MergedRuns.{HoldHeadings, HoldPieces, HoldsHead, HoldsHeading, HoldsPiece, IsMerged, IsMergeRefused, RefusesInput, RefusesInputs, RefusesMerge, SavesConcatenation, end_of, greatest_end, unmerged, unread as unread_file}
 use Rattle.ix.specs.Refusals.{IsUnsaved}
 use Rattle.ix.specs.declared.command.merge.inputs.Input.{Input}

@@ -1,5 +1,5 @@
 -- What `merge` makes of the files that its line names.
-use Rattle.std.specs.Prelude.{◌≡◌, ◌⊎◌, ℕ, ◌+◌, ◌^◌, ◌<◌, List, ◌++◌, fold, length, map, max, take, Option, Some, slice_get}
+use Rattle.std.specs.Prelude.{◌≡◌, ◌⊎◌, ℕ, ◌+◌, ◌^◌, ◌<◌, List, ◌++◌, fold, length, map, max, take, Some, slice_get}
 use Rattle.clap.specs.Walk.{Text}
 use Rattle.ix_text.specs.Collections.{Collection}
 use Rattle.ix_file.specs.Sections.{Version}

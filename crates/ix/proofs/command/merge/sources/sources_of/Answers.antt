@@ -1,5 +1,5 @@
 -- The source of one more part is made.
-use Rattle.std.proofs.Common.{◌≡◌, ap, arith, length, subst, sym}
+use Rattle.std.proofs.Common.{ap, arith, length, subst, sym}
 use Rattle.std.specs.Vec.Iter.{into_iter_items}
 use Rattle.ix.proofs.MergedFileLemmas.{MadeSoFar, made_all, made_more, made_none, next_stands}
 use Rattle.ix.proofs.command.merge.sources.sources_of.Goals as goal
