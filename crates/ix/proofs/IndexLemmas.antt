@@ -1,5 +1,5 @@
 -- What was read of an index file is all of it.
-use Rattle.std.proofs.Common.{◌≡◌, ℕ, ◌-◌, ◌^◌, ◌<◌, List, length, sym, subst, inr}
+use Rattle.std.proofs.Common.{◌≡◌, ℕ, ◌-◌, ◌^◌, ◌<◌, length, sym, subst, inr}
 use Rattle.clap.specs.Walk.{Text}
 use Rattle.ix_text.specs.Collections.{Collection}
 use Rattle.ix_file.specs.IndexText.{IsIndexText}

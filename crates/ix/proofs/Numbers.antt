@@ -1,7 +1,6 @@
 -- The number that an option gives, once `clap` found no fault.
-use Rattle.std.proofs.Common.{◌≡◌, ◌∙◌, ℕ, ◌^◌, ◌<◌, ◌≤◌, inl, inr, arith, Bool, cond, true, false, true≢false, sym, ap, subst, refl, List, [], ◌∷◌, Option, Some, None, Result, Ok, Err}
-use Rattle.std.specs.Prelude.{IfSome, IsSomeAnd, find, option_and_then, option_map, pos, slice_get, ℤ}
-use Rattle.std.specs.Option.{option_map_or}
+use Rattle.std.proofs.Common.{◌≡◌, ◌∙◌, ℕ, ◌^◌, ◌<◌, ◌≤◌, inl, inr, arith, Bool, cond, true, false, sym, ap, subst, refl, List, [], ◌∷◌, Option, Some, None, Result, Ok}
+use Rattle.std.specs.Prelude.{IfSome, IsSomeAnd, find, option_and_then, option_map, pos, slice_get}
 use Rattle.std.specs.Str.{bytes_eq}
 use Rattle.std.specs.Str.Parse.{ParsesUnsigned}
 use Rattle.std.proofs.lemmas.Bool.{cases_lt}
@@ -11,7 +10,7 @@ use Rattle.clap.specs.Lexer.{without_minus}
 use Rattle.clap.specs.Matches.{ReadsOne}
 use Rattle.clap.specs.Simple.{App, Shape, label_of}
 use Rattle.clap.specs.ValueTests.{accepts}
-use Rattle.clap.specs.Values.{IsSignedIn, read_as, reading_of, refused_kind}
+use Rattle.clap.specs.Values.{IsSignedIn, read_as, reading_of}
 use Rattle.clap.specs.Walk.{Row, Rule, Text, answers_to, arg_by_id, one_of, row_text}
 use Rattle.clap.specs.declared.builder.value_parser.Reading.{Reading}
 use Rattle.clap.specs.declared.builder.value_parser.Reading.TheVariants as reading

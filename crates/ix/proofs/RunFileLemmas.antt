@@ -1,11 +1,8 @@
 -- Run files that were opened: what their readers may yield is what they hold.
-use Rattle.std.proofs.Common.{◌≡◌, ◌∙◌, ◌⊎◌, ℕ, suc, ◌+◌, ◌<◌, ◌≤◌, ◌^◌, List, [], ◌∷◌, ◌++◌, length, map, get_or, Option, Some, None, Result, Ok, Err, MatchResult, All, refl, sym, ap, subst, arith, inl, inr, append-nil}
-use Rattle.std.specs.Prelude.{IfSome, slice_get, option_map}
+use Rattle.std.proofs.Common.{◌≡◌, ◌∙◌, ◌⊎◌, ℕ, List, [], ◌++◌, Option, Some, None, Result, Ok, Err, MatchResult, refl, ap, subst, inl, inr}
+use Rattle.std.specs.Prelude.{IfSome}
 use Rattle.std.specs.Io.KnownBytes.{Consumes}
-use Rattle.std.proofs.lemmas.List.{length-map, length-append}
-use Rattle.std.proofs.lemmas.Option.{slice_get-get_or, slice_get-map, slice_get_within}
-use Rattle.ix_text.specs.Parts.{DictionaryEntry, DocumentRow, row_of}
-use Rattle.ix_text.specs.Collections.{Document}
+use Rattle.ix_text.specs.Parts.{DictionaryEntry}
 use Rattle.ix_run.specs.Heads.{Heading, IsLawfulHeading, parts_with}
 use Rattle.ix_run.specs.Reading.{HasRead, MayYield}
 use Rattle.ix_run.specs.RunReaders.{heading_read}
@@ -15,9 +12,8 @@ use Rattle.ix_run.specs.Sources.{AreWhole, IsUnread}
 use Rattle.ix_run.specs.declared.run_reader.RunReader.{RunReader}
 use Rattle.ix_run.specs.declared.run_text_error.RunTextError.{RunTextError}
 use Rattle.ix_run.specs.declared.run_text_error.RunTextError.TheVariants as run_text_error
-use Rattle.ix_merge.specs.Pieces.{MayYieldPiece, ArePiecesOf, Piece}
-use Rattle.ix.specs.Files.{Holding}
-use Rattle.ix.specs.MergedRuns.{AreOpened, HoldHeads, HoldRuns, HoldsHead, HoldsRun, IsOpened, LacksHead, RefusesHead}
+use Rattle.ix.specs.MergeInputs.{IsOpened}
+use Rattle.ix.specs.MergedRuns.{LacksHead, RefusesHead}
 
 -- ---- one file
 

@@ -1,12 +1,12 @@
 -- What was read of a collection file against all of it, for the run that is made of it.
 use Rattle.std.proofs.Common.{◌≡◌, ℕ, List, take, subst}
-use Rattle.ix_text.specs.Collections.{NamedText, collection_of}
+use Rattle.ix_text.specs.Collections.{collection_of}
 use Rattle.ix_text.specs.CollectionText.{IsCollectionText}
 use Rattle.ix_run.specs.Runs.{RunValue, run_bytes}
 use Rattle.ix_run.proofs.RunSizes.{run_text}
 use Rattle.ix.specs.AskedFiles.{IsStopHeld}
 use Rattle.ix.specs.Files.{Holding, IsFront}
-use Rattle.ix.specs.WrittenRuns.{HasRun, IsRunOfFiles, RefusesInversion, RefusesRun}
+use Rattle.ix.specs.WrittenRuns.{HasRun, IsRunOfFiles, RefusesRun}
 use Rattle.ix_ask.specs.declared.refusal.EngineRefusal.TheVariants as engine
 use Rattle.ix.specs.declared.refusal.Refusal.{Refusal}
 use Rattle.ix.specs.declared.refusal.Refusal.TheVariants as refusal

@@ -1,12 +1,12 @@
 -- A merge of one source, whose documents count from 0, writes what the source has.
-use Rattle.std.proofs.Common.{◌≡◌, ◌∙◌, ℕ, ◌+◌, ◌<◌, ◌≤◌, List, [], ◌∷◌, length, map, Option, Some, refl, sym, ap, subst, arith, inl, inr}
+use Rattle.std.proofs.Common.{◌≡◌, ◌∙◌, ℕ, ◌+◌, ◌<◌, List, [], ◌∷◌, length, Option, refl, sym, ap, subst, arith, inl, inr}
 use Rattle.std.specs.Prelude.{slice_get}
 use Rattle.std.proofs.lemmas.Bool.{cases_lt}
 use Rattle.std.proofs.lemmas.List.{length-map}
 use Rattle.std.proofs.lemmas.List.Elements.{All-head}
 use Rattle.std.proofs.lemmas.List.Sums.{sum_by-cons}
 use Rattle.std.proofs.lemmas.Option.{slice_get_within}
-use Rattle.ix_text.specs.Collections.{Collection, Document}
+use Rattle.ix_text.specs.Collections.{Collection}
 use Rattle.ix_text.specs.Parts.{ArePartsOf, DictionaryEntry, row_of}
 use Rattle.ix_text.proofs.PartsLemmas.{same_by_places, same_collection, same_collection_fields}
 use Rattle.ix_file.specs.Endings.{WritesIndexText}

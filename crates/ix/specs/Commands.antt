@@ -86,11 +86,11 @@ run_shape = record (new_shape (codes "run")) {
       ∷ [];
 }
 
--- `merge INDEX RUN...`
+-- `merge INDEX INPUT...`
 abbrev pub merge_shape : Shape
 merge_shape = record (new_shape (codes "merge")) {
   rules = operand_rule (codes "INDEX")
-      ∷ operands_rule (codes "RUN")
+      ∷ operands_rule (codes "INPUT")
       ∷ [];
 }
 

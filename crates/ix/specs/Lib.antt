@@ -9,6 +9,7 @@ pub mod IndexFiles
 pub mod LineErrors
 pub mod Lines
 pub mod LiveScripts
+pub mod MergeInputs
 pub mod MergedRuns
 pub mod Refusals
 pub mod SavedIndexes

@@ -112,9 +112,9 @@ Holds name rows (Run stop first collection run) = (name ≡ codes "run")
     × HasNumberOr (codes "first") 0 rows first
     × HasOperand (codes "COLLECTION") rows collection
     × HasOperand (codes "RUN") rows run
-Holds name rows (Merge index runs) = (name ≡ codes "merge")
+Holds name rows (Merge index inputs) = (name ≡ codes "merge")
     × HasOperand (codes "INDEX") rows index
-    × HasOperands (codes "RUN") rows runs.items
+    × HasOperands (codes "INPUT") rows inputs.items
 Holds name rows (Upgrade old new) = (name ≡ codes "upgrade")
     × HasOperand (codes "OLD") rows old
     × HasOperand (codes "NEW") rows new

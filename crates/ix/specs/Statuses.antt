@@ -46,8 +46,8 @@ IsDone holds saves kept (Search index query) old new count = IsSearchedFromFile 
 IsDone holds saves kept (Terms index pattern) old new count = IsPrintedFromFile holds index.now pattern.now old new count
 IsDone holds saves kept (Run stop_file first collection run) old new count =
     IsRunSaved holds saves stop_file first collection.now run.now × Keeps old new × (count ≡ 1)
-IsDone holds saves kept (Merge index runs) old new count =
-    IsMerged holds saves (texts_of runs.items) index.now × Keeps old new × (count ≡ 1)
+IsDone holds saves kept (Merge index inputs) old new count =
+    IsMerged holds saves (texts_of inputs.items) index.now × Keeps old new × (count ≡ 1)
 IsDone holds saves kept (Upgrade old_file new_file) old new count =
     IsUpgraded holds saves old_file.now new_file.now × Keeps old new × (count ≡ 1)
 
@@ -61,8 +61,8 @@ IsLineRefused holds (Live stop_file plan searchers script) old new told = IsLive
 IsLineRefused holds (Search index query) old new told = IsSearchRefused holds index.now query.now old new told
 IsLineRefused holds (Terms index pattern) old new told = IsListingRefused holds index.now pattern.now old new told
 IsLineRefused holds (Run stop_file first collection run) old new told = IsRunRefused holds stop_file first collection.now run.now told × Keeps old new
-IsLineRefused holds (Merge index runs) old new told =
-    IsMergeRefused holds (texts_of runs.items) index.now told × Keeps old new
+IsLineRefused holds (Merge index inputs) old new told =
+    IsMergeRefused holds (texts_of inputs.items) index.now told × Keeps old new
 IsLineRefused holds (Upgrade old_file new_file) old new told = IsUpgradeRefused holds old_file.now new_file.now told × Keeps old new
 
 -- the words are a line that was done, and something was found

@@ -1,5 +1,5 @@
 -- What `run` makes of the files that its line names.
-use Rattle.std.specs.Prelude.{◌≡◌, ℕ, List, Option, IsSomeAnd}
+use Rattle.std.specs.Prelude.{ℕ, List, Option, IsSomeAnd}
 use Rattle.std.specs.Borrow.{Bor}
 use Rattle.clap.specs.Walk.{Text}
 use Rattle.ix_text.specs.Collections.{Collection, NamedText, collection_of}

@@ -190,7 +190,7 @@ fn do_line<'a, R: Threads + Wait + Sync, F: FileSource + FileTarget, S: RunFiles
             Ok(()) => Ok(ONE_FILE),
             Err(refusal) => Err(refusal),
         },
-        Line::Merge { index, runs } => match merge::run(alloc, files, index, &runs) {
+        Line::Merge { index, inputs } => match merge::run(rt, alloc, files, index, &inputs) {
             Ok(()) => Ok(ONE_FILE),
             Err(refusal) => Err(refusal),
         },

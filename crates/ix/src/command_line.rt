@@ -87,12 +87,12 @@ pub enum Line<'a> {
         /// The run file to be written.
         run: &'a str,
     },
-    /// `ix merge INDEX RUN...`.
+    /// `ix merge INDEX INPUT...`.
     Merge {
         /// The index file to be written.
         index: &'a str,
-        /// The run files, in any order; there is one.
-        runs: Vec<&'a str>,
+        /// The run files and index files; there is one.
+        inputs: Vec<&'a str>,
     },
     /// `ix upgrade OLD NEW`.
     Upgrade {
@@ -248,8 +248,8 @@ fn merge_line<'a>(alloc: Global, matches: &ArgMatches<'a>) -> Result<Line<'a>, L
     ensures refused { IfErr result (RefusesRows (rows_of (found_of matches.now))) }
 {
     let index = operand(matches, "INDEX");
-    let runs = operands(alloc, matches, "RUN")?;
-    Ok(Line::Merge { index, runs })
+    let inputs = operands(alloc, matches, "INPUT")?;
+    Ok(Line::Merge { index, inputs })
 }
 
 fn upgrade_line<'a>(matches: &ArgMatches<'a>) -> Line<'a>

@@ -23,7 +23,7 @@ Commands, in the order in which they are met:
             ix terms mail.ix 'contr*'
   run       inverts a part of a collection into a run file, to be merged elsewhere
             ix run examples/mail.txt mail.run
-  merge     merges run files, in any order, into an index
+  merge     merges run files, in any order, and index files into an index
             ix merge mail.ix mail.run
   upgrade   writes an index anew, in the newest version of the format
             ix upgrade mail.ix mail-2.ix
@@ -246,15 +246,18 @@ Examples:
 
 /// What `ix merge --help` prints.
 pub const HELP_ON_MERGE: &str = "\
-Merges run files into an index of the whole collection. The runs are those of all its
-parts, made by `ix run` with the same stop words.
+Merges run files and index files into an index of the whole collection. They are those
+of all its parts, made by `ix run` and `ix merge` with the same stop words.
 
-Usage: ix merge INDEX RUN...
+Usage: ix merge INDEX INPUT...
 
-  INDEX          the index file to be written; it is created once each RUN was opened
-  RUN...         the run files, one or more, in any order; `-` is the standard input
+  INDEX          the index file to be written; it is created once each INPUT was opened
+  INPUT...       the run files and index files, one or more; runs in any order;
+                 `-` is the standard input, for a run
 
-Each document number from 0 to the highest belongs to exactly one of the runs.
+A run tells the number of its first document. An index counts its documents from 0, and
+stands behind all files that are named before it: so name indexes in their order.
+Each document number from 0 to the highest belongs to exactly one of the files.
 The index is the same as `ix build` makes of the whole collection.
 
 Exit status: 0 the index was written, or help was asked for; 2 refused, and one line
@@ -263,6 +266,7 @@ on the error output says why; the index file may then hold a beginning.
 Examples:
   ix merge mail.ix mail.run
   ix merge mail.ix mail-1000.run mail.run
+  ix merge all.ix mail.ix mail-2.ix
 ";
 
 /// What `ix upgrade --help` prints.

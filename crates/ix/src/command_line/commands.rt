@@ -126,7 +126,7 @@ fn merge<'a>(alloc: Global) -> Result<Command<'a>, AllocError>
 {
     Command::new(alloc, "merge")
         .arg(operand(alloc, "INDEX"))?
-        .arg(operands(alloc, "RUN"))
+        .arg(operands(alloc, "INPUT"))
 }
 
 #[tactic(auto, using(crate::proofs::Building::adds_argument))]

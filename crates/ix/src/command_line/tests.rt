@@ -70,10 +70,10 @@ fn lines_of_an_index(rt: HostRuntime) -> Result<(), Fail> {
             ["4.run", "-2.run", "0.run"].as_slice(),
         ),
     ] {
-        let Line::Merge { index, runs } = read_line(rt.alloc(), words)? else {
+        let Line::Merge { index, inputs } = read_line(rt.alloc(), words)? else {
             return Err(Fail::from("it is another line"));
         };
-        assert!(rt; index == "c.ix" && runs.as_slice() == wanted);
+        assert!(rt; index == "c.ix" && inputs.as_slice() == wanted);
     }
     Ok(())
 }

@@ -1,5 +1,5 @@
 -- An error that asks for no help is a mistake.
-use Rattle.std.proofs.Common.{rules, inl, inr, ◌≡◌, List, Bool, true, false, sym, subst}
+use Rattle.std.proofs.Common.{rules, inl, ◌≡◌, List, Bool, true, false, sym, subst}
 use Rattle.std.specs.Prelude.{◌↔◌}
 use Rattle.clap.specs.Walk.{Text}
 use Rattle.clap.specs.Words.{kind_of}

@@ -1,4 +1,4 @@
--- The runs of the line are those that are merged.
+-- The files of the line are those that are merged.
 use Rattle.std.proofs.Common.{rules}
 use Rattle.ix.proofs.command.do_line.Goals as goal
 

@@ -1,5 +1,5 @@
 -- One source is its own concatenation.
-use Rattle.std.proofs.Common.{ap, arith}
+use Rattle.std.proofs.Common.{ap}
 use Rattle.ix_run.specs.RunSources.{HasLeft, SourceValue}
 use Rattle.ix.proofs.Upgrading.{written_of_one}
 use Rattle.ix.proofs.command.upgrade.put_index.Goals as goal

@@ -1,6 +1,5 @@
 -- The numbers of the options are in their ranges, so they make a plan, unless there are two cuts.
-use Rattle.std.proofs.Common.{arith}
-use Rattle.ix.proofs.Plans.{cut_is_some, in_range_or, is_number, no_cut}
+use Rattle.ix.proofs.Plans.{is_number}
 use Rattle.ix.proofs.command_line.plan.read_plan.Goals as goal
 
 pub number_option-block-requires : goal.number_option-block-requires
