@@ -247,7 +247,7 @@ Examples:
 /// What `ix merge --help` prints.
 pub const HELP_ON_MERGE: &str = "\
 Merges run files and index files into an index of the whole collection. They are those
-of all its parts, made by `ix run` and `ix merge` with the same stop words.
+of all its parts, made by `ix run`, `ix build` or `ix merge` under the same stop words.
 
 Usage: ix merge INDEX INPUT...
 
