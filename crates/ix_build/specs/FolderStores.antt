@@ -3,11 +3,27 @@ use Rattle.std.specs.Prelude.{◌≡◌, ℕ, List}
 use Rattle.ix_build.specs.RunPaths.{run_path}
 use Rattle.ix_build.specs.declared.folder.FolderStore.{FolderStore}
 
+-- the files in which a store keeps its runs
+abbrev pub files_of : {F : Type 0} → FolderStore F → F
+files_of store = store.files.now
+
+-- the path of its folder
+abbrev pub folder_of : {F : Type 0} → FolderStore F → List ℕ
+folder_of store = store.folder.now
+
+-- the places that it saved, in this order
+abbrev pub saved_of : {F : Type 0} → FolderStore F → List ℕ
+saved_of store = store.saved.items
+
+-- how many refusals it counted
+abbrev pub faults_of : {F : Type 0} → FolderStore F → ℕ
+faults_of store = store.faults
+
 -- what may come back for a place is what may come back of its file
 abbrev pub GivesBack : {F : Type 0} → (F → List ℕ → List ℕ → Type 0) → FolderStore F → ℕ → List ℕ → Type 0
-GivesBack back store place bytes = back store.files.now (run_path store.folder.now place) bytes
+GivesBack back store place bytes = back (files_of store) (run_path (folder_of store) place) bytes
 
 -- The store keeps runs in this folder of these files.
 pub record IsStoreIn {F : Type 0} (files : F) (folder : List ℕ) (store : FolderStore F) : Type 0 where
-  pub files_are : store.files.now ≡ files
-  pub folder_is : store.folder.now ≡ folder
+  pub files_are : files_of store ≡ files
+  pub folder_is : folder_of store ≡ folder

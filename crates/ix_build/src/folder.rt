@@ -54,11 +54,13 @@ fn put_run<W: Write + Drop>(alloc: Global, writer: W, run: &Run) -> Result<W, St
 }
 
 impl<'a, F> FolderStore<'a, F> {
+    ghost use Rattle.ix_build.specs.FolderStores.{faults_of, files_of, folder_of, saved_of};
+
     /// A store that keeps runs in files of this folder, and has saved none. Takes no memory.
     pub fn new(alloc: Global, files: &'a F, folder: &'a str) -> FolderStore<'a, F>
-        ensures files { result.files.now ≡ files.now }
-        ensures folder { result.folder.now ≡ folder.now }
-        ensures saved { result.saved.items ≡ [] }
+        ensures files { files_of result ≡ files.now }
+        ensures folder { folder_of result ≡ folder.now }
+        ensures saved { saved_of result ≡ [] }
     {
         FolderStore {
             alloc,
@@ -71,10 +73,10 @@ impl<'a, F> FolderStore<'a, F> {
 
     /// Counts a refusal.
     fn count(&mut self)
-        ensures faults { IsOneMore self.old.faults self.new.faults }
-        ensures saved { self.new.saved.items ≡ self.old.saved.items }
-        ensures files { self.new.files.now ≡ self.old.files.now }
-        ensures folder { self.new.folder.now ≡ self.old.folder.now }
+        ensures faults { IsOneMore (faults_of self.old) (faults_of self.new) }
+        ensures saved { saved_of self.new ≡ saved_of self.old }
+        ensures files { files_of self.new ≡ files_of self.old }
+        ensures folder { folder_of self.new ≡ folder_of self.old }
     {
         if self.faults < u64::MAX {
             self.faults += 1;
@@ -83,24 +85,24 @@ impl<'a, F> FolderStore<'a, F> {
 }
 
 impl<'a, F: RunFiles> RunStore for FolderStore<'a, F> {
-    ghost use Rattle.ix_build.specs.FolderStores.{GivesBack};
+    ghost use Rattle.ix_build.specs.FolderStores.{GivesBack, faults_of, files_of, folder_of, saved_of};
 
     type Reader = F::Reader;
 
-    ghost places = { λ store. store.saved.items };
+    ghost places = { λ store. saved_of store };
 
-    ghost refusals = { λ store. store.faults };
+    ghost refusals = { λ store. faults_of store };
 
     ghost back = { GivesBack F.back };
 
     fn save(&mut self, place: usize, run: &Run) -> Result<(), StoreError>
-        ensures kept { OnOk result (F.kept self.old.files.now
-            (run_path self.old.folder.now place) (run_bytes run.now)) }
+        ensures kept { OnOk result (F.kept (files_of self.old)
+            (run_path (folder_of self.old) place) (run_bytes run.now)) }
 
         // As each store promises.
-        ensures saved { OnOk result (self.new.saved.items ≡ self.old.saved.items ++ place ∷ []) }
-        ensures unsaved { OnErr result (self.new.saved.items ≡ self.old.saved.items) }
-        ensures faults { CountsRefusal result self.old.faults self.new.faults }
+        ensures saved { OnOk result (saved_of self.new ≡ saved_of self.old ++ place ∷ []) }
+        ensures unsaved { OnErr result (saved_of self.new ≡ saved_of self.old) }
+        ensures faults { CountsRefusal result (faults_of self.old) (faults_of self.new) }
         ensures back { (other : ℕ) (bytes : List ℕ) → GivesBack F.back self.new other bytes
             ↔ GivesBack F.back self.old other bytes }
     {
