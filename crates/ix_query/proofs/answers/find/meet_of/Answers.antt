@@ -1,4 +1,4 @@
-use Rattle.std.proofs.Common.{[], ◌∷◌, ◌++◌, ◌-◌, ◌∙◌, ◌≡◌, ap, get_or, length, refl, arith}
+use Rattle.std.proofs.Common.{[], ◌∷◌, ◌++◌, ◌∙◌, ◌≡◌, ap, get_or, length, refl, arith}
 use Rattle.std.proofs.lemmas.Bool.Decides.{nat_tests}
 use Rattle.ix_query.proofs.PartLemmas.{meet_some, meet_none}
 use Rattle.ix_query.proofs.Swapping.{removed_of, meet_swapped}

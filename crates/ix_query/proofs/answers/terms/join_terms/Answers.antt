@@ -1,4 +1,4 @@
-use Rattle.std.proofs.Common.{[], ◌∷◌, ◌++◌, ◌-◌, ◌∙◌, ◌≡◌, ap, arith, get_or, length, refl}
+use Rattle.std.proofs.Common.{[], ◌∷◌, ◌++◌, ◌∙◌, ◌≡◌, ap, arith, get_or, length, refl}
 use Rattle.std.proofs.lemmas.Bool.Decides.{nat_tests}
 use Rattle.ix_query.proofs.FindLemmas.{placed_first, placed_holes, any_place, nil_of_length}
 use Rattle.ix_query.proofs.Swapping.{removed_of, placed_swapped}
