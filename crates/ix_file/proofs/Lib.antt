@@ -1,4 +1,3 @@
-pub mod Ahead
 pub mod AllLists
 pub mod AscendingLemmas
 pub mod Beginnings

@@ -1,9 +1,8 @@
 //! The lists of an index text.
-ghost use Rattle.std.specs.Prelude.{◌≡◌, ◌≢◌, ◌⊎◌, ℕ, ◌+◌, ◌-◌, ◌*◌, ◌^◌, ◌<◌, ◌≤◌, ◌∷◌, ◌++◌, [], List, map, length, slice_range, All, IfOk, IfErr, IfSome, OnErr, OnOk};
+ghost use Rattle.std.specs.Prelude.{◌≡◌, ◌≢◌, ◌⊎◌, ℕ, ◌+◌, ◌-◌, ◌*◌, ◌^◌, ◌<◌, ◌≤◌, ◌∷◌, ◌++◌, [], List, map, length, slice_range, All, IfOk, IfErr, OnErr, OnOk};
 ghost use Rattle.ix_vbyte.specs.Code.{code_of};
 ghost use Rattle.ix_vbyte.specs.Gaps.{Ascends, gaps_of};
 ghost use Rattle.ix_vbyte.specs.Postings.{codes_of, posting_bytes};
-ghost use Rattle.ix_vbyte.specs.ShortPostings.{BeginsWithSingle};
 ghost use Rattle.ix_vbyte.specs.Skips.{AreSkipsIn};
 ghost use Rattle.ix_text.specs.Parts.{DocumentRow, Posting};
 ghost use Rattle.ix_text.specs.TokenLaws.{IsPostingIn};
@@ -21,7 +20,7 @@ use crate::open::terms::{ListPlace, Terms};
 use crate::{OpenError, Section};
 use ix_text::TokenTable;
 use ix_vbyte::cursor::Skip;
-use ix_vbyte::{ShortPosting, VbError, decode, short_number, short_posting};
+use ix_vbyte::{VbError, decode, short_number, short_posting};
 use std::alloc::{AllocError, Global};
 
 /// How many bytes stand between two places at which a list may be entered, at least.
@@ -61,8 +60,7 @@ pub(crate) fn check_lists(
     for number in 0..terms.len() {
         let place = terms.list(number);
         let list = list_of(section, place);
-        let ahead = &section[place.start..];
-        let skips = check_list(alloc, list, ahead, place.documents, tokens, &mut claims)?;
+        let skips = check_list(alloc, list, place.documents, tokens, &mut claims)?;
         keep_long(&mut longs, number, skips)?;
     }
     if claims.are_doubled() {
@@ -94,7 +92,7 @@ pub(crate) fn list_of(section: &[u8], place: ListPlace) -> &[u8]
 }
 
 /// Checks the bytes of one list, which has this many documents, and claims its tokens. Answers where it may be entered:
-/// nowhere, if it is not long. `ahead` is what POSTINGS has from the list's first byte on, also beyond its end.
+/// nowhere, if it is not long.
 ///
 /// For each document `Number` of its gap, `Zero` where it is 0, `DocRange` where there is no such document, `Number`
 /// of the number of its positions, `Zero` where it is 0; for each position `Number` of its gap, `Zero` where it is 0,
@@ -103,13 +101,11 @@ pub(crate) fn list_of(section: &[u8], place: ListPlace) -> &[u8]
 fn check_list(
     alloc: Global,
     bytes: &[u8],
-    ahead: &[u8],
     documents: u32,
     tokens: &TokenTable,
     claims: &mut Claims,
 ) -> Result<Vec<Skip>, OpenError>
     requires some { 0 < documents }
-    requires ahead { (behind : List ℕ) × (ahead.now ≡ bytes.now ++ behind) }
     requires ready { MayClaim tokens.now claims.old }
     ensures found { IfOk result (λ _. (rows : List DocumentRow) → HasTokens tokens.now rows →
         (postings : List Posting) × AreListedIn rows documents bytes.now postings
@@ -131,8 +127,7 @@ fn check_list(
             size: left.len(),
         };
         end = keep_place(&mut skips, place, end)?;
-        let read = bytes.len() - left.len();
-        let (behind, rest) = check_posting(left, &ahead[read..], next, tokens, claims)?;
+        let (behind, rest) = check_posting(left, next, tokens, claims)?;
         next = behind;
         left = rest;
     }
@@ -166,19 +161,17 @@ fn keep_place(skips: &mut Vec<Skip>, place: Skip, end: usize) -> Result<usize, A
 }
 
 /// Checks the posting that what is left of a list begins with, where `next` is one above the document before, and
-/// claims its tokens. Answers one above its document, and what follows it. `ahead` goes on beyond the end of the list.
+/// claims its tokens. Answers one above its document, and what follows it.
 ///
 /// Most postings have one position and short codes: those take neither a call nor a loop.
 #[inline(always)]
 fn check_posting<'a>(
     left: &'a [u8],
-    ahead: &[u8],
     next: u32,
     tokens: &TokenTable,
     claims: &mut Claims,
 ) -> Result<(u32, &'a [u8]), OpenError>
-    requires ahead { (behind : List ℕ) × (ahead.now ≡ left.now ++ behind) }
-    requires ready { MayClaim tokens.now claims.old }
+    requires { MayClaim tokens.now claims.old }
     ensures found { IfOk result (λ read. (rows : List DocumentRow) → HasTokens tokens.now rows →
         (posting : Posting) × IsNextPosting rows next left.now posting read.1.now
         × (read.0 ≡ posting.0 + 1) × HaveClaimed claims.old claims.new
@@ -188,7 +181,7 @@ fn check_posting<'a>(
         ⊎ ((rows : List DocumentRow) (posting : Posting) (rest : List ℕ) →
         HasTokens tokens.now rows → ¬ (IsNextPosting rows next left.now posting rest))) }
 {
-    let Some(posting) = short_posting_of_list(left, ahead) else {
+    let Some(posting) = short_posting(left) else {
         return check_any_posting(left, next, tokens, claims);
     };
     let Some(document) = next.checked_add(posting.gap - 1) else {
@@ -202,24 +195,6 @@ fn check_posting<'a>(
     }
     claims.claim(span.0 + (posting.position_gap - 1))?;
     Ok((document + 1, &left[posting.size..]))
-}
-
-/// The posting of one position and short codes that what is left of a list begins with. None of any other, and where
-/// POSTINGS ends before five bytes are looked at.
-///
-/// It is read from what goes on beyond the end of the list, since it may be the last of the list, and most lists have
-/// no other: its own bytes are too few to be looked at without a branch for each.
-#[inline(always)]
-fn short_posting_of_list(left: &[u8], ahead: &[u8]) -> Option<ShortPosting>
-    requires { (behind : List ℕ) × (ahead.now ≡ left.now ++ behind) }
-    ensures found { IfSome result (λ posting.
-        BeginsWithSingle left.now posting.gap posting.position_gap posting.size) }
-{
-    let posting = short_posting(ahead)?;
-    if posting.size > left.len() {
-        return None;
-    }
-    Some(posting)
 }
 
 /// The same of a posting of any shape.

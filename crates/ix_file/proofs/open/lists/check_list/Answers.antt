@@ -1,10 +1,7 @@
-use Rattle.std.proofs.Common.{◌≡◌, ◌+◌, ◌-◌, ◌<◌, length, sym, ◌∙◌, inl, inr, ⊎_elim, subst, arith}
+use Rattle.std.proofs.Common.{◌≡◌, ◌+◌, ◌<◌, length, sym, inl, inr, ⊎_elim, subst, arith}
 use Rattle.std.proofs.lemmas.Bool.Decides.{nat_tests}
-use Rattle.std.proofs.lemmas.List.{take_rest}
 use Rattle.std.proofs.lemmas.Result.{err_from_is_err_and}
-use Rattle.ix_vbyte.specs.Postings.{list_bytes}
 use Rattle.ix_file.specs.ReadLists.{AreListedIn}
-use Rattle.ix_file.proofs.Ahead.{ahead_of_left, left_within}
 use Rattle.ix_file.proofs.ListReading.{ListGoesOn, list_goes_on, list_goes_on_behind, no_next, nothing_left, postings_all, read_no_posting, read_one_posting}
 use Rattle.ix_vbyte.proofs.Places.{no_skips}
 use Rattle.ix_file.proofs.ListEntering.{place_kept, place_stands}
@@ -19,21 +16,8 @@ loop-document-init c = record {
   ready = c.requires.ready;
 }
 
-pub overflow_sub-read : goal.overflow_sub-read
-overflow_sub-read c =
-    let read = c.loop-document.invariant.read c.requires.ready.rows c.requires.ready.has in
-    left_within c.args.bytes.now (list_bytes read.postings) c.loop-document.left.now read.have.coded
-
-pub check_posting-requires-clause-ahead : goal.check_posting-requires-clause-ahead
-check_posting-requires-clause-ahead c =
-    let read = c.loop-document.invariant.read c.requires.ready.rows c.requires.ready.has in (
-      c.requires.ahead.0,
-      take_rest c.args.ahead.now (length c.args.bytes.now - length c.loop-document.left.now)
-          ∙ ahead_of_left c.args.bytes.now c.args.ahead.now c.requires.ahead.0 (list_bytes read.postings) c.loop-document.left.now c.requires.ahead.1 read.have.coded,
-    )
-
-pub check_posting-requires-clause-ready : goal.check_posting-requires-clause-ready
-check_posting-requires-clause-ready c = c.loop-document.invariant.ready
+pub check_posting-requires : goal.check_posting-requires
+check_posting-requires c = c.loop-document.invariant.ready
 
 pub returns-in_err-behind-clause-refused : goal.returns-in_err-behind-clause-refused
 returns-in_err-behind-clause-refused c =

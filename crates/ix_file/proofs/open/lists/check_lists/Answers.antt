@@ -1,11 +1,10 @@
-use Rattle.std.proofs.Common.{ℕ, ◌+◌, ◌<◌, ◌++◌, drop, length, inl, inr, refl, sym, ap, ◌∙◌, ⊎_elim, arith}
+use Rattle.std.proofs.Common.{◌<◌, length, inl, inr, refl, ap, ⊎_elim, arith}
 use Rattle.std.proofs.lemmas.Result.{err_from_is_err_and}
 use Rattle.std.proofs.lemmas.List.Elements.{All-nil}
 use Rattle.ix_vbyte.specs.Skips.{AreSkipsIn}
 use Rattle.ix_file.specs.LongLists.{IsLongIn}
 use Rattle.ix_file.specs.ReadLists.{AreListedIn}
 use Rattle.ix_file.specs.declared.open.tables.LongList.{LongList}
-use Rattle.ix_file.proofs.Ahead.{ahead_of_list}
 use Rattle.ix_file.proofs.AllLists.{counts_at, list_within, lists_are, lists_are_not, no_list, read_all_lists, read_no_list, read_one_list}
 use Rattle.ix_file.proofs.ListEntering.{long_in, long_kept}
 use Rattle.ix_file.proofs.PlacedLemmas.{from_term, term_at, to_term}
@@ -25,29 +24,6 @@ list_of-list-requires c =
     let at = term_at c.args.terms.now c.loop-number.number c.list-place.result c.list-place.ensures in
     let within = list_within c.args.terms.now c.loop-number.number at.term c.requires.laid_out low at.read in
     omega (arith, within, c.requires.whole, ap (λ (p : ListPlace). p.start) at.is, ap (λ (p : ListPlace). p.size) at.is)
-
-pub slice_bounds-ahead-start : goal.slice_bounds-ahead-start
-slice_bounds-ahead-start c =
-    let low : c.loop-number.number < length c.args.terms.now = omega (arith, c.loop-number-test.true, c.len-number-end.ensures.count) in
-    let at = term_at c.args.terms.now c.loop-number.number c.list-place.result c.list-place.ensures in
-    let within = list_within c.args.terms.now c.loop-number.number at.term c.requires.laid_out low at.read in
-    omega (arith, within, c.requires.whole, ap (λ (p : ListPlace). p.start) at.is)
-
-pub slice_bounds-ahead-count : goal.slice_bounds-ahead-count
-slice_bounds-ahead-count c =
-    let low : c.loop-number.number < length c.args.terms.now = omega (arith, c.loop-number-test.true, c.len-number-end.ensures.count) in
-    let at = term_at c.args.terms.now c.loop-number.number c.list-place.result c.list-place.ensures in
-    let within = list_within c.args.terms.now c.loop-number.number at.term c.requires.laid_out low at.read in
-    omega (arith, within, c.requires.whole, ap (λ (p : ListPlace). p.start) at.is)
-
-pub check_list-requires-clause-ahead : goal.check_list-requires-clause-ahead
-check_list-requires-clause-ahead c =
-    let section = c.args.section.now in
-    let place = c.list-place.result in
-    let end : ℕ = place.start + place.size in (
-      drop end section,
-      ahead_of_list section place.start end (omega arith) ∙ ap (λ bytes. bytes ++ drop end section) (sym c.list_of-list.ensures),
-    )
 
 pub check_list-requires-clause-some : goal.check_list-requires-clause-some
 check_list-requires-clause-some c =

@@ -9,12 +9,12 @@ use Rattle.ix_file.proofs.open.lists.check_posting.Goals as goal
 
 pub returns-in_default-checked_add-clause-refused : goal.returns-in_default-checked_add-clause-refused
 returns-in_default-checked_add-clause-refused c =
-    let few = c.requires.ready.few in
+    let few = c.requires.few in
     let wide : 2 ^ 32 ≤ c.args.next + (c.in-Some.posting.gap - 1) = omega (arith, c.in_default-checked_add.ensures) in
     inr
     (λ rows posting rest has stands.
     past_documents rows c.args.next c.in-Some.posting.gap c.args.left.now _ rest posting (single_parts c.args.left.now c.in-Some.posting.gap c.in-Some.posting.position_gap c.in-Some.posting.size c.in-Some.ensures.found)
-    (omega (arith, same_count c.args.tokens.now rows c.requires.ready.rows has c.requires.ready.has)) stands)
+    (omega (arith, same_count c.args.tokens.now rows c.requires.rows has c.requires.has)) stands)
 
 pub returns-in_default-span-clause-refused : goal.returns-in_default-span-clause-refused
 returns-in_default-span-clause-refused c =
@@ -36,22 +36,22 @@ returns-then-posting-span-clause-refused c =
 
 pub overflow_add-span : goal.overflow_add-span
 overflow_add-span c =
-    let below = span_below c.requires.ready.rows c.in-Some-checked_add.document c.in-Some-span.span (c.in-Some-span.ensures c.requires.ready.rows c.requires.ready.has) in
-    let few = c.requires.ready.few_tokens in
+    let below = span_below c.requires.rows c.in-Some-checked_add.document c.in-Some-span.span (c.in-Some-span.ensures c.requires.rows c.requires.has) in
+    let few = c.requires.few_tokens in
     let fits = c.if-posting-span.false in
     omega arith
 
 pub claim-requires : goal.claim-requires
 claim-requires c =
-    let below = span_below c.requires.ready.rows c.in-Some-checked_add.document c.in-Some-span.span (c.in-Some-span.ensures c.requires.ready.rows c.requires.ready.has) in
+    let below = span_below c.requires.rows c.in-Some-checked_add.document c.in-Some-span.span (c.in-Some-span.ensures c.requires.rows c.requires.has) in
     let fits = c.if-posting-span.false in
     let some = c.in-Some.ensures.found.position_some in
-    (_, c.requires.ready.room, omega arith)
+    (_, c.requires.room, omega arith)
 
 pub overflow_add-result : goal.overflow_add-result
 overflow_add-result c =
-    let within = span_within c.requires.ready.rows c.in-Some-checked_add.document c.in-Some-span.span (c.in-Some-span.ensures c.requires.ready.rows c.requires.ready.has) in
-    let few = c.requires.ready.few in
+    let within = span_within c.requires.rows c.in-Some-checked_add.document c.in-Some-span.span (c.in-Some-span.ensures c.requires.rows c.requires.has) in
+    let few = c.requires.few in
     omega arith
 
 pub returns-clause-found : goal.returns-clause-found
