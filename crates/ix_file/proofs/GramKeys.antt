@@ -1,5 +1,5 @@
 -- The pairs that grams with numbers list: right ones, each once, and as many as there are, are all there are.
-use Rattle.std.proofs.Common.{◌≡◌, ℕ, ◌+◌, List, [], ◌∷◌, map, length, flat_map, sum_by, get_or, All, Contains, Less, inl, inr, refl, sym, ap, subst, arith, length-append}
+use Rattle.std.proofs.Common.{◌≡◌, ℕ, ◌+◌, List, [], ◌∷◌, map, length, flat_map, get_or, All, Contains, Less, inl, inr, refl, sym, ap, subst, arith, length-append}
 use Rattle.std.proofs.lemmas.Cmp.{nat_cmp_total, nat_list_cmp_total}
 use Rattle.std.proofs.lemmas.List.{length-map}
 use Rattle.std.proofs.lemmas.List.Elements.{All-contains, All-head, All-tail, Contains-append_left, Contains-append_right, Contains-append_cases, Contains-get_or}
@@ -14,7 +14,7 @@ use Rattle.ix_text.specs.Parts.{GramEntry, HasNumber, IsGramEntry}
 use Rattle.ix_vbyte.proofs.Gaps.{Ascends-rising, Ascends-from}
 use Rattle.ix_file.specs.Grams.{AreGramsOfTerms, IsGramOfTerm}
 use Rattle.ix_file.specs.GramPairs.{StandOnce, AreAllPairs}
-use Rattle.ix_file.specs.OpenedGrams.{IsRightEntry}
+use Rattle.ix_file.specs.OpenedGrams.{IsRightEntry, numbers_listed}
 use Rattle.ix_file.proofs.GramFinding.{texts_of}
 use Rattle.ix_file.proofs.OnceLemmas.{once_all, once_append, once_map, once_from_sorted}
 use Rattle.ix_file.proofs.PairCounts.{number_within}
@@ -27,14 +27,10 @@ entry_keys entry = map (λ n. (entry.gram, n)) entry.numbers
 abbrev pub keys_of : List GramEntry → List (List ℕ × ℕ)
 keys_of grams = flat_map entry_keys grams
 
--- how many numbers stand under grams
-abbrev pub total_of : List GramEntry → ℕ
-total_of grams = sum_by (λ entry. length entry.numbers) grams
-
-pub length_keys : (grams : List GramEntry) → length (keys_of grams) ≡ total_of grams
+pub length_keys : (grams : List GramEntry) → length (keys_of grams) ≡ numbers_listed grams
 length_keys [] = refl
 length_keys (e ∷ grams) =
-    let step : total_of (e ∷ grams) ≡ length e.numbers + total_of grams = sum_by-cons (λ (x : GramEntry). length x.numbers) e grams in
+    let step : numbers_listed (e ∷ grams) ≡ length e.numbers + numbers_listed grams = sum_by-cons (λ (x : GramEntry). length x.numbers) e grams in
     let keys : length (keys_of (e ∷ grams)) ≡ length (entry_keys e) + length (keys_of grams) = length-append (entry_keys e) (keys_of grams) in
     omega (arith, step, keys, length_keys grams, length-map {B = List ℕ × ℕ} e.numbers (λ n. (e.gram, n)))
 
@@ -121,7 +117,7 @@ module _ (terms : List (List ℕ)) where
       All-contains (IsGramOfTerm terms g) has.numbers n e.numbers.right has.listed
 
   -- and as many right ones, each once, are those of the terms
-  pub as_many : (grams : List GramEntry) (pairs : List (List ℕ × ℕ)) → IsAscending (texts_of grams) → All (IsRightEntry terms) grams → AreAllPairs terms pairs → length pairs ≡ total_of grams → AreGramsOfTerms terms grams
+  pub as_many : (grams : List GramEntry) (pairs : List (List ℕ × ℕ)) → IsAscending (texts_of grams) → All (IsRightEntry terms) grams → AreAllPairs terms pairs → length pairs ≡ numbers_listed grams → AreGramsOfTerms terms grams
   as_many grams pairs up right all many = record {
     ascending = up;
     each = λ k d low. let e = right k d low in (e.some, Ascends-rising 0 (length terms) (get_or grams k d).numbers e.numbers.ascend);

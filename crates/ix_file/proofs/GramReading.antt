@@ -88,6 +88,11 @@ module _ (rows : List PlacedTerm) (texts : All IsUtf8 (terms_in rows)) (entry : 
       let counts = behind_count left gram behind gaps other count is has e in
       refused entry.numbers other (subst (λ (g : List ℕ). AreNumbersOf (terms_in rows) g entry.numbers) same right.numbers) (sym counts.0) counts.1
 
+-- a code has a byte at least
+pub long_codes : (xs : List ℕ) → length xs ≤ length (codes_of xs)
+long_codes [] = omega arith
+long_codes (x ∷ xs) = omega (arith, long_codes xs, some_code_byte x, length-append (code_of x) (codes_of xs))
+
 -- ---- the row of what was read
 
 -- What was read: a gram, a count, and as many numbers; and where they stand.
@@ -168,10 +173,6 @@ module _ (rows : List PlacedTerm) (section left gram behind gaps rest : List ℕ
   row_found =
       r.text ∙ ap (λ bytes. counted gram ++ bytes) (r.coded ∙ ap₂ (λ n bytes. code_of n ++ bytes) (sym r.many) r.gap_bytes) ∙ sym (bytes_split (entry gram r.numbers) rest)
       ∙ ap (λ e. gram_bytes e ++ rest) (sym entry_is)
-
-  long_codes : (xs : List ℕ) → length xs ≤ length (codes_of xs)
-  long_codes [] = omega arith
-  long_codes (x ∷ xs) = omega (arith, long_codes xs, some_code_byte x, length-append (code_of x) (codes_of xs))
 
   pub row_size : count + length rest ≤ length left
   row_size =

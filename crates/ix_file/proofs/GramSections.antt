@@ -2,25 +2,27 @@
 use Rattle.std.proofs.Common.{◌≡◌, ◌≢◌, ℕ, ◌+◌, ◌-◌, ◌<◌, ◌≤◌, List, [], ◌∷◌, ◌++◌, map, length, flat_map, All, Option, Some, None, Bor, MatchOption, refl, sym, ap, ap₂, subst, ◌∙◌, arith, length-append, slice_get}
 use Rattle.std.proofs.lemmas.List.{append_assoc, append-nil, nil_from_length, map-append}
 use Rattle.std.proofs.lemmas.List.Elements.{All-nil, All-push, All-head, All-tail, All-get_or, All-contains, Contains-push}
-use Rattle.std.proofs.lemmas.List.Sums.{sum_by_push}
+use Rattle.std.proofs.lemmas.List.Sums.{sum_by_push, sum_by-cons}
 use Rattle.ix_text.specs.ByteOrder.{IsAscending}
 use Rattle.ix_text.specs.Parts.{GramEntry}
 use Rattle.ix_vbyte.specs.Code.{code_of}
-use Rattle.ix_vbyte.specs.Gaps.{gaps_from, next_after}
+use Rattle.ix_vbyte.specs.Gaps.{gaps_from, gaps_of, next_after}
 use Rattle.ix_vbyte.specs.Postings.{codes_of}
 use Rattle.ix_vbyte.specs.Texts.{counted}
+use Rattle.ix_vbyte.proofs.Gaps.{length-gaps_from}
 use Rattle.ix_vbyte.proofs.Texts.{counted-apart}
 use Rattle.ix_vbyte.proofs.Values.{some_code_byte, code_of-apart}
 use Rattle.ix_file.specs.declared.open.grams.GramRow.{GramRow}
 use Rattle.ix_file.specs.GramTables.{entry}
 use Rattle.ix_file.specs.Grams.{AreGramsOfTerms}
-use Rattle.ix_file.specs.OpenedGrams.{IsGramRow, IsRightEntry, gap_codes, gram_bytes, gram_in, grams_in}
+use Rattle.ix_file.specs.OpenedGrams.{AreRightRows, IsGramRow, IsRightEntry, gap_codes, gram_bytes, gram_in, grams_in, numbers_listed}
 use Rattle.ix_file.specs.Sections.{grams_section}
 use Rattle.ix_file.proofs.AscendingLemmas.{ascending_front, ascending_none, follows, followed, from_borrowed, to_borrowed, MayFollowBorrowed}
 use Rattle.ix_file.proofs.Continuing.{GoesOn, HasNext, read_more}
-use Rattle.ix_file.proofs.GramKeys.{right_entries, total_of, keys_of, as_many, all_keys, length_keys}
+use Rattle.ix_file.proofs.GramKeys.{right_entries, keys_of, as_many, all_keys, length_keys}
 use Rattle.ix_file.proofs.GramNumbers.{go_on}
-use Rattle.ix_file.proofs.GramReading.{bytes_split}
+use Rattle.ix_file.proofs.GramReading.{bytes_split, long_codes}
+use Rattle.ix_file.proofs.PairCounts.{as_many_pairs}
 use Rattle.ix_file.proofs.StopReading.{All-front}
 use Rattle.ix_file.specs.GramPairs.{AreAllPairs}
 use Rattle.std.proofs.lemmas.Option.{slice_get_within, get_or_from_slice_get}
@@ -82,7 +84,7 @@ pub record AreReadGrams (terms : List (List ℕ)) (section : List ℕ) (table : 
   pub ascending : IsAscending (map (text_in section) table)
   pub rows : All (IsGramRow section) table
   pub read : section ≡ grams_section (grams_in section table) ++ left
-  pub sum : total ≡ total_of (grams_in section table)
+  pub sum : total ≡ numbers_listed (grams_in section table)
   pub room : total + length left ≤ length section
 
 pub no_grams : (terms : List (List ℕ)) (section : List ℕ) → AreReadGrams terms section [] 0 section
@@ -123,8 +125,8 @@ module _ (terms : List (List ℕ)) (section : List ℕ) (table : List GramRow) (
         subst (λ (grams : List GramEntry). section ≡ grams_section grams ++ rest) (sym (grams_push section table row))
         (read_more gram_bytes section (grams_in section table) (gram_in section row) left rest r.read stands);
     sum =
-        subst (λ (grams : List GramEntry). total + row.count ≡ total_of grams) (sym (grams_push section table row))
-        (let sum : total ≡ total_of (grams_in section table) = r.sum in omega (arith, sum, many, sum_by_push (λ (e : GramEntry). length e.numbers) (grams_in section table) (gram_in section row)));
+        subst (λ (grams : List GramEntry). total + row.count ≡ numbers_listed grams) (sym (grams_push section table row))
+        (let sum : total ≡ numbers_listed (grams_in section table) = r.sum in omega (arith, sum, many, sum_by_push (λ (e : GramEntry). length e.numbers) (grams_in section table) (gram_in section row)));
     room = let room : total + length left ≤ length section = r.room in omega (arith, room, size);
   }
 
@@ -161,19 +163,49 @@ module _ (terms : List (List ℕ)) (section : List ℕ) (table : List GramRow) (
         (followed (text_in section) (text_in section row) table (option_copied before) last
         (ascending_front (map (text_in section) table ++ text_in section row ∷ []) (map (λ (e : GramEntry). e.gram) n.more) (subst IsAscending texts are.ascending)))
 
-    -- at the end their number is the total
-    pub total_there : length left ≡ 0 → (pairs : List (List ℕ × ℕ)) × AreAllPairs terms pairs × (length pairs ≡ total)
-    total_there none =
-        let one = no_more_entries terms (grams_in section table) grams left none go_on_here in
-        let sum : total ≡ total_of (grams_in section table) = r.sum in
-        (keys_of grams, all_keys terms grams are, omega (arith, length_keys grams, sum, ap total_of one))
+  -- at the end
+  pub right_rows : length left ≡ 0 → AreRightRows terms section table
+  right_rows none = record {
+    right = r.right;
+    ascending = subst IsAscending (sym (texts_in section table)) r.ascending;
+    spelled = r.read ∙ ap (λ bytes. grams_section (grams_in section table) ++ bytes) (nil_from_length left none) ∙ append-nil (grams_section (grams_in section table));
+    gaps = r.rows;
+  }
+
+-- ---- how many numbers a section lists
+
+long_entry : (e : GramEntry) → length e.numbers ≤ length (gram_bytes e)
+long_entry e = omega (arith, long_codes (gaps_of e.numbers), length-gaps_from 0 e.numbers, length-append (counted e.gram ++ code_of (length e.numbers)) (gap_codes e.numbers))
+
+long_section : (grams : List GramEntry) → numbers_listed grams ≤ length (flat_map gram_bytes grams)
+long_section [] = omega arith
+long_section (e ∷ grams) =
+    let step : numbers_listed (e ∷ grams) ≡ length e.numbers + numbers_listed grams = sum_by-cons (λ (x : GramEntry). length x.numbers) e grams in
+    omega (arith, step, long_section grams, long_entry e, length-append (gram_bytes e) (flat_map gram_bytes grams))
+
+-- terms whose grams the section lists have no more of them than it has bytes
+pub not_too_many : (terms : List (List ℕ)) (section : List ℕ) (grams : List GramEntry) → AreGramsOfTerms terms grams → section ≡ grams_section grams → ¬ ((pairs : List (List ℕ × ℕ)) → AreAllPairs terms pairs → length section < length pairs)
+unfolding grams_section
+not_too_many terms section grams are same refused =
+    let many = refused (keys_of grams) (all_keys terms grams are) in
+    omega (arith, many, length_keys grams, long_section grams, ap length same)
+
+module _ (terms : List (List ℕ)) (section : List ℕ) (table : List GramRow) (r : AreRightRows terms section table) where
+  -- grams of the terms whose section this is
+  rows_are : (grams : List GramEntry) → AreGramsOfTerms terms grams → section ≡ grams_section grams → grams ≡ grams_in section table
+  unfolding grams_section
+  rows_are grams are same =
+      no_more_entries terms (grams_in section table) grams [] refl
+      (entries_go_on terms (grams_in section table) grams [] r.right (right_entries terms grams are) (sym same ∙ r.spelled ∙ sym (append-nil (flat_map gram_bytes (grams_in section table)))))
+
+  -- list as many numbers as there are pairs
+  pub as_many_there : (grams : List GramEntry) → AreGramsOfTerms terms grams → section ≡ grams_section grams → (pairs : List (List ℕ × ℕ)) → AreAllPairs terms pairs → length pairs ≡ numbers_listed (grams_in section table)
+  as_many_there grams are same pairs all =
+      omega (arith, as_many_pairs terms pairs (keys_of grams) all (all_keys terms grams are), length_keys grams, ap numbers_listed (rows_are grams are same))
 
   -- and as many as there are pairs are the grams of the terms
-  pub whole_grams : length left ≡ 0 → (pairs : List (List ℕ × ℕ)) × AreAllPairs terms pairs × (length pairs ≡ total) → AreGramsOfTerms terms (grams_in section table) × (section ≡ grams_section (grams_in section table))
-  whole_grams none (pairs, all, many) = (
-    as_many terms (grams_in section table) pairs (subst IsAscending (sym (texts_in section table)) r.ascending) r.right all (let sum : total ≡ total_of (grams_in section table) = r.sum in omega (arith, sum, many)),
-    r.read ∙ ap (λ bytes. grams_section (grams_in section table) ++ bytes) (nil_from_length left none) ∙ append-nil (grams_section (grams_in section table)),
-  )
+  pub whole_grams : (pairs : List (List ℕ × ℕ)) → AreAllPairs terms pairs → length pairs ≡ numbers_listed (grams_in section table) → AreGramsOfTerms terms (grams_in section table) × (section ≡ grams_section (grams_in section table))
+  whole_grams pairs all many = (as_many terms (grams_in section table) pairs r.ascending r.right all many, r.spelled)
 
 -- the last row is one of them
 pub last_row : (section : List ℕ) (table : List GramRow) (before : Option (Bor GramRow)) → option_copied before ≡ slice_get table (length table - 1) → All (IsGramRow section) table → MatchOption before (Unit {0}) (λ b. IsGramRow section b.now)

@@ -1,5 +1,6 @@
 -- The grams of an opened index, where they stand in GRAMS.
-use Rattle.std.specs.Prelude.{◌≡◌, ◌≢◌, ℕ, ◌+◌, ◌<◌, ◌≤◌, List, ◌++◌, map, length, slice_range, slice_get, Some, Option, IfSome, IfNone, All}
+use Rattle.std.specs.Prelude.{◌≡◌, ◌≢◌, ℕ, ◌+◌, ◌<◌, ◌≤◌, List, ◌++◌, map, length, slice_range, slice_get, sum_by, Some, Option, IfSome, IfNone, All}
+use Rattle.ix_text.specs.ByteOrder.{IsAscending}
 use Rattle.ix_text.specs.Parts.{GramEntry}
 use Rattle.ix_vbyte.specs.Code.{code_of}
 use Rattle.ix_vbyte.specs.Gaps.{Ascends, gaps_of}
@@ -7,6 +8,7 @@ use Rattle.ix_vbyte.specs.Postings.{codes_of}
 use Rattle.ix_vbyte.specs.Texts.{counted}
 use Rattle.ix_vbyte.specs.Walking.{ArePositionsFrom, positions_told}
 use Rattle.ix_file.specs.Grams.{IsGramOfTerm}
+use Rattle.ix_file.specs.Sections.{grams_section}
 use Rattle.ix_file.specs.declared.open.grams.GramRow.{GramRow}
 
 -- the entry that a row of the table stands for, in this section
@@ -48,3 +50,14 @@ pub record AreNumbersOf (terms : List (List ℕ)) (gram : List ℕ) (numbers : L
 pub record IsRightEntry (terms : List (List ℕ)) (entry : GramEntry) : Type 0 where
   pub some : 0 < length entry.numbers
   pub numbers : AreNumbersOf terms entry.gram entry.numbers
+
+-- how many numbers stand under grams
+abbrev pub numbers_listed : List GramEntry → ℕ
+numbers_listed grams = sum_by (λ entry. length entry.numbers) grams
+
+-- the section is of ascending grams, each with some of the terms that have it, which stand where the rows say
+pub record AreRightRows (terms : List (List ℕ)) (section : List ℕ) (rows : List GramRow) : Type 0 where
+  pub right : All (IsRightEntry terms) (grams_in section rows)
+  pub ascending : IsAscending (map (λ entry. entry.gram) (grams_in section rows))
+  pub spelled : section ≡ grams_section (grams_in section rows)
+  pub gaps : All (IsGramRow section) rows

@@ -53,7 +53,8 @@ pub(crate) fn read_tables(alloc: Global, frame: &Frame<'_>) -> Result<Tables, Op
     Ok(tables_of(frame, catalog, longs, grams))
 }
 
-/// Reads the tables as `read_tables` does: POSTINGS and GRAMS side by side, in two threads where there may be two.
+/// Reads the tables as `read_tables` does: POSTINGS and GRAMS side by side, and beside them how many grams the terms
+/// have, in three threads where there may be three.
 ///
 /// The same errors in the same order: where both are refused, those of POSTINGS.
 pub(crate) fn read_tables_beside<R: Threads>(
@@ -95,7 +96,7 @@ pub(crate) fn read_tables_beside<R: Threads>(
             ⊎ AreNoSections (version_in frame.entry.now.version)
             (texts_in frame.entry.now.sections) frame.entry.now.documents
             frame.entry.now.terms) }
-    { catalog.check_grams(alloc, frame) };
+    { catalog.check_grams_beside(rt, alloc, frame) };
     let (longs, grams) = join(rt, check_postings, check_grams);
     let longs = longs?;
     let grams = grams?;

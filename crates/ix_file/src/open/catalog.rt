@@ -11,13 +11,14 @@ use crate::open::claims::Claims;
 use crate::open::dictionary::read_dictionary;
 use crate::open::documents::{Row, read_documents};
 use crate::open::frame::Frame;
-use crate::open::grams::{GramRow, read_grams};
+use crate::open::grams::{GramRow, read_grams, read_grams_beside};
 use crate::open::lists::check_lists;
 use crate::open::stop::read_stop;
 use crate::open::tables::LongList;
 use crate::open::terms::Terms;
 use ix_text::{StopList, TokenTable};
 use std::alloc::{AllocError, Global};
+use std::thread::Threads;
 
 /// The stop list, the documents and the terms of an index text.
 #[derive(Drop)]
@@ -100,6 +101,27 @@ impl Catalog {
             frame.now.documents frame.now.terms) }
     {
         let rows = read_grams(alloc, frame.sections.grams, &self.terms)?;
+        Ok(rows)
+    }
+
+    /// Reads GRAMS as `check_grams` does, and counts the grams of the terms beside it, in two threads where there may be
+    /// two. It answers the same.
+    pub(crate) fn check_grams_beside<R: Threads>(
+        &self,
+        rt: &R,
+        alloc: Global,
+        frame: &Frame<'_>,
+    ) -> Result<Vec<GramRow>, OpenError>
+        requires few { frame.now.terms < 2 ^ 32 }
+        requires catalog { IsCatalogOf (version_in frame.now.version) (texts_in frame.now.sections)
+            self.now frame.now.documents frame.now.terms }
+        ensures found { IfOk result (λ rows.
+            AreGramRowsOf (texts_in frame.now.sections) self.now rows.items) }
+        ensures refused { IfErr result (λ error. (error ≡ Memory)
+            ⊎ AreNoSections (version_in frame.now.version) (texts_in frame.now.sections)
+            frame.now.documents frame.now.terms) }
+    {
+        let rows = read_grams_beside(rt, alloc, frame.sections.grams, &self.terms)?;
         Ok(rows)
     }
 }

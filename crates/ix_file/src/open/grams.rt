@@ -5,18 +5,20 @@ ghost use Rattle.ix_text.specs.ByteOrder.{IsAscending};
 ghost use Rattle.ix_text.specs.Parts.{GramEntry};
 ghost use Rattle.ix_file.specs.Grams.{AreGramsOfTerms, IsGramOfTerm};
 ghost use Rattle.ix_file.specs.WindowPairs.{gram_of};
-ghost use Rattle.ix_file.specs.OpenedGrams.{AreNumbersOf, FindsGram, IsGramRow, IsRightEntry, gap_codes, gram_in, grams_in};
+ghost use Rattle.ix_file.specs.GramPairs.{AreAllPairs};
+ghost use Rattle.ix_file.specs.OpenedGrams.{AreNumbersOf, AreRightRows, FindsGram, IsGramRow, IsRightEntry, gap_codes, gram_in, grams_in, numbers_listed};
 ghost use Rattle.ix_file.specs.PlacedTerms.{terms_in};
 ghost use Rattle.ix_file.specs.OpenedGrams as opened;
 ghost use Rattle.ix_file.specs.Sections.{grams_section};
 ghost use Rattle.ix_file.specs.declared.open_error.OpenError.TheVariants.{Memory};
 
 use crate::open::front::{read_number, read_text};
-use crate::open::pairs::{GramPair, check_total, has_gram, pair_of};
+use crate::open::pairs::{GramPair, count_pairs, has_gram, pair_of};
 use crate::open::terms::Terms;
 use crate::{OpenError, Section};
 use std::alloc::Global;
 use std::cmp::Ordering;
+use std::thread::{Threads, join};
 
 /// A gram: where it stands in GRAMS and how many bytes it has, how many terms have it, and where in GRAMS the gaps
 /// of their numbers stand and how many bytes these take.
@@ -47,20 +49,91 @@ pub(crate) fn read_grams(
         ⊎ ((grams : List GramEntry) → AreGramsOfTerms (terms_in terms.now) grams →
         section.now ≢ grams_section grams)) }
 {
+    let (rows, listed) = read_rows(alloc, section, terms)?;
+    let total = count_pairs(alloc, terms, section.len())?;
+    if listed != total {
+        return Err(OpenError::Grams);
+    }
+    Ok(rows)
+}
+
+/// Reads GRAMS as `read_grams` does, and counts the grams of the terms beside it, in two threads where there may be two.
+pub(crate) fn read_grams_beside<R: Threads>(
+    rt: &R,
+    alloc: Global,
+    section: &[u8],
+    terms: &Terms,
+) -> Result<Vec<GramRow>, OpenError>
+    requires few { length terms.now < 2 ^ 32 }
+    requires texts { All IsUtf8 (terms_in terms.now) }
+    ensures grams { IfOk result (λ rows. AreGramsOfTerms (terms_in terms.now)
+        (grams_in section.now rows.items) × (section.now ≡ grams_section
+        (grams_in section.now rows.items))) }
+    ensures rows { IfOk result (λ rows. All (IsGramRow section.now) rows.items) }
+    ensures refused { IfErr result (λ error. (error ≡ Memory)
+        ⊎ ((grams : List GramEntry) → AreGramsOfTerms (terms_in terms.now) grams →
+        section.now ≢ grams_section grams)) }
+{
+    let count = || -> Result<usize, OpenError>
+        requires { length terms.now < 2 ^ 32 }
+        ensures found { IfOk result (λ total. (pairs : List (List ℕ × ℕ))
+            × AreAllPairs (terms_in terms.entry.now) pairs × (length pairs ≡ total)) }
+        ensures refused { IfErr result (λ error. (error ≡ Memory)
+            ⊎ ((pairs : List (List ℕ × ℕ)) → AreAllPairs (terms_in terms.entry.now) pairs →
+            length section.entry.now < length pairs)) }
+    { count_pairs(alloc, terms, section.len()) };
+    let read = || -> Result<(Vec<GramRow>, usize), OpenError>
+        requires few { length terms.now < 2 ^ 32 }
+        requires texts { All IsUtf8 (terms_in terms.now) }
+        ensures found { IfOk result (λ read.
+            AreRightRows (terms_in terms.entry.now) section.entry.now read.0.items) }
+        ensures listed { IfOk result (λ read.
+            read.1 ≡ numbers_listed (grams_in section.entry.now read.0.items)) }
+        ensures refused { IfErr result (λ error. (error ≡ Memory)
+            ⊎ ((grams : List GramEntry) → AreGramsOfTerms (terms_in terms.entry.now) grams →
+            section.entry.now ≢ grams_section grams)) }
+    { read_rows(alloc, section, terms) };
+    let (total, read) = join(rt, count, read);
+    let (rows, listed) = read?;
+    let total = total?;
+    if listed != total {
+        return Err(OpenError::Grams);
+    }
+    Ok(rows)
+}
+
+/// Reads the rows of GRAMS, each of a gram with numbers of terms that have it, and counts the numbers. Whether a number
+/// is missing is not looked at.
+///
+/// `Grams` where the section is of no such rows, or `Memory`.
+fn read_rows(
+    alloc: Global,
+    section: &[u8],
+    terms: &Terms,
+) -> Result<(Vec<GramRow>, usize), OpenError>
+    requires few { length terms.now < 2 ^ 32 }
+    requires texts { All IsUtf8 (terms_in terms.now) }
+    ensures found { IfOk result (λ read.
+        AreRightRows (terms_in terms.now) section.now read.0.items) }
+    ensures listed { IfOk result (λ read.
+        read.1 ≡ numbers_listed (grams_in section.now read.0.items)) }
+    ensures refused { IfErr result (λ error. (error ≡ Memory)
+        ⊎ ((grams : List GramEntry) → AreGramsOfTerms (terms_in terms.now) grams →
+        section.now ≢ grams_section grams)) }
+{
     let mut rows: Vec<GramRow> = Vec::new(alloc);
-    let mut total = 0;
+    let mut listed = 0;
     let mut left = section;
     while !left.is_empty() {
         let (row, rest) = read_gram(section, left, terms)?;
         if !is_above(section, row, rows.last()) {
             return Err(OpenError::Grams);
         }
-        total += row.count as usize;
+        listed += row.count as usize;
         rows.push(row)?;
         left = rest;
     }
-    check_total(alloc, terms, total)?;
-    Ok(rows)
+    Ok((rows, listed))
 }
 
 /// The row of the gram that what is left of GRAMS begins with, and what follows it.

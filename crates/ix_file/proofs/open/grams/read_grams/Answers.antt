@@ -1,53 +1,23 @@
-use Rattle.std.proofs.Common.{◌≡◌, ◌<◌, length, inl, inr, ⊎_elim, arith}
-use Rattle.std.proofs.lemmas.Bool.Decides.{nat_tests}
+use Rattle.std.proofs.Common.{⊎_elim, inl, inr, sym, ◌∙◌}
 use Rattle.std.proofs.lemmas.Result.{err_from_is_err_and}
 use Rattle.ix_file.specs.PlacedTerms.{terms_in}
-use Rattle.ix_file.proofs.GramSections.{no_grams, more_grams, no_next_gram, next_above, total_there, whole_grams}
+use Rattle.ix_file.proofs.GramSections.{as_many_there, not_too_many, whole_grams}
 use Rattle.ix_file.proofs.open.grams.read_grams.Goals as goal
 
-pub loop-left-init : goal.loop-left-init
-loop-left-init c = rw c.new-rows.ensures.items (no_grams (terms_in c.args.terms.now) c.args.section.now)
+pub returns-in_err-total-clause-refused : goal.returns-in_err-total-clause-refused
+returns-in_err-total-clause-refused c =
+    let p = err_from_is_err_and c.from_residual-in_err-total.result c.from_residual-in_err-total.ensures.1 in
+    rw (p.1, p.2)
+    (⊎_elim inl (λ refused. inr (λ grams are same. not_too_many (terms_in c.args.terms.now) c.args.section.now grams are same refused)) c.in_err-total.ensures.refused)
 
-pub returns-in_err-row-clause-refused : goal.returns-in_err-row-clause-refused
-returns-in_err-row-clause-refused c =
-    let p = err_from_is_err_and c.from_residual.result c.from_residual.ensures.1 in
-    let some : 0 < length c.loop-left.left.now = grind (arith, nat_tests, c.is_empty.ensures, c.loop-left-test.true) in
-    rw p.1
-    (inr
-    (λ grams are same.
-    no_next_gram (terms_in c.args.terms.now) c.args.section.now c.loop-left.rows.items c.loop-left.total c.loop-left.left.now c.loop-left.invariant grams are same some c.in_err-row.ensures.refused))
-
-pub returns-then-not-is_above-clause-refused : goal.returns-then-not-is_above-clause-refused
-returns-then-not-is_above-clause-refused c =
-    let some : 0 < length c.loop-left.left.now = grind (arith, nat_tests, c.is_empty.ensures, c.loop-left-test.true) in
-    let before = rw c.deref.ensures.value at c.last.ensures.value in
+pub returns-then-listed-total-clause-refused : goal.returns-then-listed-total-clause-refused
+returns-then-listed-total-clause-refused c =
+    let (pairs, all, many) = c.in_ok-total.ensures.found in
     inr
     (λ grams are same.
-    let above = next_above (terms_in c.args.terms.now) c.args.section.now c.loop-left.rows.items c.loop-left.total c.loop-left.left.now c.loop-left.invariant grams are same some c.in_ok-row.row c.in_ok-row.rest.now c.last.result before c.in_ok-row.ensures.entry c.in_ok-row.ensures.found in
-    let t = c.is_above.ensures.1 above in
-    let f = c.if-not-is_above.true in
-    absurd cc)
-
-pub loop-left-preserved : goal.loop-left-preserved
-loop-left-preserved c =
-    let before = rw c.deref.ensures.value at c.last.ensures.value in
-    rw c.in_ok-push.ensures.items
-    (more_grams (terms_in c.args.terms.now) c.args.section.now c.loop-left.rows.items c.loop-left.total c.loop-left.left.now c.loop-left.invariant c.in_ok-row.row c.in_ok-row.rest.now c.last.result before c.in_ok-row.ensures.entry c.in_ok-row.ensures.row c.in_ok-row.ensures.found c.in_ok-row.ensures.size
-    c.in_ok-row.ensures.row.coded.counted (c.is_above.ensures.0 c.if-not-is_above.false))
-
-pub returns-in_err-check_total-clause-refused : goal.returns-in_err-check_total-clause-refused
-returns-in_err-check_total-clause-refused c =
-    let p = err_from_is_err_and c.from_residual-in_err-check_total.result c.from_residual-in_err-check_total.ensures.1 in
-    let nothing : length c.loop-left.left.now ≡ 0 = grind (arith, nat_tests, c.is_empty.ensures, c.loop-left-test.false) in
-    rw (p.1, p.2)
-    (⊎_elim inl
-    (λ refused. inr
-    (λ grams are same.
-    let there = total_there (terms_in c.args.terms.now) c.args.section.now c.loop-left.rows.items c.loop-left.total c.loop-left.left.now c.loop-left.invariant grams are same nothing in
-    refused there.0 there.1 there.2))
-    c.in_err-check_total.ensures.refused)
+    c.if-listed-total.true (c.in_ok-rows.ensures.listed ∙ sym (as_many_there (terms_in c.args.terms.now) c.args.section.now c.in_ok-rows.rows.items c.in_ok-rows.ensures.found grams are same pairs all) ∙ many))
 
 pub returns-clause-grams : goal.returns-clause-grams
 returns-clause-grams c =
-    let nothing : length c.loop-left.left.now ≡ 0 = grind (arith, nat_tests, c.is_empty.ensures, c.loop-left-test.false) in
-    whole_grams (terms_in c.args.terms.now) c.args.section.now c.loop-left.rows.items c.loop-left.total c.loop-left.left.now c.loop-left.invariant nothing c.in_ok-check_total.ensures.found
+    let (pairs, all, many) = c.in_ok-total.ensures.found in
+    whole_grams (terms_in c.args.terms.now) c.args.section.now c.in_ok-rows.rows.items c.in_ok-rows.ensures.found pairs all (many ∙ sym c.if-listed-total.false ∙ c.in_ok-rows.ensures.listed)
