@@ -29,6 +29,7 @@ impl Model for Searchers {
 impl Searchers {
     /// The number, 1 to 64.
     pub fn count(&self) -> usize
+        ensures count { result ≡ self.now }
         ensures range { (1 ≤ result) × (result ≤ 64) }
     {
         self.count as usize
