@@ -91,8 +91,8 @@ impl Volume {
         })
     }
 
-    /// Opens an index text as `open` does, and checks POSTINGS and GRAMS side by side, each in a thread of its own where
-    /// there may be two. It answers the same: of two errors that of POSTINGS.
+    /// Opens an index text as `open` does, and checks POSTINGS and GRAMS side by side, in three threads where there may
+    /// be three. It answers the same: of two errors that of POSTINGS.
     pub fn open_beside<R: Threads>(
         rt: &R,
         alloc: Global,

@@ -8,7 +8,7 @@ use std::thread::Threads;
 /// A text from the bytes of its sections and the counts of its trailer, and why it is refused.
 pub(crate) type Case<'a> = ([&'a [u8]; 5], [u32; 2], &'a str);
 
-/// Whether the texts of a version with these sections are refused so, also where they are checked in two threads.
+/// Whether the texts of a version with these sections are refused so, also where they are checked side by side.
 pub(crate) fn are_refused(
     rt: &impl Threads,
     alloc: Global,

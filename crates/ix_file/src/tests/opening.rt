@@ -60,7 +60,7 @@ pub(crate) fn refusal(alloc: Global, text: &[u8]) -> Result<String, Fail> {
     }
 }
 
-/// The same where it is checked in two threads.
+/// The same where it is checked in threads side by side.
 pub(crate) fn refusal_beside(
     rt: &impl Threads,
     alloc: Global,
