@@ -17,7 +17,7 @@ use Rattle.ix_build.specs.BlockRuns.{GivesRun, IsRunOfBlock, RefusesNoBlock, Sta
 use Rattle.ix_build.specs.Outcomes.{IsMade, IsRefusedAt}
 use Rattle.ix_build.specs.Shares.{all_of, gained, new_askings}
 
-abbrev pub asked_of : BlockMaker → List Asked
+abbrev pub asked_of : {V : Type 0} → BlockMaker V → List Asked
 asked_of maker = maker.asked.items
 
 abbrev weight : Bool → ℕ
@@ -41,8 +41,8 @@ counted_there (first ∷ askings) asked c =
     (contains_cases first askings asked c)
 
 -- an asking of all new ones is a new one of some maker
-asked_of_one : (before after : List BlockMaker) (asked : Asked) → Contains (all_of (new_askings asked_of before after)) asked
-    → (w : ℕ) × (old : BlockMaker) × (new : BlockMaker) × (slice_get before w ≡ Some old) × (slice_get after w ≡ Some new) × Contains (gained (asked_of old) (asked_of new)) asked
+asked_of_one : {V : Type 0} (before after : List (BlockMaker V)) (asked : Asked) → Contains (all_of (new_askings asked_of before after)) asked
+    → (w : ℕ) × (old : BlockMaker V) × (new : BlockMaker V) × (slice_get before w ≡ Some old) × (slice_get after w ≡ Some new) × Contains (gained (asked_of old) (asked_of new)) asked
 asked_of_one [] after asked c = absurd (let within = c.1 in omega (arith, within))
 asked_of_one (old ∷ before) [] asked c = absurd (let within = c.1 in omega (arith, within))
 asked_of_one (old ∷ before) (new ∷ after) asked c =
@@ -51,7 +51,7 @@ asked_of_one (old ∷ before) (new ∷ after) asked c =
     (λ later. let t = asked_of_one before after asked later in (suc t.0, t.1, t.2, t.3, t.4, t.5))
     (Contains-append_cases (gained (asked_of old) (asked_of new)) (all_of (new_askings asked_of before after)) asked c)
 
-module _ (texts : List NamedText) (stop : List (List ℕ)) (bounds : List ℕ) (makers after : List BlockMaker) (are : All (IsMakerOf texts stop bounds) makers) where
+module _ {V : Type 0} (texts : List NamedText) (stop : List (List ℕ)) (bounds : List ℕ) (makers after : List (BlockMaker V)) (are : All (IsMakerOf texts stop bounds) makers) where
   -- each run is that of its block
   pub made_between : (count : ℕ) (runs : List RunValue) → IsMade asked_of GivesRun StaysMakerOf makers count after runs → (place : ℕ) (run : RunValue) → slice_get runs place ≡ Some run → IsRunOfBlock texts stop bounds place run
   made_between count runs made place run at =

@@ -31,7 +31,7 @@ module _ (cut : Cut) (texts : List NamedText) (bounds : List ℕ) (are : AreBoun
       let more = length-append are.of_cut.before (are.of_cut.last ∷ []) in
       omega (arith, in_order, more)
 
-  module _ (stop : List (List ℕ)) (makers after : List BlockMaker) (each : All (IsMakerOf texts stop bounds) makers) (count : ℕ) (size : count + 1 ≡ length bounds) where
+  module _ {V : Type 0} (stop : List (List ℕ)) (makers after : List (BlockMaker V)) (each : All (IsMakerOf texts stop bounds) makers) (count : ℕ) (size : count + 1 ≡ length bounds) where
     pub all_inverted : (runs : List RunValue) → IsMade asked_of GivesRun StaysMakerOf makers count after runs → AreRunsOfTexts stop texts runs
     all_inverted runs made =
         let counted = bounds_counted 0 are.blocks in

@@ -7,7 +7,7 @@ use Rattle.ix_build.specs.declared.maker.Asked.{Asked}
 use Rattle.ix_build.specs.Shares.{gained}
 use Rattle.ix_build.specs.BlockRuns.{RefusesNoBlock, StaysMakerOf}
 
-pub stays_itself : (maker : BlockMaker) → StaysMakerOf maker maker
+pub stays_itself : {V : Type 0} (maker : BlockMaker V) → StaysMakerOf maker maker
 stays_itself maker =
     let askings = maker.asked.items in
     let none : gained askings askings ≡ [] = drop_all (length askings) askings (omega arith) in
@@ -26,7 +26,7 @@ gained_twice first second third one two =
     ap (gained first) (two ∙ ap (λ (l : List Asked). l ++ gained second third) one ∙ append_assoc first (gained first second) (gained second third))
     ∙ drop_at first both (length first) refl
 
-pub stays_on : (first second third : BlockMaker) → StaysMakerOf first second → StaysMakerOf second third → StaysMakerOf first third
+pub stays_on : {V : Type 0} (first second third : BlockMaker V) → StaysMakerOf first second → StaysMakerOf second third → StaysMakerOf first third
 stays_on first second third one two =
     let a = first.asked.items in
     let b = second.asked.items in

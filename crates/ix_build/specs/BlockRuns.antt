@@ -18,7 +18,7 @@ pub record IsRunOfBlock (texts : List NamedText) (stop : List (List ℕ)) (bound
   pub of_block : IsRunOf run from (collection_of stop (slice_range texts from to))
 
 -- a run that a maker of blocks may give for a place
-abbrev pub GivesRun : BlockMaker → ℕ → RunValue → Type 0
+abbrev pub GivesRun : {V : Type 0} → BlockMaker V → ℕ → RunValue → Type 0
 GivesRun maker place run = IsRunOfBlock (map named_text maker.docs.now) maker.stop.now maker.bounds.now place run
 
 -- no block was refused: the place has none, or the error is another
@@ -26,7 +26,7 @@ abbrev pub RefusesNoBlock : List ℕ → Asked → Type 0
 RefusesNoBlock bounds asked = asked.place + 1 < length bounds → asked.error ≢ Some Refused
 
 -- The same maker, later: of the same documents, stop list and bounds, with further askings that refused no block.
-pub record StaysMakerOf (old new : BlockMaker) : Type 0 where
+pub record StaysMakerOf {V : Type 0} (old new : BlockMaker V) : Type 0 where
   pub docs : new.docs.now ≡ old.docs.now
   pub stop : new.stop.now ≡ old.stop.now
   pub bounds : new.bounds.now ≡ old.bounds.now

@@ -8,6 +8,7 @@ ghost use Rattle.ix_build.specs.Blocks.{AscendUpTo};
 
 use crate::errors::MakeError;
 use crate::maker::{Asked, Maker};
+use crate::watch::Watch;
 use ix_run::{Run, RunError, invert};
 use ix_text::{Doc, Memory, StopList, tokens_are_no_more_than_bytes};
 use std::alloc::Global;
@@ -15,18 +16,19 @@ use std::alloc::Global;
 /// Inverts the block of a place (IIR 4.3). Documents, stop list and bounds are borrowed, and no text is copied. The
 /// block of place k has the documents from bound k up to bound k + 1.
 #[derive(Drop)]
-pub(crate) struct BlockMaker<'a> {
+pub(crate) struct BlockMaker<'a, V> {
     pub(crate) alloc: Global,
     pub(crate) docs: &'a [Doc<'a>],
     pub(crate) stop: &'a StopList,
     pub(crate) bounds: &'a [usize],
     pub(crate) asked: Vec<Asked>,
+    pub(crate) watch: &'a V,
     ghost ascending: { AscendUpTo (length docs.now) bounds.now },
     ghost few_documents: { length docs.now ≤ 2 ^ 28 },
     ghost few_tokens: { token_total (collection_of stop.now (map named_text docs.now)) ≤ 2 ^ 28 },
 }
 
-impl<'a> BlockMaker<'a> {
+impl<'a, V> BlockMaker<'a, V> {
     ghost use Rattle.std.specs.Prelude.{◌<◌, ◌-◌, ◌∷◌, ◌++◌, vec_len};
     ghost use Rattle.std.specs.Vec.{vec_capacity};
 
@@ -36,7 +38,8 @@ impl<'a> BlockMaker<'a> {
         docs: &'a [Doc<'a>],
         stop: &'a StopList,
         bounds: &'a [usize],
-    ) -> BlockMaker<'a>
+        watch: &'a V,
+    ) -> BlockMaker<'a, V>
         requires ascending { AscendUpTo (length docs.now) bounds.now }
         requires small { AreSmall (map named_text docs.now) }
         ensures documents { result.docs.now ≡ docs.now }
@@ -51,6 +54,7 @@ impl<'a> BlockMaker<'a> {
             stop,
             bounds,
             asked: Vec::new(alloc),
+            watch,
         }
     }
 
@@ -80,7 +84,7 @@ pub(crate) fn block_at(bounds: &[usize], place: usize) -> Option<(usize, usize)>
     Some((bounds[place], bounds[place + 1]))
 }
 
-impl<'a> Maker for BlockMaker<'a> {
+impl<'a, V: Watch> Maker for BlockMaker<'a, V> {
     ghost use Rattle.std.specs.Prelude.{◌-◌, vec_len};
     ghost use Rattle.std.specs.Vec.{vec_capacity};
     ghost use Rattle.ix_build.specs.BlockRuns.{GivesRun, StaysMakerOf};
@@ -117,6 +121,7 @@ impl<'a> Maker for BlockMaker<'a> {
         match invert(self.alloc, &self.docs[from..to], self.stop, from as u32) {
             Ok(run) => {
                 self.asked.push_reserved(Asked { place, error: None });
+                self.watch.inverted(self.bounds.len().saturating_sub(1));
                 Ok(run)
             }
             Err(RunError::Memory) => {
@@ -139,6 +144,7 @@ mod tests {
     use super::*;
     use crate::blocks::bounds_of;
     use crate::plan::Cut;
+    use crate::watch::Unwatched;
     use ix_text::Collection;
     use std::test::Fail;
 
@@ -154,7 +160,7 @@ mod tests {
         let docs = collection.docs();
         let stop = StopList::empty(rt.alloc());
         let bounds = bounds_of(rt.alloc(), docs, Cut::Docs(2))?;
-        let mut maker = BlockMaker::new(rt.alloc(), docs, &stop, bounds.as_slice());
+        let mut maker = BlockMaker::new(rt.alloc(), docs, &stop, bounds.as_slice(), &Unwatched);
         for (place, want) in runs.iter().enumerate() {
             maker.reserve(1)?;
             let run = maker.make(place)?;

@@ -9,6 +9,7 @@ ghost use Rattle.ix_build.specs.BuildErrors.{IsBeforeWriting, IsBuildRefusal};
 use crate::build_error::BuildError;
 use crate::inverting::invert_all;
 use crate::plan::Plan;
+use crate::watch::Unwatched;
 use ix_text::{Collection, StopList};
 use std::alloc::Global;
 use std::io::Write;
@@ -38,6 +39,6 @@ pub fn build<W: Write, R: Threads + Wait + Sync>(
     ensures front { OnErr result (LeavesAlikeFront (collection_of stop.now collection.now)
         (W.contents out.old) (W.contents out.new)) }
 {
-    let blocks = invert_all(rt, alloc, collection, stop, plan)?;
+    let blocks = invert_all(rt, alloc, collection, stop, plan, &Unwatched)?;
     blocks.merge_into(alloc, out)
 }

@@ -14,6 +14,7 @@ use crate::inverted_blocks::InvertedBlocks;
 use crate::outcome::Outcome;
 use crate::plan::Plan;
 use crate::shared_work::work_all;
+use crate::watch::Watch;
 use ix_text::{Collection, Doc, Memory, StopList};
 use std::alloc::Global;
 use std::sync::Wait;
@@ -21,16 +22,17 @@ use std::thread::Threads;
 
 /// Inverts the blocks of a collection under a stop list, by the plan's workers, each in a thread of its own (IIR 4.3).
 /// The runs are kept in memory, also where the plan has a folder for them, and hold nothing of the collection: it and
-/// its text may be let go before the runs are merged.
+/// its text may be let go before the runs are merged. Whoever watches is told of each block once it is inverted.
 ///
 /// Fails with `Thread` where a thread cannot be started, and with `Memory` where memory is refused. `Spill` and `Write`
 /// do not come.
-pub fn invert_all<R: Threads + Wait + Sync>(
+pub fn invert_all<R: Threads + Wait + Sync, V: Watch>(
     rt: &R,
     alloc: Global,
     collection: &Collection<'_>,
     stop: &StopList,
     plan: &Plan,
+    watch: &V,
 ) -> Result<InvertedBlocks, BuildError>
     ensures inverted { IfOk result (AreRunsOfTexts stop.now collection.now) }
     ensures refused { IfErr result (IsInvertRefusal plan.now.workers) }
@@ -40,7 +42,7 @@ pub fn invert_all<R: Threads + Wait + Sync>(
         return Err(BuildError::Memory);
     };
     let bounds = bounds.as_slice();
-    let Ok(makers) = makers_of(alloc, docs, stop, bounds, plan.workers()) else {
+    let Ok(makers) = makers_of(alloc, docs, stop, bounds, watch, plan.workers()) else {
         return Err(BuildError::Memory);
     };
     let Outcome { makers: _, result } = work_all(rt, alloc, makers, block_count(bounds));
@@ -59,13 +61,14 @@ pub(crate) fn block_count(bounds: &[usize]) -> usize
 }
 
 /// So many makers of the blocks between the bounds.
-fn makers_of<'a>(
+fn makers_of<'a, V>(
     alloc: Global,
     docs: &'a [Doc<'a>],
     stop: &'a StopList,
     bounds: &'a [usize],
+    watch: &'a V,
     workers: usize,
-) -> Result<Vec<BlockMaker<'a>>, Memory>
+) -> Result<Vec<BlockMaker<'a, V>>, Memory>
     requires ascending { AscendUpTo (length docs.now) bounds.now }
     requires small { AreSmall (map named_text docs.now) }
     ensures as_many { IfOk result (λ makers. vec_len makers ≡ workers) }
@@ -74,7 +77,7 @@ fn makers_of<'a>(
 {
     let mut makers = Vec::with_capacity(alloc, workers)?;
     for _ in 0..workers {
-        makers.push_reserved(BlockMaker::new(alloc, docs, stop, bounds));
+        makers.push_reserved(BlockMaker::new(alloc, docs, stop, bounds, watch));
     }
     Ok(makers)
 }

@@ -33,6 +33,7 @@ mod system_files;
 mod team;
 #[cfg(test)]
 mod tests;
+mod watch;
 mod worker;
 
 pub use build_error::BuildError;
@@ -54,3 +55,4 @@ pub use run_files::RunFiles;
 pub use shared_work::work_all;
 pub use store::{RunStore, StoreError};
 pub use system_files::{SystemFile, SystemFiles};
+pub use watch::{Unwatched, Watch};

@@ -15,6 +15,7 @@ use crate::outcome::Outcome;
 use crate::saving_maker::SavingMaker;
 use crate::shared_work::work_all;
 use crate::store::RunStore;
+use crate::watch::Unwatched;
 use ix_run::RunHead;
 use ix_text::{Doc, StopList};
 use std::alloc::Global;
@@ -46,7 +47,7 @@ fn makers_over<'a, T: Drop>(
         result.items }
 {
     for store in stores {
-        let inverter = BlockMaker::new(alloc, docs, stop, bounds);
+        let inverter = BlockMaker::new(alloc, docs, stop, bounds, &Unwatched);
         makers.push_reserved(SavingMaker { inverter, store });
     }
     makers

@@ -8,6 +8,7 @@ use crate::block_maker::{BlockMaker, block_at};
 use crate::errors::MakeError;
 use crate::maker::{Asked, Maker};
 use crate::store::{RunStore, StoreError};
+use crate::watch::Unwatched;
 use ix_run::{RunError, RunHead, invert};
 use ix_text::Memory;
 
@@ -15,8 +16,8 @@ use ix_text::Memory;
 /// run the store refuses is refused.
 #[derive(Drop)]
 pub(crate) struct SavingMaker<'a, T> {
-    // The blocks, and what was asked.
-    pub(crate) inverter: BlockMaker<'a>,
+    // The blocks, and what was asked. Whoever watches sees the runs arrive in the store.
+    pub(crate) inverter: BlockMaker<'a, Unwatched>,
     pub(crate) store: T,
 }
 

@@ -2,7 +2,7 @@
 ghost use Rattle.std.specs.Prelude.{◌≡◌};
 
 use super::{FIVE_DOCUMENTS, FIVE_DOCUMENTS_INDEX};
-use crate::{BuildError, Cut, Plan, Runs, build, invert_all};
+use crate::{BuildError, Cut, Plan, Runs, Unwatched, build, invert_all};
 use ix_text::{Collection, StopList};
 use std::alloc::Global;
 use std::io::{self, Write};
@@ -86,7 +86,7 @@ fn text_let_go_before_the_merge(rt: HostRuntime) -> Result<(), Fail> {
     let collection = Collection::read(rt.alloc(), &text)?;
     let stop = StopList::empty(rt.alloc());
     let plan = Plan::new(Cut::Docs(2), 3, Runs::Memory).expect(&rt, "a plan");
-    let blocks = invert_all(&rt, rt.alloc(), &collection, &stop, &plan)?;
+    let blocks = invert_all(&rt, rt.alloc(), &collection, &stop, &plan, &Unwatched)?;
     drop(collection);
     drop(text);
     let mut out = Vec::new(rt.alloc());

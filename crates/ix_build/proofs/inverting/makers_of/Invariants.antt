@@ -5,7 +5,7 @@ use Rattle.ix_build.specs.BlockMakers.{IsMakerOf}
 use Rattle.ix_build.proofs.inverting.makers_of.Given as goal
 
 abbrev pub invariant-loop : goal.invariant-loop
-invariant-loop l = record {
+invariant-loop g l = record {
   each : All (IsMakerOf (map named_text l.docs) l.stop l.bounds) l.makers.items;
   counted : vec_len l.makers ≡ l.counter;
   room : l.workers ≤ vec_capacity l.makers;
