@@ -9,7 +9,7 @@ ghost use Rattle.ix_build.specs.BuildErrors.{IsBeforeWriting, IsBuildRefusal};
 use crate::build_error::BuildError;
 use crate::inverting::invert_all;
 use crate::plan::Plan;
-use crate::watch::Unwatched;
+use crate::watch::{Unwatched, Watch};
 use ix_text::{Collection, StopList};
 use std::alloc::Global;
 use std::io::Write;
@@ -39,6 +39,27 @@ pub fn build<W: Write, R: Threads + Wait + Sync>(
     ensures front { OnErr result (LeavesAlikeFront (collection_of stop.now collection.now)
         (W.contents out.old) (W.contents out.new)) }
 {
-    let blocks = invert_all(rt, alloc, collection, stop, plan, &Unwatched)?;
+    build_watched(rt, alloc, collection, stop, plan, &Unwatched, out)
+}
+
+/// The same; whoever watches is told of each block once it is inverted.
+pub(crate) fn build_watched<W: Write, R: Threads + Wait + Sync, V: Watch>(
+    rt: &R,
+    alloc: Global,
+    collection: &Collection<'_>,
+    stop: &StopList,
+    plan: &Plan,
+    watch: &V,
+    out: &mut W,
+) -> Result<(), BuildError>
+    ensures written { OnOk result (WritesIndexText (W.contents out.old) (W.contents out.new)
+        (collection_of stop.now collection.now)) }
+    ensures refused { IfErr result (IsBuildRefusal plan.now.workers) }
+    ensures early { IfErr result (λ error. IsBeforeWriting error
+        → Keeps (W.contents out.old) (W.contents out.new)) }
+    ensures front { OnErr result (LeavesAlikeFront (collection_of stop.now collection.now)
+        (W.contents out.old) (W.contents out.new)) }
+{
+    let blocks = invert_all(rt, alloc, collection, stop, plan, watch)?;
     blocks.merge_into(alloc, out)
 }

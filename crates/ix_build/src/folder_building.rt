@@ -12,12 +12,14 @@ ghost use Rattle.ix_build.specs.RunPaths.{run_path};
 
 use crate::blocks::bounds_of;
 use crate::build_error::BuildError;
-use crate::building::build;
+use crate::building::build_watched;
 use crate::building_over::{BuiltOver, build_over};
 use crate::folder::{FolderStore, run_path};
 use crate::inverting::block_count;
 use crate::plan::Plan;
 use crate::run_files::RunFiles;
+use crate::watch::Watch;
+use crate::watched_files::WatchedFiles;
 use ix_text::{Collection, Memory, StopList};
 use std::alloc::Global;
 use std::io::Write;
@@ -30,20 +32,21 @@ use std::thread::Threads;
 /// In a folder each run is saved in a file `run-` and the block's place in ten digits. Memory holds its head alone until
 /// the merge, which reads all of them as it goes, each through an open file. Files of those names are overwritten, and
 /// afterwards removed, also after a refusal; one that cannot be removed stays. With runs in memory `files` is asked for
-/// nothing.
+/// nothing. Whoever watches is told of each block once it is inverted, or its run kept.
 ///
 /// Fails with `Thread` where a thread cannot be started, before anything is written; with `Spill` at the place, from 0,
 /// of a block whose run was not kept in the folder or not given back, which does not come with runs in memory; with
 /// `Write` where a write or the flush is refused; with `Memory` where memory is. After these a front of an index text
 /// with the collection's stop terms, names and token counts is written, perhaps nothing of it, or after a refused flush
 /// all of it.
-pub fn build_with_files<W: Write, F: RunFiles, R: Threads + Wait + Sync>(
+pub fn build_with_files<W: Write, F: RunFiles, R: Threads + Wait + Sync, V: Watch>(
     rt: &R,
     alloc: Global,
     files: &F,
     collection: &Collection<'_>,
     stop: &StopList,
     plan: &Plan,
+    watch: &V,
     out: &mut W,
 ) -> Result<(), BuildError>
     // With runs in memory it is the collection's own index text.
@@ -76,13 +79,15 @@ pub fn build_with_files<W: Write, F: RunFiles, R: Threads + Wait + Sync>(
         (W.contents out.old) (W.contents out.new)) }
 {
     match plan.folder() {
-        None => build(rt, alloc, collection, stop, plan, out),
-        Some(folder) => build_in_folder(rt, alloc, files, folder, collection, stop, plan, out),
+        None => build_watched(rt, alloc, collection, stop, plan, watch, out),
+        Some(folder) => build_in_folder(
+            rt, alloc, files, folder, collection, stop, plan, watch, out,
+        ),
     }
 }
 
 /// Builds with the runs in files of this folder, which are removed afterwards.
-fn build_in_folder<W: Write, F: RunFiles, R: Threads + Wait + Sync>(
+fn build_in_folder<W: Write, F: RunFiles, R: Threads + Wait + Sync, V: Watch>(
     rt: &R,
     alloc: Global,
     files: &F,
@@ -90,6 +95,7 @@ fn build_in_folder<W: Write, F: RunFiles, R: Threads + Wait + Sync>(
     collection: &Collection<'_>,
     stop: &StopList,
     plan: &Plan,
+    watch: &V,
     out: &mut W,
 ) -> Result<(), BuildError>
     ensures exact { TellBytes F.Reader.remaining
@@ -112,7 +118,12 @@ fn build_in_folder<W: Write, F: RunFiles, R: Threads + Wait + Sync>(
         return Err(BuildError::Memory);
     };
     let count = block_count(bounds.as_slice());
-    let Ok(stores) = stores_in(alloc, files, folder, plan.workers()) else {
+    let watched = WatchedFiles {
+        files,
+        watch,
+        blocks: count,
+    };
+    let Ok(stores) = stores_in(alloc, &watched, folder, plan.workers()) else {
         return Err(BuildError::Memory);
     };
     let BuiltOver { stores: _, result } = build_over(

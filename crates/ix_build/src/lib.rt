@@ -34,6 +34,7 @@ mod team;
 #[cfg(test)]
 mod tests;
 mod watch;
+mod watched_files;
 mod worker;
 
 pub use build_error::BuildError;

@@ -4,7 +4,7 @@ use super::building_over::RUNS;
 use super::{FIVE_DOCUMENTS, FIVE_DOCUMENTS_INDEX};
 use crate::{
     BuildError, BuiltOver, Cut, FolderStore, Plan, RunFiles, RunStore, Runs, StoreError,
-    SystemFiles, build_over, build_with_files,
+    SystemFiles, Unwatched, build_over, build_with_files,
 };
 use ix_run::invert;
 use ix_text::{Collection, StopList};
@@ -40,7 +40,7 @@ pub fn built_in<F: RunFiles, R: AllocGlobal + Abort + Threads + Wait + Sync, W: 
     let stop = StopList::empty(alloc);
     let runs = Runs::Folder(String::from_str(alloc, folder)?);
     let plan = Plan::new(cut, workers, runs).expect(rt, "a plan");
-    Ok(build_with_files(rt, alloc, files, &collection, &stop, &plan, out).err())
+    Ok(build_with_files(rt, alloc, files, &collection, &stop, &plan, &Unwatched, out).err())
 }
 
 #[test]
