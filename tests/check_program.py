@@ -9,6 +9,7 @@ in a folder of the system's own choice, which is gone at the end. Status 0: all 
 """
 import itertools
 import os
+import pty
 import subprocess
 import sys
 import tempfile
@@ -313,13 +314,47 @@ def system():
             check("no words at all", done.returncode == 2 and done.stderr == b"ix: arguments refused\n", f"{done.returncode} {done.stderr}")
 
 
+def seen(*words):
+    """What a person sees on the error output, a terminal, and the status."""
+    master, terminal = pty.openpty()
+    with subprocess.Popen([IX, *words], stdout=subprocess.DEVNULL, stderr=terminal) as process:
+        os.close(terminal)
+        shown = b""
+        while True:
+            try:
+                more = os.read(master, 4096)
+            except OSError:  # that is how a terminal ends
+                break
+            if not more:
+                break
+            shown += more
+    os.close(master)
+    return shown, process.returncode
+
+
+def terminal():
+    """How far a build has come is shown on a terminal, in a line that is empty at the end, and nowhere else."""
+    Path("long.txt").write_bytes(b"".join(b"d%d\tx y\n" % n for n in range(1000)))
+    for more in ([], ["--runs", "."]):
+        shown, status = seen("build", "--block", "10", *more, "long.txt", "long.ix")
+        shares = [int(part[4:-2]) for part in shown.split(b"\r") if part.startswith(b"ix: ") and part.endswith(b" %")]
+        check(f"shares of a build {more}", status == 0 and sorted(shares) == list(range(1, 101)), f"{status} {shown}")
+        check(f"an empty line behind them {more}", shown.endswith(b"\r" + b" " * 11 + b"\r"), shown[-40:])
+        done = run("build", "--block", "10", *more, "long.txt", "long.ix")
+        check(f"nothing of it in a pipe {more}", (done.returncode, done.stderr) == (0, b""), done.stderr)
+    shown, status = seen("search", "long.ix", "x")
+    check("nothing of it in a search", (shown, status) == (b"", 0), shown)
+    shown, status = seen("build", "--block", "10", "long.txt", "no/such/folder")
+    check("a refusal alone", (shown, status) == (b"ix: file 2: Write(no/such/folder)\r\n", 2), shown)
+
+
 def main():
     if not IX.is_file():
         print(f"there is no program {IX}: make it with make", file=sys.stderr)
         return 2
     with tempfile.TemporaryDirectory() as folder:
         os.chdir(folder)
-        for part in (rows, refusals, files, merging, plans, live, system):
+        for part in (rows, refusals, files, merging, plans, live, system, terminal):
             part()
         os.chdir("/")
     print(f"{failed} failed" if failed else "all as expected")

@@ -27,7 +27,7 @@ use crate::help::{help_on, with_help_as_flag};
 use crate::refusal::Refusal;
 use crate::refuse::refuse;
 use ix_ask::EngineRefusal;
-use ix_build::RunFiles;
+use ix_build::{RunFiles, Watch};
 use ix_text::{flush, put_all};
 use std::alloc::{AllocError, Global};
 use std::io::{Input, Write};
@@ -49,9 +49,10 @@ const ONE_FILE: usize = 1;
 pub fn command<
     R: Files + Input + AllocGlobal + Threads + Wait + Sync,
     S: RunFiles,
+    V: Watch,
     W: Write,
     E: Write,
->(rt: &R, runs: &S, words: &[&str], out: &mut W, err: &mut E) -> u8
+>(rt: &R, runs: &S, watch: &V, words: &[&str], out: &mut W, err: &mut E) -> u8
     ensures status { result ≤ 2 }
     ensures found { result ≡ 0 →
         IsHelped (spelled words.now) (W.contents out.old) (W.contents out.new)
@@ -65,12 +66,22 @@ pub fn command<
         IsRefused AnyBytes (spelled words.now) (W.contents out.old) (W.contents out.new)
         (E.contents err.old) (E.contents err.new) }
 {
-    command_over(rt, rt.alloc(), &HostFiles { rt }, runs, words, out, err)
+    command_over(
+        rt,
+        rt.alloc(),
+        &HostFiles { rt },
+        runs,
+        watch,
+        words,
+        out,
+        err,
+    )
 }
 
 /// Does what the words after the program's name ask for, with the files that they name, and answers
 /// the exit status: 0 where something was found, a file was written or help was printed, 1 where
-/// nothing was found, 2 where it was refused. A folder in which runs are to be kept is one of `runs`.
+/// nothing was found, 2 where it was refused. A folder in which runs are to be kept is one of `runs`, and
+/// `watch` is told of each block of the command `build`.
 ///
 /// What was found goes to `out`, and so does help, and nothing else does. A refusal is one line on
 /// `err`, and whether that line could be written is not answered. A refusal leaves `out` as it was,
@@ -80,9 +91,19 @@ pub fn command_over<
     R: Threads + Wait + Sync,
     F: FileSource + FileTarget,
     S: RunFiles,
+    V: Watch,
     W: Write,
     E: Write,
->(rt: &R, alloc: Global, files: &F, runs: &S, words: &[&str], out: &mut W, err: &mut E) -> u8
+>(
+    rt: &R,
+    alloc: Global,
+    files: &F,
+    runs: &S,
+    watch: &V,
+    words: &[&str],
+    out: &mut W,
+    err: &mut E,
+) -> u8
     ensures status { result ≤ 2 }
     ensures found { result ≡ 0 →
         IsHelped (spelled words.now) (W.contents out.old) (W.contents out.new)
@@ -102,18 +123,19 @@ pub fn command_over<
         Ok(words) => words,
         Err(AllocError) => return refuse(alloc, err, &Refusal::Engine(EngineRefusal::Memory)),
     };
-    match run(rt, alloc, files, runs, words.as_slice(), out) {
+    match run(rt, alloc, files, runs, watch, words.as_slice(), out) {
         Ok(status) => status,
         Err(refusal) => refuse(alloc, err, &refusal),
     }
 }
 
 /// Does what the words ask for, but for telling a refusal.
-fn run<'a, R: Threads + Wait + Sync, F: FileSource + FileTarget, S: RunFiles, W: Write>(
+fn run<'a, R: Threads + Wait + Sync, F: FileSource + FileTarget, S: RunFiles, V: Watch, W: Write>(
     rt: &R,
     alloc: Global,
     files: &F,
     runs: &S,
+    watch: &V,
     words: &'a [&'a str],
     out: &mut W,
 ) -> Result<u8, Refusal<'a>>
@@ -132,7 +154,7 @@ fn run<'a, R: Threads + Wait + Sync, F: FileSource + FileTarget, S: RunFiles, W:
 {
     match read_line(alloc, words) {
         Ok(line) => {
-            let count = do_line(rt, alloc, files, runs, line, out)?;
+            let count = do_line(rt, alloc, files, runs, watch, line, out)?;
             Ok(if count == 0 { NOTHING } else { FOUND })
         }
         Err(error) => {
@@ -143,11 +165,19 @@ fn run<'a, R: Threads + Wait + Sync, F: FileSource + FileTarget, S: RunFiles, W:
 }
 
 /// Does a line that was read, and answers how much was found.
-fn do_line<'a, R: Threads + Wait + Sync, F: FileSource + FileTarget, S: RunFiles, W: Write>(
+fn do_line<
+    'a,
+    R: Threads + Wait + Sync,
+    F: FileSource + FileTarget,
+    S: RunFiles,
+    V: Watch,
+    W: Write,
+>(
     rt: &R,
     alloc: Global,
     files: &F,
     runs: &S,
+    watch: &V,
     line: Line<'a>,
     out: &mut W,
 ) -> Result<usize, Refusal<'a>>
@@ -171,7 +201,9 @@ fn do_line<'a, R: Threads + Wait + Sync, F: FileSource + FileTarget, S: RunFiles
             plan,
             collection,
             index,
-        } => match build::run(rt, alloc, files, runs, stop, &plan, collection, index) {
+        } => match build::run(
+            rt, alloc, files, runs, watch, stop, &plan, collection, index,
+        ) {
             Ok(()) => Ok(ONE_FILE),
             Err(refusal) => Err(refusal),
         },

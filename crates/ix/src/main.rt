@@ -6,28 +6,40 @@ mod command_line;
 mod files;
 mod help;
 mod index_file;
+mod meter;
 mod refusal;
 mod refuse;
 
 use command::command;
 use ix_ask::EngineRefusal;
-use ix_build::{RunFiles, SystemFiles};
+use ix_build::{RunFiles, SystemFiles, Watch};
+use meter::Meter;
 use refusal::Refusal;
 use refuse::refuse;
 use std::alloc::AllocError;
 use std::env;
-use std::io::{ErrorKind, Input, Write};
+use std::io::{ErrorKind, Input, IsTerminal, Write};
 use std::process::ExitCode;
 use std::rt::Files;
 use std::sync::Wait;
 use std::thread::Threads;
 
+/// The status of a refusal.
+const REFUSED: u8 = 2;
+
 fn main(rt: HostRuntime) -> ExitCode {
     let refusal = match env::args(&rt) {
         Ok(args) => {
             let runs = SystemFiles { rt: &rt };
-            match run(&rt, &runs, args, &mut rt.stdout(), &mut rt.stderr()) {
-                Ok(status) => return ExitCode::from(status),
+            let meter = Meter::new(&rt, rt.stderr().is_terminal());
+            match run(&rt, &runs, &meter, args, &mut rt.stdout(), &mut rt.stderr()) {
+                Ok(status) => {
+                    // The line of a refusal stands over that of the meter.
+                    if status != REFUSED {
+                        meter.clear();
+                    }
+                    return ExitCode::from(status);
+                }
                 Err(AllocError) => Refusal::Engine(EngineRefusal::Memory),
             }
         }
@@ -40,9 +52,16 @@ fn main(rt: HostRuntime) -> ExitCode {
 }
 
 /// Does what the words after the program's name ask for.
-fn run<R: Files + Input + AllocGlobal + Threads + Wait + Sync, S: RunFiles, W: Write, E: Write>(
+fn run<
+    R: Files + Input + AllocGlobal + Threads + Wait + Sync,
+    S: RunFiles,
+    V: Watch,
+    W: Write,
+    E: Write,
+>(
     rt: &R,
     runs: &S,
+    watch: &V,
     args: env::Args,
     out: &mut W,
     err: &mut E,
@@ -55,5 +74,5 @@ fn run<R: Files + Input + AllocGlobal + Threads + Wait + Sync, S: RunFiles, W: W
     for text in &texts {
         words.push(text.as_str())?;
     }
-    Ok(command(rt, runs, &words, out, err))
+    Ok(command(rt, runs, watch, &words, out, err))
 }

@@ -16,7 +16,7 @@ use crate::command::ask::{read_file, read_stop_list};
 use crate::files::{FileSource, FileTarget};
 use crate::refusal::Refusal;
 use ix_ask::EngineRefusal;
-use ix_build::{InvertedBlocks, Plan, RunFiles, build_with_files, invert_all};
+use ix_build::{InvertedBlocks, Plan, RunFiles, Watch, build_with_files, invert_all};
 use ix_text::{Collection, StopList};
 use std::alloc::Global;
 use std::sync::Wait;
@@ -28,11 +28,12 @@ use std::thread::Threads;
 ///
 /// The index file is created once the collection was read. Where the runs are kept in memory, the
 /// collection is let go before they are merged.
-pub fn run<'a, R: Threads + Wait + Sync, F: FileSource + FileTarget, S: RunFiles>(
+pub fn run<'a, R: Threads + Wait + Sync, F: FileSource + FileTarget, S: RunFiles, V: Watch>(
     rt: &R,
     alloc: Global,
     files: &F,
     runs: &S,
+    watch: &V,
     stop: Option<&'a str>,
     plan: &Plan,
     collection: &'a str,
@@ -48,10 +49,12 @@ pub fn run<'a, R: Threads + Wait + Sync, F: FileSource + FileTarget, S: RunFiles
     let text = read_file(files, collection)?;
     let documents = documents_of(alloc, &text)?;
     if plan.folder().is_some() {
-        return save(rt, alloc, files, runs, &documents, &stop, plan, output);
+        return save(
+            rt, alloc, files, runs, watch, &documents, &stop, plan, output,
+        );
     }
     let writer = create(files, output)?;
-    let blocks = invert(rt, alloc, &documents, &stop, plan)?;
+    let blocks = invert(rt, alloc, watch, &documents, &stop, plan)?;
     // The text is most of what is held, and the runs have nothing of it.
     drop(documents);
     drop(text);
@@ -93,9 +96,10 @@ fn close<'a, F: FileTarget>(files: &F, path: &'a str, writer: F::Writer) -> Resu
 }
 
 /// Inverts the blocks of these documents.
-fn invert<'a, R: Threads + Wait + Sync>(
+fn invert<'a, R: Threads + Wait + Sync, V: Watch>(
     rt: &R,
     alloc: Global,
+    watch: &V,
     documents: &Collection<'_>,
     stop: &StopList,
     plan: &Plan,
@@ -103,7 +107,7 @@ fn invert<'a, R: Threads + Wait + Sync>(
     ensures inverted { IfOk result (AreRunsOfTexts stop.now documents.now) }
     ensures refused { (path : List ℕ) → IfErr result (IsUnbuilt plan.now documents.now path) }
 {
-    match invert_all(rt, alloc, documents, stop, plan) {
+    match invert_all(rt, alloc, documents, stop, plan, watch) {
         Ok(blocks) => Ok(blocks),
         Err(error) => Err(Refusal::Engine(EngineRefusal::Build(error))),
     }
@@ -131,11 +135,12 @@ fn save_merged<'a, F: FileTarget>(
 }
 
 /// Saves the index text of the collection of these documents, by runs where the plan says.
-fn save<'a, R: Threads + Wait + Sync, F: FileTarget, S: RunFiles>(
+fn save<'a, R: Threads + Wait + Sync, F: FileTarget, S: RunFiles, V: Watch>(
     rt: &R,
     alloc: Global,
     files: &F,
     runs: &S,
+    watch: &V,
     documents: &Collection<'_>,
     stop: &StopList,
     plan: &Plan,
@@ -150,7 +155,16 @@ fn save<'a, R: Threads + Wait + Sync, F: FileTarget, S: RunFiles>(
     ensures refused { IfErr result (IsUnbuilt plan.now documents.now path.entry.now) }
 {
     let mut writer = create(files, path)?;
-    if let Err(error) = build_with_files(rt, alloc, runs, documents, stop, plan, &mut writer) {
+    if let Err(error) = build_with_files(
+        rt,
+        alloc,
+        runs,
+        documents,
+        stop,
+        plan,
+        watch,
+        &mut writer,
+    ) {
         return Err(Refusal::Engine(EngineRefusal::Build(error)));
     }
     close(files, path, writer)

@@ -16,6 +16,7 @@ use crate::help::{
     HELP_ON_UPGRADE,
 };
 use indexes::{EMPTY, FIVE_FRONT_CODED, FIVE_PLAIN, LONG_TEXT, ONE, RED, STOPPED};
+use ix_build::Unwatched;
 use runs::NoRuns;
 use std::alloc::Global;
 use std::io;
@@ -134,7 +135,16 @@ fn expect_over<R: AllocGlobal + Abort + Threads + Wait + Sync>(
 ) -> Result<(), Fail> {
     let mut out = Vec::new(rt.alloc());
     let mut err = Vec::new(rt.alloc());
-    let status = command_over(rt, rt.alloc(), files, &NoRuns, words, &mut out, &mut err);
+    let status = command_over(
+        rt,
+        rt.alloc(),
+        files,
+        &NoRuns,
+        &Unwatched,
+        words,
+        &mut out,
+        &mut err,
+    );
     assert!(rt; out.as_slice() == row.1.as_bytes());
     assert!(rt; err.as_slice() == row.2.as_bytes());
     assert_eq!(rt; status, row.0);
@@ -379,7 +389,16 @@ fn writes_that_are_refused(rt: HostRuntime) -> Result<(), Fail> {
         ["--help"].as_slice(),
     ] {
         let mut err = Vec::new(rt.alloc());
-        let status = command_over(&rt, rt.alloc(), &files, &NoRuns, words, &mut Full, &mut err);
+        let status = command_over(
+            &rt,
+            rt.alloc(),
+            &files,
+            &NoRuns,
+            &Unwatched,
+            words,
+            &mut Full,
+            &mut err,
+        );
         assert!(rt; err.as_slice() == b"ix: file 2: Write(-)\n".as_slice());
         assert_eq!(rt; status, 2);
         // Where the line cannot be written either, the status tells.
@@ -388,6 +407,7 @@ fn writes_that_are_refused(rt: HostRuntime) -> Result<(), Fail> {
             rt.alloc(),
             &files,
             &NoRuns,
+            &Unwatched,
             words,
             &mut Full,
             &mut Full,

@@ -5,6 +5,7 @@ use super::indexes::FIVE_FRONT_CODED;
 use super::runs::NoRuns;
 use super::saving::{Disk, disk_of_texts, expect, has};
 use crate::command::command_over;
+use ix_build::Unwatched;
 use std::process::Abort;
 use std::sync::Wait;
 use std::test::Fail;
@@ -21,7 +22,16 @@ fn expect_names<R: AllocGlobal + Abort + Threads + Wait + Sync>(
     let mut out = Vec::new(rt.alloc());
     let mut err = Vec::new(rt.alloc());
     assert_eq!(rt;
-        command_over(rt, rt.alloc(), disk, &NoRuns, words, &mut out, &mut err),
+        command_over(
+            rt,
+            rt.alloc(),
+            disk,
+            &NoRuns,
+            &Unwatched,
+            words,
+            &mut out,
+            &mut err
+        ),
         status
     );
     assert!(rt; out.as_slice() == names.as_bytes());

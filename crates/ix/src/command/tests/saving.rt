@@ -4,7 +4,7 @@ use super::indexes::{EMPTY, FIVE_FRONT_CODED, FIVE_PLAIN, ONE, STOPPED};
 use super::runs::NoRuns;
 use crate::command::command_over;
 use crate::files::{FileSource, FileTarget, ReadFault, WriteFault};
-use ix_build::RunFiles;
+use ix_build::{RunFiles, Unwatched};
 use std::alloc::Global;
 use std::cell::RefCell;
 use std::io;
@@ -167,7 +167,7 @@ pub fn expect<R: AllocGlobal + Abort + Threads + Wait + Sync>(
     words: &[&str],
     line: &str,
 ) -> Result<(), Fail> {
-    expect_with(rt, disk, &NoRuns, words, line)
+    expect_with(rt, disk, &NoRuns, &Unwatched, words, line)
 }
 
 /// The same, where runs may be kept in these files.
@@ -180,7 +180,16 @@ pub fn expect_with<R: AllocGlobal + Abort + Threads + Wait + Sync, S: RunFiles>(
 ) -> Result<(), Fail> {
     let mut out = Vec::new(rt.alloc());
     let mut err = Vec::new(rt.alloc());
-    let status = command_over(rt, rt.alloc(), disk, runs, words, &mut out, &mut err);
+    let status = command_over(
+        rt,
+        rt.alloc(),
+        disk,
+        runs,
+        &Unwatched,
+        words,
+        &mut out,
+        &mut err,
+    );
     assert!(rt; err.as_slice() == line.as_bytes());
     assert!(rt; out.is_empty());
     assert_eq!(rt; status, if line.is_empty() { 0 } else { 2 });

@@ -2,7 +2,7 @@
 
 use super::FIVE;
 use crate::command::command;
-use ix_build::SystemFiles;
+use ix_build::{SystemFiles, Unwatched};
 use std::process::Abort;
 use std::test::Fail;
 use std::{env, fs, process};
@@ -16,7 +16,14 @@ fn a_file_of_the_system(rt: HostRuntime) -> Result<(), Fail> {
     let mut out = Vec::new(rt.alloc());
     let mut err = Vec::new(rt.alloc());
     let words = ["ask", path.as_str(), "NOT x"];
-    let status = command(&rt, &SystemFiles { rt: &rt }, &words, &mut out, &mut err);
+    let status = command(
+        &rt,
+        &SystemFiles { rt: &rt },
+        &Unwatched,
+        &words,
+        &mut out,
+        &mut err,
+    );
     fs::remove_file(&rt, path.as_str())?;
     assert!(rt; out.as_slice() == b"b\nc\n".as_slice() && err.is_empty());
     assert_eq!(rt; status, 0);

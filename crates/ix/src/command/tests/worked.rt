@@ -4,6 +4,7 @@ use super::indexes::{EMPTY, ONE};
 use super::runs::NoRuns;
 use super::saving::{Disk, disk_of_texts, expect, has};
 use crate::command::command_over;
+use ix_build::Unwatched;
 use std::process::Abort;
 use std::sync::Wait;
 use std::test::Fail;
@@ -23,7 +24,16 @@ fn expect_row<R: AllocGlobal + Abort + Threads + Wait + Sync>(
 ) -> Result<(), Fail> {
     let mut out = Vec::new(rt.alloc());
     let mut err = Vec::new(rt.alloc());
-    let status = command_over(rt, rt.alloc(), disk, &NoRuns, words, &mut out, &mut err);
+    let status = command_over(
+        rt,
+        rt.alloc(),
+        disk,
+        &NoRuns,
+        &Unwatched,
+        words,
+        &mut out,
+        &mut err,
+    );
     assert_eq!(rt; status, row.1, "{}", row.0);
     assert!(rt; out.as_slice() == row.2.as_bytes(), "{}", row.0);
     assert!(rt; err.as_slice() == row.3.as_bytes(), "{}", row.0);
