@@ -1,5 +1,5 @@
 -- Which tokens are marked.
-use Rattle.std.specs.Prelude.{◌≡◌, ℕ, ◌*◌, ◌/◌, ◌%◌, ◌<◌, ◌↔◌, List, slice_index, Contains, vec_len}
+use Rattle.std.specs.Prelude.{◌≡◌, ℕ, ◌*◌, ◌/◌, ◌%◌, ◌↔◌, List, slice_index, Contains, vec_len}
 use Rattle.std.specs.Int.{bit_at}
 use Rattle.ix_text.specs.declared.token_marks.TokenMarks.{TokenMarks}
 
@@ -11,10 +11,14 @@ room marks = vec_len marks.words * 64
 abbrev pub mark_of : List ℕ → ℕ → ℕ
 mark_of words number = bit_at (slice_index words (number / 64)) (number % 64)
 
--- of the numbers below the end, exactly these are marked
-abbrev pub AreMarked : ℕ → List ℕ → List ℕ → Type 0
-AreMarked end words numbers = (number : ℕ) → number < end → (mark_of words number ≡ 1) ↔ Contains numbers number
+-- exactly these numbers are marked
+abbrev pub AreMarked : List ℕ → List ℕ → Type 0
+AreMarked words numbers = (number : ℕ) → (mark_of words number ≡ 1) ↔ Contains numbers number
 
--- of the numbers that have a mark, exactly these are marked
+-- exactly these numbers are marked, each of which has a mark
 unfoldable pub HoldsNumbers : TokenMarks → List ℕ → Type 0
-HoldsNumbers marks numbers = AreMarked (room marks) marks.words.items numbers
+HoldsNumbers marks numbers = AreMarked marks.words.items numbers
+
+-- some number stands in both
+abbrev pub ShareNumber : List ℕ → List ℕ → Type 0
+ShareNumber one other = (number : ℕ) × Contains one number × Contains other number

@@ -11,7 +11,7 @@ pub struct TokenMarks {
 
 impl TokenMarks {
     ghost use Rattle.std.specs.Prelude.{◌≡◌, ◌+◌, ◌<◌, ◌≤◌, ◌++◌, ◌∷◌, ◌↔◌, ℕ, [], List, IfOk, IsTrue, Contains};
-    ghost use Rattle.ix_text.specs.TokenMarks.{HoldsNumbers, room};
+    ghost use Rattle.ix_text.specs.TokenMarks.{HoldsNumbers, ShareNumber, room};
 
     /// Marks for the numbers below `count`, none of them set: a bit each, in whole words of eight bytes. Fails where memory is refused.
     pub fn new(alloc: Global, count: u32) -> Result<TokenMarks, AllocError>
@@ -40,6 +40,20 @@ impl TokenMarks {
         *word |= bit;
         free
     }
+
+    /// Whether some number is marked both here and there.
+    pub fn meets(&self, other: &TokenMarks) -> bool
+        ensures { (one others : List ℕ) → HoldsNumbers self.now one
+            → HoldsNumbers other.now others → IsTrue result ↔ ShareNumber one others }
+    {
+        let shorter = self.words.len().min(other.words.len());
+        for place in 0..shorter {
+            if self.words[place] & other.words[place] != 0 {
+                return true;
+            }
+        }
+        false
+    }
 }
 
 #[cfg(test)]
@@ -57,6 +71,24 @@ mod tests {
         assert!(rt; !marks.mark(64));
         assert!(rt; !marks.mark(129));
         assert!(rt; marks.mark(128));
+        Ok(())
+    }
+
+    #[test]
+    fn marks_meet_at_a_number_of_both(rt: HostRuntime) -> Result<(), Fail> {
+        let mut marks = TokenMarks::new(rt.alloc(), 130)?;
+        let mut others = TokenMarks::new(rt.alloc(), 200)?;
+        assert!(rt; !marks.meets(&others));
+        marks.mark(0);
+        marks.mark(129);
+        others.mark(1);
+        others.mark(128);
+        others.mark(199);
+        assert!(rt; !marks.meets(&others));
+        assert!(rt; !others.meets(&marks));
+        others.mark(129);
+        assert!(rt; marks.meets(&others));
+        assert!(rt; others.meets(&marks));
         Ok(())
     }
 }

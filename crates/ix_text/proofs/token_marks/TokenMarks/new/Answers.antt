@@ -1,14 +1,14 @@
-use Rattle.std.proofs.Common.{ℕ, List, ◌≡◌, ◌*◌, [], ap, sym, subst, replicate, arith}
+use Rattle.std.proofs.Common.{ℕ, List, ◌≡◌, [], sym, subst, replicate, arith}
 use Rattle.std.proofs.lemmas.Grind.{div_ceil_times}
 use Rattle.ix_text.proofs.Marked.{none_marked}
 use Rattle.ix_text.specs.TokenMarks.{AreMarked, HoldsNumbers, room}
 use Rattle.ix_text.proofs.token_marks.TokenMarks.new.Goals as goal
 
 pub returns-clause-none : goal.returns-clause-none
-unfolding HoldsNumbers room
+unfolding HoldsNumbers
 returns-clause-none c =
     let made : c.in_ok-vec.field-0.items ≡ replicate c.div_ceil.result 0 = c.in_ok-vec.ensures.items_if_clones_equal (λ y is. is) in
-    subst (λ (words : List ℕ). AreMarked (c.in_ok-vec.field-0.len * 64) words []) (sym made) (none_marked _ c.div_ceil.result (ap (λ n. n * 64) c.in_ok-vec.ensures.len))
+    subst (λ (words : List ℕ). AreMarked words []) (sym made) (none_marked c.div_ceil.result)
 
 pub returns-clause-room : goal.returns-clause-room
 unfolding room
