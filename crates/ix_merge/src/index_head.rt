@@ -6,20 +6,8 @@ ghost use Rattle.ix_run.specs.RunSources.{EndsAt};
 
 use ix_file::{Index, Postings};
 use ix_run::RunDoc;
-use ix_text::{Memory, StopList};
+use ix_text::Memory;
 use std::alloc::Global;
-
-/// Another stop list of the same terms.
-pub(crate) fn copy_stop_list(alloc: Global, stop: &StopList) -> Result<StopList, Memory>
-    ensures { IfOk result (λ copy. copy ≡ stop.now) }
-{
-    let given = stop.terms();
-    let mut terms = Vec::new(alloc);
-    for term in given {
-        terms.push(String::from_str(alloc, term)?)?;
-    }
-    Ok(StopList::from_sorted(terms))
-}
 
 /// The names and the numbers of tokens of an index's documents.
 pub(crate) fn documents(alloc: Global, index: &Index<'_>) -> Result<Vec<RunDoc>, Memory>

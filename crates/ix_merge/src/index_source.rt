@@ -1,6 +1,6 @@
 //! An opened index as a source of its postings.
 
-use crate::index_head::{copy_stop_list, documents, last_document};
+use crate::index_head::{documents, last_document};
 use ix_file::{Index, Postings};
 use ix_run::{ListError, Listed, RunHead, Source};
 use ix_text::Memory;
@@ -73,7 +73,7 @@ impl<'a> IndexSource<'a> {
         Ok(IndexSource {
             head: RunHead {
                 first,
-                stop: copy_stop_list(alloc, index.stop())?,
+                stop: index.stop().copy(alloc)?,
                 docs: documents(alloc, index)?,
             },
             index,

@@ -5,7 +5,6 @@ ghost use Rattle.indexmap.specs.IndexMap.{IsEmpty};
 ghost use Rattle.ix_text.specs.Collections.{IsLawfulEntry, collection_of};
 ghost use Rattle.ix_text.specs.Docs.{named_text};
 ghost use Rattle.ix_text.specs.Parts.{row_of};
-ghost use Rattle.ix_text.specs.StopSets.{IsStopSet};
 ghost use Rattle.ix_text.specs.TokenLists.{token_list};
 ghost use Rattle.ix_run.specs.Dictionaries.{AreBefore, HoldsOccurrences};
 ghost use Rattle.ix_run.specs.Inverted.{IsLawfulDocument, Occurrence, documents_of, occurrences_in, occurrences_of, tokens_of};
@@ -38,7 +37,7 @@ pub fn invert(alloc: Global, docs: &[Doc<'_>], stop: &StopList, first: u32) -> R
     if docs.len() > most || first as usize > most - docs.len() {
         return Err(RunError::TooLarge);
     }
-    let stop_terms = copy_stop_list(alloc, stop)?;
+    let stop_terms = stop.copy(alloc)?;
     let mut dictionary = IndexMap::new(alloc);
     let rows = add_documents(alloc, &mut dictionary, docs, stop)?;
     let terms = code_terms(alloc, dictionary)?;
@@ -48,19 +47,6 @@ pub fn invert(alloc: Global, docs: &[Doc<'_>], stop: &StopList, first: u32) -> R
         docs: rows,
     };
     Ok(Run::new(head, terms))
-}
-
-/// Another stop list of the same terms.
-fn copy_stop_list(alloc: Global, stop: &StopList) -> Result<StopList, Memory>
-    ensures same { IfOk result (λ copy. copy ≡ stop.now) }
-    ensures lawful { IsStopSet stop.now }
-{
-    let given = stop.terms();
-    let mut terms = Vec::new(alloc);
-    for term in given {
-        terms.push(String::from_str(alloc, term)?)?;
-    }
-    Ok(StopList::from_sorted(terms))
 }
 
 /// Inverts documents into a dictionary that is empty yet, and gives their rows.

@@ -8,7 +8,7 @@ ghost use Rattle.ix_text.specs.StopLaws.{FaultsExcludeStopSet, HasOneStopFault, 
 
 use crate::stop_slots::{SLOTS, Slot, slot_of, slots_of};
 use crate::token::has_term_size;
-use crate::{MAX_TEXT_BYTES, term_of};
+use crate::{MAX_TEXT_BYTES, Memory, term_of};
 use std::alloc::{AllocError, AllocFailed, Global};
 use std::marker::Model;
 use std::{error, fmt};
@@ -80,6 +80,19 @@ impl StopList {
         }
         read_line(alloc, &mut terms, left, number)?;
         sort(&mut terms);
+        Ok(StopList::from_sorted(terms))
+    }
+
+    /// Another list of the same terms.
+    pub fn copy(&self, alloc: Global) -> Result<StopList, Memory>
+        ensures same { IfOk result (λ copy. copy ≡ self.now) }
+        ensures lawful { IsStopSet self.now }
+    {
+        let given = self.terms();
+        let mut terms = Vec::with_capacity(alloc, given.len())?;
+        for term in given {
+            terms.push(String::from_str(alloc, term)?)?;
+        }
         Ok(StopList::from_sorted(terms))
     }
 
@@ -270,6 +283,10 @@ mod tests {
             terms.push(' ')?;
         }
         assert_eq!(rt; terms.as_str(), "of to ");
+        let copy = stop.copy(rt.alloc())?;
+        assert_eq!(rt; copy.terms().len(), 2);
+        assert!(rt; copy.contains("of"));
+        assert!(rt; copy.contains("to"));
         let twice = StopList::read(rt.alloc(), "STRASSE\nc\nStraße\na\nb\nC")?;
         assert_eq!(rt; twice.terms().len(), 4);
         for (term, held) in [

@@ -1,5 +1,5 @@
 use Rattle.std.proofs.Common.{◌≡◌, map, string_bytes, take}
-use Rattle.ix_merge.proofs.index_head.copy_stop_list.Given as goal
+use Rattle.ix_text.proofs.stop.StopList.copy.Given as goal
 
 -- the terms so far
 abbrev pub invariant-loop-term : goal.invariant-loop-term
