@@ -8,7 +8,7 @@ ghost use Rattle.ix_run.specs.TermLists.{HoldsPostings, IsBefore, IsOpen, added_
 
 use crate::coded_terms::byte_count;
 use ix_text::Memory;
-use ix_vbyte::push_code;
+use ix_vbyte::{code_len, push_code};
 use std::alloc::Global;
 use std::marker::Model;
 
@@ -144,6 +144,32 @@ impl TermList {
         let start = self.start as usize;
         let next = self.next_position;
         close_posting(&mut self.bytes, start, self.gap, self.positions, next)
+    }
+
+    /// How many postings there are.
+    pub(crate) fn documents(&self) -> u32
+        ensures { result ≡ self.now.documents }
+    {
+        self.documents
+    }
+
+    /// The document of the last posting.
+    pub(crate) fn last(&self) -> u32
+        ensures { result ≡ self.now.document }
+    {
+        self.document
+    }
+
+    /// How many bytes the coded list has.
+    pub(crate) fn coded_len(&self) -> usize
+        ensures { result ≡ length (closed_bytes self.now.coded self.now.gaps self.now.gap
+            self.now.positions self.now.next_position) }
+    {
+        let counts = code_len(self.gap) + code_len(self.positions);
+        if self.positions == 1 {
+            return self.start as usize + counts + code_len(self.next_position);
+        }
+        self.bytes.len() + counts
     }
 
     /// Puts the coded list, and nothing else, into a vector, and answers how many postings it has, and the document of
