@@ -30,7 +30,7 @@ use Rattle.std.specs.Option.{option_copied}
 
 -- ---- right entries tell where they end
 
-same_numbers : (xs ys more : List ℕ) → length xs ≡ length ys → ys ≡ xs ++ more → (ys ≡ xs) × (more ≡ [])
+pub same_numbers : (xs ys more : List ℕ) → length xs ≡ length ys → ys ≡ xs ++ more → (ys ≡ xs) × (more ≡ [])
 same_numbers xs ys more long is =
     let none : more ≡ [] = nil_from_length more (omega (arith, long, ap length is, length-append xs more)) in
     (is ∙ ap (λ zs. xs ++ zs) none ∙ append-nil xs, none)
@@ -102,11 +102,11 @@ no_grams terms section = record {
 pub what_stood : {terms : List (List ℕ)} {section : List ℕ} {table : List GramRow} {total : ℕ} {left : List ℕ} → AreReadGrams terms section table total left → (before : List ℕ) × (section ≡ before ++ left)
 what_stood {section = section} {table = table} r = (grams_section (grams_in section table), r.read)
 
-texts_in : (section : List ℕ) (table : List GramRow) → map (λ (e : GramEntry). e.gram) (grams_in section table) ≡ map (text_in section) table
+pub texts_in : (section : List ℕ) (table : List GramRow) → map (λ (e : GramEntry). e.gram) (grams_in section table) ≡ map (text_in section) table
 texts_in section [] = refl
 texts_in section (row ∷ table) = ap (λ texts. text_in section row ∷ texts) (texts_in section table)
 
-grams_push : (section : List ℕ) (table : List GramRow) (row : GramRow) → grams_in section (table ++ row ∷ []) ≡ grams_in section table ++ gram_in section row ∷ []
+pub grams_push : (section : List ℕ) (table : List GramRow) (row : GramRow) → grams_in section (table ++ row ∷ []) ≡ grams_in section table ++ gram_in section row ∷ []
 grams_push section table row = map-append (gram_in section) table (row ∷ [])
 
 module _ (terms : List (List ℕ)) (section : List ℕ) (table : List GramRow) (total : ℕ) (left : List ℕ) (r : AreReadGrams terms section table total left) where
