@@ -1,18 +1,17 @@
 -- GRAMS is cut into rows, whose numbers are passed over.
-use Rattle.std.proofs.Common.{◌≡◌, ◌≢◌, ◌⊎◌, ◌↔◌, ℕ, ◌+◌, ◌-◌, ◌^◌, ◌<◌, ◌≤◌, List, [], ◌∷◌, ◌++◌, map, length, flat_map, take, drop, slice_get, slice_range, All, Option, Bor, IsUtf8, refl, sym, ap, ap₂, subst, ◌∙◌, arith, length-append}
-use Rattle.std.proofs.lemmas.Grind.{flat_map-append}
-use Rattle.std.proofs.lemmas.List.{append_assoc, append-nil, length-map, length-take, length-drop, map-append, nil_from_length, take-append-drop, take_all, take_at, drop_at}
-use Rattle.std.proofs.lemmas.List.Elements.{All-nil, All-push, All-head, All-tail, All-contains, Contains-push}
-use Rattle.std.proofs.lemmas.List.Sums.{sum_by_push, sum_by-cons}
+use Rattle.std.proofs.Common.{◌≡◌, ◌≢◌, ℕ, ◌+◌, ◌-◌, ◌^◌, ◌<◌, ◌≤◌, List, [], ◌∷◌, ◌++◌, map, length, flat_map, take, drop, slice_get, slice_range, All, Option, Bor, refl, sym, ap, ap₂, subst, ◌∙◌, arith, length-append}
+use Rattle.std.proofs.lemmas.List.{append_assoc, append-nil, length-take, length-drop, map-append, nil_from_length, take-append-drop, take_all, take_at, drop_at}
+use Rattle.std.proofs.lemmas.List.Elements.{All-nil, All-push, All-contains, Contains-push}
+use Rattle.std.proofs.lemmas.List.Sums.{sum_by_push}
 use Rattle.std.specs.Option.{option_copied}
 use Rattle.ix_text.specs.ByteOrder.{IsAscending}
 use Rattle.ix_text.specs.Parts.{GramEntry}
 use Rattle.ix_text.specs.Terms.{IsTerm}
 use Rattle.ix_vbyte.specs.Code.{code_of}
-use Rattle.ix_vbyte.specs.Gaps.{Ascends, gaps_of}
+use Rattle.ix_vbyte.specs.Gaps.{gaps_of}
 use Rattle.ix_vbyte.specs.Postings.{codes_of}
 use Rattle.ix_vbyte.specs.Texts.{counted}
-use Rattle.ix_vbyte.proofs.Gaps.{Ascends-wider, length-Ascends, length-gaps_from}
+use Rattle.ix_vbyte.proofs.Gaps.{length-Ascends, length-gaps_from}
 use Rattle.ix_vbyte.proofs.Texts.{counted-apart}
 use Rattle.ix_vbyte.proofs.Values.{some_code_byte, code_of-apart}
 use Rattle.ix_vbyte.proofs.Walks.{positions_from, Told}
@@ -60,7 +59,7 @@ module _ (entry : GramEntry) (listed : IsListedGram entry) (left other : List �
 -- ---- the row that was cut
 
 module _ (section left text behind gaps : List ℕ) (count size : ℕ) (within : (before : List ℕ) × (section ≡ before ++ left)) (found : left ≡ counted text ++ behind) (coded : behind ≡ code_of count ++ gaps) (fits : size ≤ length gaps)
-  (skipped : (numbers rest : List ℕ) → gaps ≡ codes_of numbers ++ rest → length numbers ≡ count → size ≡ length (codes_of numbers)) where
+    (skipped : (numbers rest : List ℕ) → gaps ≡ codes_of numbers ++ rest → length numbers ≡ count → size ≡ length (codes_of numbers)) where
   abbrev row : GramRow
   row = record {
     start = length section - length behind - length text;
@@ -158,10 +157,6 @@ nothing_cut section = record {
   sum = refl;
   room = omega arith;
 }
-
--- where the bytes before what is left stand
-pub what_stood : {section : List ℕ} {rows : List GramRow} {total : ℕ} {left : List ℕ} → AreCutSoFar section rows total left → (before : List ℕ) × (section ≡ before ++ left)
-what_stood {section = section} {rows = rows} r = (flat_map (cut_bytes section) rows, r.bytes)
 
 next_entry : (done xs : List GramEntry) (left : List ℕ) → 0 < length left → GoesOn gram_bytes done xs left → HasNext gram_bytes done xs left
 next_entry done xs left some g = at g.more g.whole g.rest

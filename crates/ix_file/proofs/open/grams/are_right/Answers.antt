@@ -1,4 +1,4 @@
-use Rattle.std.proofs.Common.{◌<◌, ◌≤◌, All, length, take, refl, subst, arith}
+use Rattle.std.proofs.Common.{◌<◌, ◌≤◌, All, length, refl, subst, arith}
 use Rattle.std.proofs.lemmas.List.{take_all}
 use Rattle.ix_file.specs.OpenedGrams.{IsRightRow}
 use Rattle.ix_file.specs.PlacedTerms.{terms_in}

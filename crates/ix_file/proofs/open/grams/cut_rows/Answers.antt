@@ -1,7 +1,7 @@
 use Rattle.std.proofs.Common.{◌≡◌, ◌<◌, length, inr, arith}
 use Rattle.std.proofs.lemmas.Bool.Decides.{nat_tests}
 use Rattle.std.proofs.lemmas.Result.{err_from_is_err_and}
-use Rattle.ix_file.proofs.GramCutting.{nothing_cut, what_stood, no_next_entry, cut_above, more_cut, all_cut}
+use Rattle.ix_file.proofs.GramCutting.{nothing_cut, no_next_entry, cut_above, more_cut, all_cut}
 use Rattle.ix_file.proofs.open.grams.cut_rows.Goals as goal
 
 pub loop-left-init : goal.loop-left-init

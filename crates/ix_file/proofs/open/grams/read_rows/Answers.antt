@@ -1,6 +1,5 @@
-use Rattle.std.proofs.Common.{⊎_elim, inl, inr, subst, sym, All}
+use Rattle.std.proofs.Common.{⊎_elim, inl, inr}
 use Rattle.std.proofs.lemmas.Result.{err_from_is_err_and}
-use Rattle.ix_file.specs.OpenedGrams.{IsRightRow, LiesIn}
 use Rattle.ix_file.specs.PlacedTerms.{terms_in}
 use Rattle.ix_file.proofs.GramRows.{as_many_told, listed_grams, right_rows, rows_right_there}
 use Rattle.ix_file.proofs.open.grams.read_rows.Goals as goal
