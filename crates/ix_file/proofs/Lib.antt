@@ -19,7 +19,9 @@ pub mod GramLookUp
 pub mod GramNumbers
 pub mod GramOrder
 pub mod GramNotes
+pub mod GramCutting
 pub mod GramReading
+pub mod GramRows
 pub mod GramSections
 pub mod GramTexts
 pub mod GramWindows

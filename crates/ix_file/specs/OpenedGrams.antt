@@ -1,7 +1,8 @@
 -- The grams of an opened index, where they stand in GRAMS.
-use Rattle.std.specs.Prelude.{◌≡◌, ◌≢◌, ℕ, ◌+◌, ◌<◌, ◌≤◌, List, ◌++◌, map, length, slice_range, slice_get, sum_by, Some, Option, IfSome, IfNone, All}
+use Rattle.std.specs.Prelude.{◌≡◌, ◌≢◌, ℕ, ◌+◌, ◌<◌, ◌≤◌, List, ◌++◌, ◌^◌, ◌-◌, map, length, flat_map, slice_range, slice_get, sum_by, Some, Option, IfSome, IfNone, All}
 use Rattle.ix_text.specs.ByteOrder.{IsAscending}
 use Rattle.ix_text.specs.Parts.{GramEntry}
+use Rattle.ix_text.specs.Terms.{IsTerm}
 use Rattle.ix_vbyte.specs.Code.{code_of}
 use Rattle.ix_vbyte.specs.Gaps.{Ascends, gaps_of}
 use Rattle.ix_vbyte.specs.Postings.{codes_of}
@@ -61,3 +62,43 @@ pub record AreRightRows (terms : List (List ℕ)) (section : List ℕ) (rows : L
   pub ascending : IsAscending (map (λ entry. entry.gram) (grams_in section rows))
   pub spelled : section ≡ grams_section (grams_in section rows)
   pub gaps : All (IsGramRow section) rows
+
+-- ---- rows that were cut off, whose numbers may be any
+
+-- the row lies in the section
+pub record LiesIn (section : List ℕ) (row : GramRow) : Type 0 where
+  pub gram : row.start + row.size ≤ length section
+  pub numbers : row.numbers + row.numbers_size ≤ length section
+
+-- what stands in GRAMS where the row says
+abbrev pub cut_bytes : List ℕ → GramRow → List ℕ
+cut_bytes section row =
+    counted (slice_range section row.start (row.start + row.size)) ++ code_of row.count ++ slice_range section row.numbers (row.numbers + row.numbers_size)
+
+-- a gram, which is some text, with ascending numbers
+pub record IsListedGram (entry : GramEntry) : Type 0 where
+  pub text : IsTerm entry.gram
+  pub some : 0 < length entry.numbers
+  pub ascend : Ascends 0 (2 ^ 32 - 1) entry.numbers
+
+-- the row was cut off the front, and if an entry stands there the row is its row
+pub record CutsEntry (section left : List ℕ) (row : GramRow) (rest : List ℕ) : Type 0 where
+  pub bytes : left ≡ cut_bytes section row ++ rest
+  pub lies : LiesIn section row
+  pub only : (entry : GramEntry) (other : List ℕ) → IsListedGram entry → left ≡ gram_bytes entry ++ other → (entry ≡ gram_in section row) × (other ≡ rest) × IsGramRow section row
+
+-- the section was cut into rows of ascending texts, and if it lists grams these are the rows of them
+pub record AreCutRows (section : List ℕ) (rows : List GramRow) : Type 0 where
+  pub bytes : section ≡ flat_map (cut_bytes section) rows
+  pub ascending : IsAscending (map (λ row. (gram_in section row).gram) rows)
+  pub lie : All (LiesIn section) rows
+  pub only : (grams : List GramEntry) → All IsListedGram grams → section ≡ grams_section grams → (grams ≡ grams_in section rows) × All (IsGramRow section) rows
+
+-- how many numbers the rows say that there are
+abbrev pub numbers_claimed : List GramRow → ℕ
+numbers_claimed rows = sum_by (λ row. row.count) rows
+
+-- a row of a gram with some of the terms that have it
+pub record IsRightRow (terms : List (List ℕ)) (section : List ℕ) (row : GramRow) : Type 0 where
+  pub is : IsGramRow section row
+  pub right : IsRightEntry terms (gram_in section row)

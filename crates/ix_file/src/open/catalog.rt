@@ -104,8 +104,8 @@ impl Catalog {
         Ok(rows)
     }
 
-    /// Reads GRAMS as `check_grams` does, and counts the grams of the terms beside it, in two threads where there may be
-    /// two. It answers the same.
+    /// Reads GRAMS as `check_grams` does, and counts the grams of the terms beside it, in three threads where there may
+    /// be three. It answers the same.
     pub(crate) fn check_grams_beside<R: Threads>(
         &self,
         rt: &R,

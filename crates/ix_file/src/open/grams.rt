@@ -6,7 +6,7 @@ ghost use Rattle.ix_text.specs.Parts.{GramEntry};
 ghost use Rattle.ix_file.specs.Grams.{AreGramsOfTerms, IsGramOfTerm};
 ghost use Rattle.ix_file.specs.WindowPairs.{gram_of};
 ghost use Rattle.ix_file.specs.GramPairs.{AreAllPairs};
-ghost use Rattle.ix_file.specs.OpenedGrams.{AreNumbersOf, AreRightRows, FindsGram, IsGramRow, IsRightEntry, gap_codes, gram_in, grams_in, numbers_listed};
+ghost use Rattle.ix_file.specs.OpenedGrams.{AreCutRows, AreNumbersOf, AreRightRows, CutsEntry, FindsGram, IsGramRow, IsListedGram, IsRightRow, LiesIn, gap_codes, gram_in, grams_in, numbers_claimed, numbers_listed};
 ghost use Rattle.ix_file.specs.PlacedTerms.{terms_in};
 ghost use Rattle.ix_file.specs.OpenedGrams as opened;
 ghost use Rattle.ix_file.specs.Sections.{grams_section};
@@ -16,8 +16,10 @@ use crate::open::front::{read_number, read_text};
 use crate::open::pairs::{GramPair, count_pairs, has_gram, pair_of};
 use crate::open::terms::Terms;
 use crate::{OpenError, Section};
+use ix_vbyte::skip_codes;
 use std::alloc::Global;
 use std::cmp::Ordering;
+use std::str::from_utf8;
 use std::thread::{Threads, join};
 
 /// A gram: where it stands in GRAMS and how many bytes it has, how many terms have it, and where in GRAMS the gaps
@@ -57,7 +59,8 @@ pub(crate) fn read_grams(
     Ok(rows)
 }
 
-/// Reads GRAMS as `read_grams` does, and counts the grams of the terms beside it, in two threads where there may be two.
+/// Reads GRAMS as `read_grams` does, and counts the grams of the terms beside it, in three threads where there may be
+/// three.
 pub(crate) fn read_grams_beside<R: Threads>(
     rt: &R,
     alloc: Global,
@@ -92,7 +95,7 @@ pub(crate) fn read_grams_beside<R: Threads>(
         ensures refused { IfErr result (λ error. (error ≡ Memory)
             ⊎ ((grams : List GramEntry) → AreGramsOfTerms (terms_in terms.entry.now) grams →
             section.entry.now ≢ grams_section grams)) }
-    { read_rows(alloc, section, terms) };
+    { read_rows_beside(rt, alloc, section, terms) };
     let (total, read) = join(rt, count, read);
     let (rows, listed) = read?;
     let total = total?;
@@ -121,11 +124,52 @@ fn read_rows(
         ⊎ ((grams : List GramEntry) → AreGramsOfTerms (terms_in terms.now) grams →
         section.now ≢ grams_section grams)) }
 {
+    let (rows, listed) = cut_rows(alloc, section)?;
+    if !are_right(section, &rows, terms) {
+        return Err(OpenError::Grams);
+    }
+    Ok((rows, listed))
+}
+
+/// Reads the rows as `read_rows` does, and looks at their numbers in two threads where there may be two.
+fn read_rows_beside<R: Threads>(
+    rt: &R,
+    alloc: Global,
+    section: &[u8],
+    terms: &Terms,
+) -> Result<(Vec<GramRow>, usize), OpenError>
+    requires few { length terms.now < 2 ^ 32 }
+    requires texts { All IsUtf8 (terms_in terms.now) }
+    ensures found { IfOk result (λ read.
+        AreRightRows (terms_in terms.now) section.now read.0.items) }
+    ensures listed { IfOk result (λ read.
+        read.1 ≡ numbers_listed (grams_in section.now read.0.items)) }
+    ensures refused { IfErr result (λ error. (error ≡ Memory)
+        ⊎ ((grams : List GramEntry) → AreGramsOfTerms (terms_in terms.now) grams →
+        section.now ≢ grams_section grams)) }
+{
+    let (rows, listed) = cut_rows(alloc, section)?;
+    if !are_right_beside(rt, section, &rows, terms) {
+        return Err(OpenError::Grams);
+    }
+    Ok((rows, listed))
+}
+
+/// Cuts GRAMS into its rows, and adds up how many numbers these say that they have. The numbers are passed over.
+///
+/// `Grams` where the section is not of such rows, whose texts ascend; or `Memory`.
+fn cut_rows(alloc: Global, section: &[u8]) -> Result<(Vec<GramRow>, usize), OpenError>
+    ensures cut { IfOk result (λ read. AreCutRows section.now read.0.items) }
+    ensures claimed { IfOk result (λ read. read.1 ≡ numbers_claimed read.0.items) }
+    ensures refused { IfErr result (λ error. (error ≡ Memory)
+        ⊎ ((grams : List GramEntry) → All IsListedGram grams →
+        IsAscending (map (λ entry. entry.gram) grams) → section.now ≢ grams_section grams)) }
+{
     let mut rows: Vec<GramRow> = Vec::new(alloc);
     let mut listed = 0;
     let mut left = section;
     while !left.is_empty() {
-        let (row, rest) = read_gram(section, left, terms)?;
+        let (row, rest) = cut_row(section, left)?;
         if !is_above(section, row, rows.last()) {
             return Err(OpenError::Grams);
         }
@@ -136,47 +180,101 @@ fn read_rows(
     Ok((rows, listed))
 }
 
-/// The row of the gram that what is left of GRAMS begins with, and what follows it.
+/// The row that what is left of GRAMS begins with, and what follows it.
 ///
-/// `Grams` where no gram stands there with numbers of terms that have it.
-fn read_gram<'a>(
-    section: &[u8],
-    left: &'a [u8],
-    terms: &Terms,
-) -> Result<(GramRow, &'a [u8]), OpenError>
-    requires few { length terms.now < 2 ^ 32 }
-    requires texts { All IsUtf8 (terms_in terms.now) }
+/// `Grams` where no text stands there with a number, and as many codes behind it.
+fn cut_row<'a>(section: &[u8], left: &'a [u8]) -> Result<(GramRow, &'a [u8]), OpenError>
     requires within { (before : List ℕ) × (section.now ≡ before ++ left.now) }
-    ensures entry { IfOk result (λ read. IsRightEntry (terms_in terms.now)
-        (gram_in section.now read.0)) }
-    ensures row { IfOk result (λ read. IsGramRow section.now read.0) }
-    ensures found { IfOk result (λ read. left.now ≡ opened.gram_bytes (gram_in section.now read.0)
-        ++ read.1.now) }
+    ensures cut { IfOk result (λ read. CutsEntry section.now left.now read.0 read.1.now) }
     ensures size { IfOk result (λ read. read.0.count + length read.1.now ≤ length left.now) }
+    ensures shorter { IfOk result (λ read. length read.1.now < length left.now) }
     ensures refused { IfErr result (λ error. (entry : GramEntry) (rest : List ℕ) →
-        IsRightEntry (terms_in terms.now) entry → left.now ≢ opened.gram_bytes entry ++ rest) }
+        IsListedGram entry → left.now ≢ opened.gram_bytes entry ++ rest) }
 {
     let Ok((gram, behind)) = read_text(Section::Grams, OpenError::Grams, left) else {
-        return Err(OpenError::Grams);
-    };
-    let Some(pair) = pair_of(gram) else {
         return Err(OpenError::Grams);
     };
     let Ok((count, gaps)) = read_number(Section::Grams, behind) else {
         return Err(OpenError::Grams);
     };
-    if count == 0 {
+    let size = skip_codes(gaps, count);
+    if size < count as usize {
         return Err(OpenError::Grams);
     }
-    let rest = read_numbers(gaps, count, pair, terms)?;
     let row = GramRow {
         start: section.len() - behind.len() - gram.len(),
         size: gram.len() as u8,
         count,
         numbers: section.len() - gaps.len(),
-        numbers_size: gaps.len() - rest.len(),
+        numbers_size: size,
     };
-    Ok((row, rest))
+    Ok((row, &gaps[size..]))
+}
+
+/// Whether each of the rows is of a gram with some of the terms that have it. It is found in two threads where there
+/// may be two, each of which has about half of the section.
+fn are_right_beside<R: Threads>(rt: &R, section: &[u8], rows: &[GramRow], terms: &Terms) -> bool
+    requires few { length terms.now < 2 ^ 32 }
+    requires texts { All IsUtf8 (terms_in terms.now) }
+    requires lie { All (LiesIn section.now) rows.now }
+    ensures { IsTrue result ↔ All (IsRightRow (terms_in terms.now) section.now) rows.now }
+{
+    let middle = rows.partition_point(|row| row.numbers < section.len() / 2);
+    let (front, back) = rows.split_at(middle);
+    let first = || -> bool
+        requires few { length terms.now < 2 ^ 32 }
+        requires texts { All IsUtf8 (terms_in terms.now) }
+        requires lie { All (LiesIn section.now) front.now }
+        ensures { IsTrue result ↔ All (IsRightRow (terms_in terms.entry.now) section.entry.now)
+            front.entry.now }
+    { are_right(section, front, terms) };
+    let second = || -> bool
+        requires few { length terms.now < 2 ^ 32 }
+        requires texts { All IsUtf8 (terms_in terms.now) }
+        requires lie { All (LiesIn section.now) back.now }
+        ensures { IsTrue result ↔ All (IsRightRow (terms_in terms.entry.now) section.entry.now)
+            back.entry.now }
+    { are_right(section, back, terms) };
+    let (first, second) = join(rt, first, second);
+    first && second
+}
+
+/// Whether each of the rows is of a gram with some of the terms that have it.
+fn are_right(section: &[u8], rows: &[GramRow], terms: &Terms) -> bool
+    requires few { length terms.now < 2 ^ 32 }
+    requires texts { All IsUtf8 (terms_in terms.now) }
+    requires lie { All (LiesIn section.now) rows.now }
+    ensures { IsTrue result ↔ All (IsRightRow (terms_in terms.now) section.now) rows.now }
+{
+    for &row in rows {
+        if !is_right(section, row, terms) {
+            return false;
+        }
+    }
+    true
+}
+
+/// Whether the row is of a gram with some of the terms that have it.
+fn is_right(section: &[u8], row: GramRow, terms: &Terms) -> bool
+    requires few { length terms.now < 2 ^ 32 }
+    requires texts { All IsUtf8 (terms_in terms.now) }
+    requires lies { LiesIn section.now row }
+    ensures { IsTrue result ↔ IsRightRow (terms_in terms.now) section.now row }
+{
+    let Ok(gram) = from_utf8(gram_bytes(section, row)) else {
+        return false;
+    };
+    let Some(pair) = pair_of(gram) else {
+        return false;
+    };
+    if row.count == 0 {
+        return false;
+    }
+    let gaps = &section[row.numbers..row.numbers + row.numbers_size];
+    match read_numbers(gaps, row.count, pair, terms) {
+        Ok(rest) => rest.is_empty(),
+        Err(_) => false,
+    }
 }
 
 /// What follows the gaps of so many numbers of terms that have the gram of the pair.
@@ -232,8 +330,8 @@ fn is_next(next: u32, gap: u32, pair: GramPair, terms: &Terms) -> bool
 
 /// Whether the gram of a row stands above that of the row before it, if there is one.
 fn is_above(section: &[u8], row: GramRow, before: Option<&GramRow>) -> bool
-    requires row { IsGramRow section.now row }
-    requires before { MatchOption before ⊤ (λ b. IsGramRow section.now b.now) }
+    requires row { LiesIn section.now row }
+    requires before { MatchOption before ⊤ (λ b. LiesIn section.now b.now) }
     ensures { IsTrue result ↔ MatchOption before.entry ⊤
         (λ b. IsAscending ((gram_in section.now b.now).gram ∷ (gram_in section.now
         row).gram ∷ [])) }
@@ -268,7 +366,7 @@ pub(crate) fn find_gram(section: &[u8], rows: &[GramRow], gram: &str) -> Option<
 
 /// The bytes of the gram of a row.
 fn gram_bytes(section: &[u8], row: GramRow) -> &[u8]
-    requires { IsGramRow section.now row }
+    requires { row.start + row.size ≤ length section.now }
     ensures { result.now ≡ (gram_in section.now row).gram }
 {
     &section[row.start..row.start + usize::from(row.size)]

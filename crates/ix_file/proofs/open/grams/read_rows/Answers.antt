@@ -1,41 +1,33 @@
-use Rattle.std.proofs.Common.{◌≡◌, ◌<◌, length, inr, arith}
-use Rattle.std.proofs.lemmas.Bool.Decides.{nat_tests}
+use Rattle.std.proofs.Common.{⊎_elim, inl, inr}
 use Rattle.std.proofs.lemmas.Result.{err_from_is_err_and}
 use Rattle.ix_file.specs.PlacedTerms.{terms_in}
-use Rattle.ix_file.proofs.GramSections.{no_grams, more_grams, no_next_gram, next_above, right_rows}
+use Rattle.ix_file.proofs.GramRows.{as_many_told, listed_grams, right_rows, rows_right_there}
 use Rattle.ix_file.proofs.open.grams.read_rows.Goals as goal
 
-pub loop-left-init : goal.loop-left-init
-loop-left-init c = rw c.new-rows.ensures.items (no_grams (terms_in c.args.terms.now) c.args.section.now)
+pub are_right-requires : goal.are_right-requires
+are_right-requires c = record { few = c.requires.few; texts = c.requires.texts; lie = rw c.deref.ensures.value c.in_ok-rows.ensures.cut.lie }
 
-pub returns-in_err-row-clause-refused : goal.returns-in_err-row-clause-refused
-returns-in_err-row-clause-refused c =
+pub returns-in_err-rows-clause-refused : goal.returns-in_err-rows-clause-refused
+returns-in_err-rows-clause-refused c =
     let p = err_from_is_err_and c.from_residual.result c.from_residual.ensures.1 in
-    let some : 0 < length c.loop-left.left.now = grind (arith, nat_tests, c.is_empty.ensures, c.loop-left-test.true) in
-    rw p.1
-    (inr
-    (λ grams are same.
-    no_next_gram (terms_in c.args.terms.now) c.args.section.now c.loop-left.rows.items c.loop-left.listed c.loop-left.left.now c.loop-left.invariant grams are same some c.in_err-row.ensures.refused))
+    rw (p.1, p.2)
+    (⊎_elim inl (λ refused. inr (λ grams are same. refused grams (listed_grams c.args.terms.now c.requires.few c.requires.texts grams are) are.ascending same)) c.in_err-rows.ensures.refused)
 
-pub returns-then-not-is_above-clause-refused : goal.returns-then-not-is_above-clause-refused
-returns-then-not-is_above-clause-refused c =
-    let some : 0 < length c.loop-left.left.now = grind (arith, nat_tests, c.is_empty.ensures, c.loop-left-test.true) in
-    let before = rw c.deref.ensures.value at c.last.ensures.value in
+pub returns-then-not-are_right-clause-refused : goal.returns-then-not-are_right-clause-refused
+returns-then-not-are_right-clause-refused c =
+    let told = rw c.deref.ensures.value at c.are_right.ensures in
     inr
     (λ grams are same.
-    let above = next_above (terms_in c.args.terms.now) c.args.section.now c.loop-left.rows.items c.loop-left.listed c.loop-left.left.now c.loop-left.invariant grams are same some c.in_ok-row.row c.in_ok-row.rest.now c.last.result before c.in_ok-row.ensures.entry c.in_ok-row.ensures.found in
-    let t = c.is_above.ensures.1 above in
-    let f = c.if-not-is_above.true in
+    let t = told.1 (rows_right_there c.args.terms.now c.requires.few c.requires.texts c.args.section.now c.in_ok-rows.rows.items c.in_ok-rows.ensures.cut grams are same) in
+    let f = c.if-not-are_right.true in
     absurd cc)
-
-pub loop-left-preserved : goal.loop-left-preserved
-loop-left-preserved c =
-    let before = rw c.deref.ensures.value at c.last.ensures.value in
-    rw c.in_ok-push.ensures.items
-    (more_grams (terms_in c.args.terms.now) c.args.section.now c.loop-left.rows.items c.loop-left.listed c.loop-left.left.now c.loop-left.invariant c.in_ok-row.row c.in_ok-row.rest.now c.last.result before c.in_ok-row.ensures.entry c.in_ok-row.ensures.row c.in_ok-row.ensures.found c.in_ok-row.ensures.size
-    c.in_ok-row.ensures.row.coded.counted (c.is_above.ensures.0 c.if-not-is_above.false))
 
 pub returns-clause-found : goal.returns-clause-found
 returns-clause-found c =
-    let nothing : length c.loop-left.left.now ≡ 0 = grind (arith, nat_tests, c.is_empty.ensures, c.loop-left-test.false) in
-    right_rows (terms_in c.args.terms.now) c.args.section.now c.loop-left.rows.items c.loop-left.listed c.loop-left.left.now c.loop-left.invariant nothing
+    let told = rw c.deref.ensures.value at c.are_right.ensures in
+    right_rows (terms_in c.args.terms.now) c.args.section.now c.in_ok-rows.rows.items c.in_ok-rows.ensures.cut (told.0 c.if-not-are_right.false)
+
+pub returns-clause-listed : goal.returns-clause-listed
+returns-clause-listed c =
+    let told = rw c.deref.ensures.value at c.are_right.ensures in
+    as_many_told (terms_in c.args.terms.now) c.args.section.now c.in_ok-rows.rows.items c.in_ok-rows.listed c.in_ok-rows.ensures.claimed (told.0 c.if-not-are_right.false)
