@@ -10,7 +10,7 @@ use std::alloc::Global;
 use std::thread::Threads;
 
 /// The index in the file of this path, which is read whole, and of which two parts are checked side by side.
-pub fn open_index<'a, R: Threads, F: FileSource>(
+pub fn open_index<'a, R: Threads + Sync, F: FileSource>(
     rt: &R,
     alloc: Global,
     files: &F,

@@ -4,13 +4,13 @@ use Rattle.std.specs.List.Sorted.{IsPermutation, IsNonDecreasing, IsStrictlyIncr
 use Rattle.std.proofs.lemmas.List.{append_assoc, append-nil}
 use Rattle.std.proofs.lemmas.List.Sorted.{IsPermutation-sym}
 use Rattle.std.specs.declared.alloc.Global.{Global}
-use Rattle.ix_text.specs.TokenMarks.{HoldsNumbers, room}
+use Rattle.ix_text.specs.TokenMarks.{HoldsNumbers, ShareNumber, room}
 use Rattle.ix_text.specs.TokenNumbers.{AreDistinct}
 use Rattle.ix_text.specs.declared.token_marks.TokenMarks.{TokenMarks}
 use Rattle.ix_file.specs.Claimed.{HasClaimed, HasRoom, HaveClaimed}
 use Rattle.ix_file.specs.declared.open.claims.Claims.{Claims}
 use Rattle.ix_file.specs.declared.open.claims.Claims.TheVariants.{Marked, Listed}
-use Rattle.ix_file.proofs.DistinctClaims.{distinct_more, distinct_permutation, distinct_rising, rising_distinct}
+use Rattle.ix_file.proofs.DistinctClaims.{distinct_beside, distinct_more, distinct_permutation, distinct_rising, rising_distinct}
 
 pub nothing_marked : (marks : TokenMarks) → HoldsNumbers marks [] → HasClaimed (Marked marks false) []
 unfolding HasClaimed
@@ -58,6 +58,13 @@ rising_or numbers sorted false order ordered tells = (λ h d. absurd (cc (tells.
 pub listed_doubled : (listed : Vec ℕ Global) (sorted numbers : List ℕ) (rising : Bool) → HasClaimed (Listed listed) numbers → IsPermutation listed.items sorted → IsNonDecreasing sorted → IsTrue rising ↔ IsStrictlyIncreasing sorted → IsTrue (not rising) ↔ ¬ (AreDistinct numbers)
 unfolding HasClaimed
 listed_doubled listed sorted numbers rising has order ordered tells = rising_or numbers sorted rising (subst (λ (xs : List ℕ). IsPermutation xs sorted) has order) ordered tells
+
+-- what is told of two that were marked
+pub marked_beside : (marks others : TokenMarks) (doubled there meets : Bool) (one other : List ℕ) → HasClaimed (Marked marks doubled) one → HasClaimed (Marked others there) other
+    → (HoldsNumbers marks one → HoldsNumbers others other → IsTrue meets ↔ ShareNumber one other)
+    → IsTrue (doubled || there || meets) ↔ ¬ (AreDistinct (one ++ other))
+unfolding HasClaimed
+marked_beside marks others doubled there meets one other has has_too told = distinct_beside doubled there meets one other has.1 has_too.1 (told has.0 has_too.0)
 
 -- room for some is room for fewer
 pub room_below : (claims : Claims) (less top : ℕ) → less ≤ top → HasRoom claims top → HasRoom claims less

@@ -7,9 +7,10 @@ use Rattle.std.proofs.lemmas.List.{get_or_default}
 use Rattle.std.proofs.lemmas.List.Elements.{Contains-get_or}
 use Rattle.std.proofs.lemmas.List.Sorted.{sum_by-IsPermutation}
 use Rattle.std.proofs.lemmas.List.Sums.{sum_by-cons}
+use Rattle.ix_text.specs.TokenMarks.{ShareNumber}
 use Rattle.ix_text.specs.TokenNumbers.{AreDistinct}
 use Rattle.ix_text.proofs.AscendingLists.{contains_cases, contains_first, contains_later, contains_none}
-use Rattle.ix_text.proofs.DistinctNumbers.{distinct_push, distinct_pushed}
+use Rattle.ix_text.proofs.DistinctNumbers.{distinct_append, distinct_apart as not_in_both, distinct_back, distinct_front, distinct_push, distinct_pushed}
 use Rattle.ix_text.proofs.TokensTold.{has_number_from, has_number_of}
 
 -- a number that was free leaves them distinct, and one that was not does not
@@ -26,6 +27,19 @@ distinct_cons_cases false x xs from of rest = ⊎_elim (λ d. inl (λ h. absurd 
 pub distinct_or_not : (xs : List ℕ) → AreDistinct xs ⊎ ¬ (AreDistinct xs)
 distinct_or_not [] = inl tt
 distinct_or_not (x ∷ xs) = distinct_cons_cases _ x xs (has_number_from x xs) (has_number_of x xs) (distinct_or_not xs)
+
+-- told of two lists, and of what they share
+settled : (xs : List ℕ) → IsTrue false ↔ ¬ (AreDistinct xs) → AreDistinct xs
+settled xs told = ⊎_elim (λ d. d) (λ n. absurd (cc (told.1 n))) (distinct_or_not xs)
+
+pub distinct_beside : (doubled there meets : Bool) (one other : List ℕ) → IsTrue doubled ↔ ¬ (AreDistinct one) → IsTrue there ↔ ¬ (AreDistinct other) → IsTrue meets ↔ ShareNumber one other → IsTrue (doubled || there || meets) ↔ ¬ (AreDistinct (one ++ other))
+distinct_beside true there meets one other first second both = (λ h d. first.0 refl (distinct_front one other d), λ h. refl)
+distinct_beside false true meets one other first second both = (λ h d. second.0 refl (distinct_back one other d), λ h. refl)
+distinct_beside false false true one other first second both = (λ h d. let (number, has, has_too) = both.0 refl in not_in_both one other d number has has_too, λ h. refl)
+distinct_beside false false false one other first second both = (
+  λ h. absurd (cc h),
+  λ h. absurd (h (distinct_append one other (settled one first) (settled other second) (λ number has again. absurd (cc (both.1 (number, has, again)))))),
+)
 
 -- ---- by how often each stands there
 abbrev hit : ℕ → ℕ → ℕ

@@ -8,7 +8,7 @@ use Rattle.ix_text.specs.TokenLaws.{IsPostingIn}
 use Rattle.ix_text.specs.TokenNumbers.{AreDistinct, numbers_of_postings}
 use Rattle.ix_text.specs.TokenTables.{HasTokens}
 use Rattle.ix_text.specs.declared.token_table.TokenTable.{TokenTable}
-use Rattle.ix_file.specs.Claimed.{HasRoom}
+use Rattle.ix_file.specs.Claimed.{HasClaimed, HasRoom}
 use Rattle.ix_file.specs.declared.open.claims.Claims.{Claims}
 use Rattle.ix_file.specs.PlacedTerms.{PlacedTerm}
 
@@ -43,6 +43,12 @@ IsListOf rows section term postings = AreListedIn rows term.documents (list_in s
 pub record AreListsIn (rows : List DocumentRow) (section : List ℕ) (terms : List PlacedTerm) (lists : List (List Posting)) : Type 0 where
   pub each : AllZip (IsListOf rows section) terms lists
   pub distinct : AreDistinct (flat_map (numbers_of_postings rows) lists)
+
+-- Each term has its list, and the tokens of the lists were claimed, one by one.
+pub record AreClaimedLists (rows : List DocumentRow) (section : List ℕ) (terms : List PlacedTerm) (claims : Claims) : Type 0 where
+  pub lists : List (List Posting)
+  pub each : AllZip (IsListOf rows section) terms lists
+  pub claimed : HasClaimed claims (flat_map (numbers_of_postings rows) lists)
 
 -- Each token of the documents that the table has may be claimed, and there are no more than a lawful collection has.
 pub record MayClaim (tokens : TokenTable) (claims : Claims) : Type 0 where

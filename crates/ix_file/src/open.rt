@@ -57,7 +57,7 @@ pub(crate) fn read_tables(alloc: Global, frame: &Frame<'_>) -> Result<Tables, Op
 /// have, in three threads where there may be three.
 ///
 /// The same errors in the same order: where both are refused, those of POSTINGS.
-pub(crate) fn read_tables_beside<R: Threads>(
+pub(crate) fn read_tables_beside<R: Threads + Sync>(
     rt: &R,
     alloc: Global,
     frame: &Frame<'_>,
@@ -85,7 +85,7 @@ pub(crate) fn read_tables_beside<R: Threads>(
             ⊎ AreNoSections (version_in frame.entry.now.version)
             (texts_in frame.entry.now.sections) frame.entry.now.documents
             frame.entry.now.terms) }
-    { catalog.check_postings(alloc, frame) };
+    { catalog.check_postings_beside(rt, alloc, frame) };
     let check_grams = || -> Result<Vec<GramRow>, OpenError>
         requires few { frame.now.terms < 2 ^ 32 }
         requires catalog { IsCatalogOf (version_in frame.now.version) (texts_in frame.now.sections)

@@ -27,7 +27,7 @@ use std::thread::Threads;
 ///
 /// Each run file is read as a stream, and each index file as a whole. The index file is created
 /// once all of them were opened.
-pub fn run<'a, R: Threads, F: FileSource + FileTarget>(
+pub fn run<'a, R: Threads + Sync, F: FileSource + FileTarget>(
     rt: &R,
     alloc: Global,
     files: &F,

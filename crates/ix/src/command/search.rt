@@ -13,7 +13,7 @@ use std::thread::Threads;
 
 /// Writes the names of the documents of the index file that answer the query, and answers how many
 /// there are. The query is read under the stop list of the index.
-pub fn run<'a, R: Threads, F: FileSource, W: Write>(
+pub fn run<'a, R: Threads + Sync, F: FileSource, W: Write>(
     rt: &R,
     alloc: Global,
     files: &F,

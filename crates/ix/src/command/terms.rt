@@ -13,7 +13,7 @@ use std::thread::Threads;
 
 /// Writes the terms of the index file that match the pattern, each with in how many documents it
 /// is, and answers how many terms there are.
-pub fn run<'a, R: Threads, F: FileSource, W: Write>(
+pub fn run<'a, R: Threads + Sync, F: FileSource, W: Write>(
     rt: &R,
     alloc: Global,
     files: &F,

@@ -21,7 +21,7 @@ use std::thread::Threads;
 /// version 1 or 2.
 ///
 /// The new file is created once the old one was read.
-pub fn run<'a, R: Threads, F: FileSource + FileTarget>(
+pub fn run<'a, R: Threads + Sync, F: FileSource + FileTarget>(
     rt: &R,
     alloc: Global,
     files: &F,

@@ -12,7 +12,7 @@ use crate::open::dictionary::read_dictionary;
 use crate::open::documents::{Row, read_documents};
 use crate::open::frame::Frame;
 use crate::open::grams::{GramRow, read_grams, read_grams_beside};
-use crate::open::lists::check_lists;
+use crate::open::lists::{check_lists, check_lists_beside};
 use crate::open::stop::read_stop;
 use crate::open::tables::LongList;
 use crate::open::terms::Terms;
@@ -80,6 +80,29 @@ impl Catalog {
         let tokens = table_of(alloc, &self.rows)?;
         let claims = Claims::new(alloc, token_total(&self.rows), section.len())?;
         let longs = check_lists(alloc, section, &self.terms, &tokens, claims)?;
+        Ok(longs)
+    }
+
+    /// Checks POSTINGS as `check_postings` does, in two threads where there may be two. It answers the same.
+    pub(crate) fn check_postings_beside<R: Threads>(
+        &self,
+        rt: &R,
+        alloc: Global,
+        frame: &Frame<'_>,
+    ) -> Result<Vec<LongList>, OpenError>
+        requires few { frame.now.documents ≤ 2 ^ 28 }
+        requires catalog { IsCatalogOf (version_in frame.now.version) (texts_in frame.now.sections)
+            self.now frame.now.documents frame.now.terms }
+        ensures found { IfOk result (λ longs.
+            AreLongListsOf (texts_in frame.now.sections) self.now longs.items) }
+        ensures refused { IfErr result (λ error. (error ≡ Memory)
+            ⊎ AreNoSections (version_in frame.now.version) (texts_in frame.now.sections)
+            frame.now.documents frame.now.terms) }
+    {
+        let section = frame.sections.postings;
+        let tokens = table_of(alloc, &self.rows)?;
+        let total = token_total(&self.rows);
+        let longs = check_lists_beside(rt, alloc, section, &self.terms, &tokens, total)?;
         Ok(longs)
     }
 

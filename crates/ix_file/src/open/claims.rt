@@ -1,5 +1,5 @@
 //! The tokens that the lists of an index text claim, each by its number in the whole collection.
-ghost use Rattle.std.specs.Prelude.{◌≡◌, ℕ, ◌*◌, ◌<◌, ◌≤◌, ◌∷◌, [], ◌↔◌, List, IfOk, OnOk, IsTrue};
+ghost use Rattle.std.specs.Prelude.{◌≡◌, ℕ, ◌*◌, ◌<◌, ◌≤◌, ◌∷◌, ◌++◌, [], ◌↔◌, List, IfOk, IfSome, OnOk, IsTrue};
 ghost use Rattle.std.specs.List.Sorted.{IsStrictlyIncreasing};
 ghost use Rattle.ix_text.specs.TokenNumbers.{AreDistinct};
 ghost use Rattle.ix_file.specs.Claimed.{HasClaimed, HasRoom, HaveClaimed, mark_count};
@@ -8,7 +8,7 @@ use ix_text::TokenMarks;
 use std::alloc::{AllocError, Global};
 
 /// How many marks take a byte.
-const MARKS_A_BYTE: usize = 8;
+pub(crate) const MARKS_A_BYTE: usize = 8;
 
 /// How many marks there may be more than tokens, since they stand in whole words.
 const UNUSED: usize = 63;
@@ -68,6 +68,20 @@ impl Claims {
                 numbers.sort_unstable();
                 !are_rising(&numbers)
             }
+        }
+    }
+
+    /// Whether a token was claimed more than once, here or there or once in both: told of marks alone, since lists are
+    /// not compared.
+    pub(crate) fn are_doubled_beside(&self, other: &Claims) -> Option<bool>
+        ensures { IfSome result (λ doubled. (one others : List ℕ) → HasClaimed self.now one →
+            HasClaimed other.now others → IsTrue doubled ↔ ¬ (AreDistinct (one ++ others))) }
+    {
+        match (self, other) {
+            (Claims::Marked(marks, doubled), Claims::Marked(others, doubled_there)) => {
+                Some(*doubled | *doubled_there | marks.meets(others))
+            }
+            _ => None,
         }
     }
 }

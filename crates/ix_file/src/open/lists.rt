@@ -11,10 +11,11 @@ ghost use Rattle.ix_text.specs.TokenTables.{HasTokens};
 ghost use Rattle.ix_file.specs.Claimed.{HasClaimed, HasRoom, HaveClaimed, mark_count};
 ghost use Rattle.ix_file.specs.Listings.{AreLaidOut, HasListedCounts, listings_in, sizes_sum};
 ghost use Rattle.ix_file.specs.LongLists.{IsLongIn};
-ghost use Rattle.ix_file.specs.ReadLists.{AreListedIn, AreListsIn, ArePositionsIn, IsNextPosting, MayClaim};
+ghost use Rattle.ix_file.specs.ReadLists.{AreClaimedLists, AreListedIn, AreListsIn, ArePositionsIn, IsNextPosting, MayClaim};
+ghost use Rattle.ix_file.specs.declared.open.claims.Claims.{Claims};
 ghost use Rattle.ix_file.specs.declared.open_error.OpenError.TheVariants.{Memory};
 
-use crate::open::claims::Claims;
+use crate::open::claims::{Claims, MARKS_A_BYTE};
 use crate::open::tables::LongList;
 use crate::open::terms::{ListPlace, Terms};
 use crate::{OpenError, Section};
@@ -22,6 +23,7 @@ use ix_text::TokenTable;
 use ix_vbyte::cursor::Skip;
 use ix_vbyte::{VbError, decode, short_number, short_posting};
 use std::alloc::{AllocError, Global};
+use std::thread::{Threads, join};
 
 /// How many bytes stand between two places at which a list may be entered, at least.
 const SPAN: usize = 128;
@@ -55,18 +57,194 @@ pub(crate) fn check_lists(
         ⊎ ((rows : List DocumentRow) (lists : List (List Posting)) → HasTokens tokens.now rows →
         ¬ (AreListsIn rows section.now terms.now lists))) }
 {
+    let (longs, claims) = check_range(alloc, section, terms, (0, terms.len()), tokens, claims)?;
+    if claims.are_doubled() {
+        return Err(OpenError::Doubled);
+    }
+    Ok(longs)
+}
+
+/// Checks the lists as `check_lists` does, in two threads where there may be two. The terms are parted where about half
+/// of POSTINGS lies before, and each thread has marks of its own: the two are compared behind the last list.
+///
+/// `total` is how many tokens the documents have. The errors of the lists before the parting come first.
+pub(crate) fn check_lists_beside<R: Threads>(
+    rt: &R,
+    alloc: Global,
+    section: &[u8],
+    terms: &Terms,
+    tokens: &TokenTable,
+    total: u32,
+) -> Result<Vec<LongList>, OpenError>
+    requires laid_out { AreLaidOut terms.now }
+    requires whole { sizes_sum (listings_in terms.now) ≡ length section.now }
+    requires counts { All HasListedCounts (listings_in terms.now) }
+    requires ready { (claims : Claims) → HasRoom claims total → MayClaim tokens.now claims }
+    ensures found { IfOk result (λ _. (rows : List DocumentRow) → HasTokens tokens.now rows →
+        (lists : List (List Posting)) × AreListsIn rows section.now terms.now lists) }
+    ensures entered { IfOk result (λ longs.
+        All (IsLongIn section.now terms.now) longs.items) }
+    ensures refused { IfErr result (λ error. (error ≡ Memory)
+        ⊎ ((rows : List DocumentRow) (lists : List (List Posting)) → HasTokens tokens.now rows →
+        ¬ (AreListsIn rows section.now terms.now lists))) }
+{
+    // few lists for so many tokens: their numbers are listed, and are not compared
+    if total as usize / MARKS_A_BYTE > section.len() {
+        return check_all(alloc, section, terms, tokens, total);
+    }
+    let middle = first_behind(terms, section.len() / 2);
+    let front = (0, middle);
+    let back = (middle, terms.len());
+    let check_front = || -> Result<(Vec<LongList>, Claims), OpenError>
+        requires laid_out { AreLaidOut terms.now }
+        requires whole { sizes_sum (listings_in terms.now) ≡ length section.now }
+        requires counts { All HasListedCounts (listings_in terms.now) }
+        requires ready { (claims : Claims) → HasRoom claims total → MayClaim tokens.now claims }
+        requires range { front.0 ≤ front.1 }
+        requires within { front.1 ≤ length terms.now }
+        ensures found { IfOk result (λ read. (rows : List DocumentRow) →
+            HasTokens tokens.entry.now rows → AreClaimedLists rows section.entry.now
+            (slice_range terms.entry.now front.0 front.1) read.1) }
+        ensures entered { IfOk result (λ read.
+            All (IsLongIn section.entry.now terms.entry.now) read.0.items) }
+        ensures refused { IfErr result (λ error. (error ≡ Memory)
+            ⊎ ((rows : List DocumentRow) (lists : List (List Posting)) →
+            HasTokens tokens.entry.now rows →
+            ¬ (AreListsIn rows section.entry.now terms.entry.now lists))) }
+    { check_part(alloc, section, terms, front, tokens, total) };
+    let check_back = || -> Result<(Vec<LongList>, Claims), OpenError>
+        requires laid_out { AreLaidOut terms.now }
+        requires whole { sizes_sum (listings_in terms.now) ≡ length section.now }
+        requires counts { All HasListedCounts (listings_in terms.now) }
+        requires ready { (claims : Claims) → HasRoom claims total → MayClaim tokens.now claims }
+        requires range { back.0 ≤ back.1 }
+        requires within { back.1 ≤ length terms.now }
+        ensures found { IfOk result (λ read. (rows : List DocumentRow) →
+            HasTokens tokens.entry.now rows → AreClaimedLists rows section.entry.now
+            (slice_range terms.entry.now back.0 back.1) read.1) }
+        ensures entered { IfOk result (λ read.
+            All (IsLongIn section.entry.now terms.entry.now) read.0.items) }
+        ensures refused { IfErr result (λ error. (error ≡ Memory)
+            ⊎ ((rows : List DocumentRow) (lists : List (List Posting)) →
+            HasTokens tokens.entry.now rows →
+            ¬ (AreListsIn rows section.entry.now terms.entry.now lists))) }
+    { check_part(alloc, section, terms, back, tokens, total) };
+    let (first, second) = join(rt, check_front, check_back);
+    let (mut longs, claims) = first?;
+    let (mut more, others) = second?;
+    match claims.are_doubled_beside(&others) {
+        Some(false) => {
+            longs.append(&mut more)?;
+            Ok(longs)
+        }
+        Some(true) => Err(OpenError::Doubled),
+        None => check_all(alloc, section, terms, tokens, total),
+    }
+}
+
+/// The number of the first term whose list begins at this place of POSTINGS or behind it, or how many terms there are.
+fn first_behind(terms: &Terms, place: usize) -> usize
+    ensures { result ≤ length terms.now }
+{
+    let mut low = 0;
+    let mut high = terms.len();
+    while low < high {
+        let middle = low + (high - low) / 2;
+        if terms.list(middle).start < place {
+            low = middle + 1;
+        } else {
+            high = middle;
+        }
+    }
+    low
+}
+
+/// Checks the lists as `check_lists` does, with room for claims of so many tokens.
+fn check_all(
+    alloc: Global,
+    section: &[u8],
+    terms: &Terms,
+    tokens: &TokenTable,
+    total: u32,
+) -> Result<Vec<LongList>, OpenError>
+    requires laid_out { AreLaidOut terms.now }
+    requires whole { sizes_sum (listings_in terms.now) ≡ length section.now }
+    requires counts { All HasListedCounts (listings_in terms.now) }
+    requires ready { (claims : Claims) → HasRoom claims total → MayClaim tokens.now claims }
+    ensures found { IfOk result (λ _. (rows : List DocumentRow) → HasTokens tokens.now rows →
+        (lists : List (List Posting)) × AreListsIn rows section.now terms.now lists) }
+    ensures entered { IfOk result (λ longs.
+        All (IsLongIn section.now terms.now) longs.items) }
+    ensures refused { IfErr result (λ error. (error ≡ Memory)
+        ⊎ ((rows : List DocumentRow) (lists : List (List Posting)) → HasTokens tokens.now rows →
+        ¬ (AreListsIn rows section.now terms.now lists))) }
+{
+    let claims = Claims::new(alloc, total, section.len())?;
+    check_lists(alloc, section, terms, tokens, claims)
+}
+
+/// Checks the lists of some of the terms, from one number up to another, with room for claims of so many tokens.
+fn check_part(
+    alloc: Global,
+    section: &[u8],
+    terms: &Terms,
+    range: (usize, usize),
+    tokens: &TokenTable,
+    total: u32,
+) -> Result<(Vec<LongList>, Claims), OpenError>
+    requires laid_out { AreLaidOut terms.now }
+    requires whole { sizes_sum (listings_in terms.now) ≡ length section.now }
+    requires counts { All HasListedCounts (listings_in terms.now) }
+    requires ready { (claims : Claims) → HasRoom claims total → MayClaim tokens.now claims }
+    requires range { range.0 ≤ range.1 }
+    requires within { range.1 ≤ length terms.now }
+    ensures found { IfOk result (λ read. (rows : List DocumentRow) → HasTokens tokens.now rows →
+        AreClaimedLists rows section.now (slice_range terms.now range.0 range.1) read.1) }
+    ensures entered { IfOk result (λ read. All (IsLongIn section.now terms.now) read.0.items) }
+    ensures refused { IfErr result (λ error. (error ≡ Memory)
+        ⊎ ((rows : List DocumentRow) (lists : List (List Posting)) → HasTokens tokens.now rows →
+        ¬ (AreListsIn rows section.now terms.now lists))) }
+{
+    let claims = Claims::new(alloc, total, section.len())?;
+    check_range(alloc, section, terms, range, tokens, claims)
+}
+
+/// Checks the lists of some of the terms, from one number up to another, and claims their tokens.
+///
+/// The errors of a list, list by list; or `Memory`.
+fn check_range(
+    alloc: Global,
+    section: &[u8],
+    terms: &Terms,
+    range: (usize, usize),
+    tokens: &TokenTable,
+    claims: Claims,
+) -> Result<(Vec<LongList>, Claims), OpenError>
+    requires laid_out { AreLaidOut terms.now }
+    requires whole { sizes_sum (listings_in terms.now) ≡ length section.now }
+    requires counts { All HasListedCounts (listings_in terms.now) }
+    requires range { range.0 ≤ range.1 }
+    requires within { range.1 ≤ length terms.now }
+    requires ready { MayClaim tokens.now claims }
+    requires none { HasClaimed claims [] }
+    requires few { mark_count claims ≤ 8 * length section.now }
+    ensures found { IfOk result (λ read. (rows : List DocumentRow) → HasTokens tokens.now rows →
+        AreClaimedLists rows section.now (slice_range terms.now range.0 range.1) read.1) }
+    ensures entered { IfOk result (λ read. All (IsLongIn section.now terms.now) read.0.items) }
+    ensures refused { IfErr result (λ error. (error ≡ Memory)
+        ⊎ ((rows : List DocumentRow) (lists : List (List Posting)) → HasTokens tokens.now rows →
+        ¬ (AreListsIn rows section.now terms.now lists))) }
+{
+    let (from, to) = range;
     let mut claims = claims;
     let mut longs = Vec::new(alloc);
-    for number in 0..terms.len() {
+    for number in from..to {
         let place = terms.list(number);
         let list = list_of(section, place);
         let skips = check_list(alloc, list, place.documents, tokens, &mut claims)?;
         keep_long(&mut longs, number, skips)?;
     }
-    if claims.are_doubled() {
-        return Err(OpenError::Doubled);
-    }
-    Ok(longs)
+    Ok((longs, claims))
 }
 
 /// Keeps the places of the list of a term, if there are any.

@@ -10,7 +10,7 @@ pub(crate) type Case<'a> = ([&'a [u8]; 5], [u32; 2], &'a str);
 
 /// Whether the texts of a version with these sections are refused so, also where they are checked side by side.
 pub(crate) fn are_refused(
-    rt: &impl Threads,
+    rt: &(impl Threads + Sync),
     alloc: Global,
     version: u8,
     cases: &[Case<'_>],

@@ -14,7 +14,7 @@ const TWO_LISTS: &[u8] = b"\x81a\x81\x83\x81b\x81\x83";
 const TWO_DOCUMENTS: &[u8] = b"\x81d\x81\x81e\x81";
 
 /// Faults of POSTINGS, and tokens told twice.
-const LISTS: [Case<'_>; 18] = [
+const LISTS: [Case<'_>; 22] = [
     (
         [
             b"\x81\x82\x81\x82",
@@ -211,6 +211,51 @@ const LISTS: [Case<'_>; 18] = [
         ],
         [1, 2],
         "Doubled",
+    ),
+    // lists of two threads: a fault in both, where that of the first is told, one in the second alone, and none
+    (
+        [
+            b"\x81\x83\x84\x81\x81\x81\x83\x81\x81\x80",
+            b"",
+            b"\x81d\x83",
+            b"\x81a\x81\x85\x81b\x81\x85",
+            TWO_GRAMS,
+        ],
+        [1, 2],
+        "PositionRange",
+    ),
+    (
+        [
+            b"\x81\x83\x81\x81\x80\x81\x83\x84\x81\x81",
+            b"",
+            b"\x81d\x83",
+            b"\x81a\x81\x85\x81b\x81\x85",
+            TWO_GRAMS,
+        ],
+        [1, 2],
+        "Zero",
+    ),
+    (
+        [
+            b"\x81\x83\x81\x81\x81\x81\x83\x81\x81\x80",
+            b"",
+            b"\x81d\x83",
+            b"\x81a\x81\x85\x81b\x81\x85",
+            TWO_GRAMS,
+        ],
+        [1, 2],
+        "Zero",
+    ),
+    (
+        [
+            b"\x81\x83\x81\x81\x81\x81\x83\x84\x81\x81",
+            b"",
+            b"\x81d\x86",
+            b"\x81a\x81\x85\x81b\x81\x85",
+            TWO_GRAMS,
+        ],
+        [1, 2],
+        "",
     ),
 ];
 

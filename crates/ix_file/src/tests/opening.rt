@@ -62,7 +62,7 @@ pub(crate) fn refusal(alloc: Global, text: &[u8]) -> Result<String, Fail> {
 
 /// The same where it is checked in threads side by side.
 pub(crate) fn refusal_beside(
-    rt: &impl Threads,
+    rt: &(impl Threads + Sync),
     alloc: Global,
     text: Vec<u8>,
 ) -> Result<String, Fail> {

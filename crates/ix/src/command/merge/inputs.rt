@@ -113,7 +113,7 @@ fn refusal_at<'a>(place: usize, error: RunTextError) -> Refusal<'a>
 }
 
 /// Opens the files of these paths.
-pub fn open_all<'a, R: Threads, F: FileSource>(
+pub fn open_all<'a, R: Threads + Sync, F: FileSource>(
     rt: &R,
     alloc: Global,
     files: &F,
@@ -137,7 +137,7 @@ pub fn open_all<'a, R: Threads, F: FileSource>(
 
 /// Opens the file of this path, which stands at this place in the list: a run file, or an index
 /// file where it does not begin as a run does.
-fn open<'a, R: Threads, F: FileSource>(
+fn open<'a, R: Threads + Sync, F: FileSource>(
     rt: &R,
     alloc: Global,
     files: &F,
@@ -162,7 +162,7 @@ fn open<'a, R: Threads, F: FileSource>(
 
 /// Opens the file of this path, which does not begin as a run does, as an index file. Where it does
 /// not begin as one either, or is not read a second time, it is told as a file that is no run.
-fn open_volume<'a, R: Threads, F: FileSource>(
+fn open_volume<'a, R: Threads + Sync, F: FileSource>(
     rt: &R,
     alloc: Global,
     files: &F,

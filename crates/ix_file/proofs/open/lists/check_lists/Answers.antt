@@ -1,87 +1,17 @@
-use Rattle.std.proofs.Common.{◌<◌, length, inl, inr, refl, ap, ⊎_elim, arith}
-use Rattle.std.proofs.lemmas.Result.{err_from_is_err_and}
-use Rattle.std.proofs.lemmas.List.Elements.{All-nil}
-use Rattle.ix_vbyte.specs.Skips.{AreSkipsIn}
-use Rattle.ix_file.specs.LongLists.{IsLongIn}
-use Rattle.ix_file.specs.ReadLists.{AreListedIn}
-use Rattle.ix_file.specs.declared.open.tables.LongList.{LongList}
-use Rattle.ix_file.proofs.AllLists.{counts_at, list_within, lists_are, lists_are_not, no_list, read_all_lists, read_no_list, read_one_list}
-use Rattle.ix_file.proofs.ListEntering.{long_in, long_kept}
-use Rattle.ix_file.proofs.PlacedLemmas.{from_term, term_at, to_term}
-use Rattle.ix_file.specs.declared.open.terms.ListPlace.{ListPlace}
+use Rattle.std.proofs.Common.{inr, sym}
+use Rattle.ix_file.specs.ReadLists.{AreClaimedLists}
+use Rattle.ix_file.proofs.AllLists.{all_claimed, lists_are, lists_are_not}
 use Rattle.ix_file.proofs.open.lists.check_lists.Goals as goal
-
-pub loop-number-init : goal.loop-number-init
-loop-number-init c = record {
-  read = λ rows has. read_no_list rows c.args.section.now c.args.claims;
-  entered = rw c.new-longs.ensures.items (All-nil (IsLongIn c.args.section.now c.args.terms.now));
-  ready = c.requires.ready;
-}
-
-pub list_of-list-requires : goal.list_of-list-requires
-list_of-list-requires c =
-    let low : c.loop-number.number < length c.args.terms.now = omega (arith, c.loop-number-test.true, c.len-number-end.ensures.count) in
-    let at = term_at c.args.terms.now c.loop-number.number c.list-place.result c.list-place.ensures in
-    let within = list_within c.args.terms.now c.loop-number.number at.term c.requires.laid_out low at.read in
-    omega (arith, within, c.requires.whole, ap (λ (p : ListPlace). p.start) at.is, ap (λ (p : ListPlace). p.size) at.is)
-
-pub check_list-requires-clause-some : goal.check_list-requires-clause-some
-check_list-requires-clause-some c =
-    let low : c.loop-number.number < length c.args.terms.now = omega (arith, c.loop-number-test.true, c.len-number-end.ensures.count) in
-    let at = term_at c.args.terms.now c.loop-number.number c.list-place.result c.list-place.ensures in
-    let some : 0 < at.term.documents = (counts_at c.args.terms.now c.loop-number.number at.term c.requires.counts low at.read).some in
-    omega (arith, some, ap (λ (p : ListPlace). p.documents) at.is)
-
-pub check_list-requires-clause-ready : goal.check_list-requires-clause-ready
-check_list-requires-clause-ready c = c.loop-number.invariant.ready
-
-pub returns-in_err-skips-clause-refused : goal.returns-in_err-skips-clause-refused
-returns-in_err-skips-clause-refused c =
-    let section = c.args.section.now in
-    let low : c.loop-number.number < length c.args.terms.now = omega (arith, c.loop-number-test.true, c.len-number-end.ensures.count) in
-    let at = term_at c.args.terms.now c.loop-number.number c.list-place.result c.list-place.ensures in
-    let p = err_from_is_err_and c.from_residual.result c.from_residual.ensures.1 in
-    rw (p.1, p.2)
-    (⊎_elim inl
-    (λ refused.
-    inr
-    (λ rows lists has are.
-    no_list rows section c.args.terms.now lists c.loop-number.number at.term low at.read
-    (λ postings listed. refused rows postings has (from_term (λ documents bytes. AreListedIn rows documents bytes postings) section at.term c.list-place.result c.list_of-list.result.now at.is c.list_of-list.ensures listed))
-    are))
-    c.in_err-skips.ensures.refused)
-
-pub loop-number-preserved : goal.loop-number-preserved
-loop-number-preserved c =
-    let section = c.args.section.now in
-    let low : c.loop-number.number < length c.args.terms.now = omega (arith, c.loop-number-test.true, c.len-number-end.ensures.count) in
-    let at = term_at c.args.terms.now c.loop-number.number c.list-place.result c.list-place.ensures in
-    record {
-      read = λ rows has.
-          let found = c.in_ok-skips.ensures.found rows has in
-          read_one_list rows section c.args.terms.now c.loop-number.number at.term found.0 c.args.claims c.loop-number.claims c.check_list.new.claims
-          (c.loop-number.invariant.read rows has) low at.read
-          (to_term (λ documents bytes. AreListedIn rows documents bytes found.0) section at.term c.list-place.result c.list_of-list.result.now at.is c.list_of-list.ensures found.1) found.2;
-      entered =
-          let long : LongList = record { number = c.loop-number.number; skips = c.in_ok-skips.skips } in
-          let skips = to_term (λ documents bytes. AreSkipsIn documents bytes c.in_ok-skips.skips.items) section at.term c.list-place.result c.list_of-list.result.now at.is c.list_of-list.ensures c.in_ok-skips.ensures.entered in
-          long_kept section c.args.terms.now c.loop-number.longs.items c.keep_long.new.longs.items long c.loop-number.invariant.entered c.in_ok-keep_long.ensures
-          (long_in section c.args.terms.now c.loop-number.number at.term long refl at.read skips);
-      ready = c.in_ok-skips.ensures.room;
-    }
 
 pub returns-then-are_doubled-clause-refused : goal.returns-then-are_doubled-clause-refused
 returns-then-are_doubled-clause-refused c =
     inr
     (λ rows lists has are.
-    lists_are_not rows c.args.section.now c.args.terms.now c.args.claims c.loop-number.claims c.are_doubled.result lists
-    (read_all_lists rows c.args.section.now c.args.terms.now c.loop-number.number c.args.claims c.loop-number.claims (omega (arith, c.loop-number-test.false, c.len-number-end.ensures.count)) (c.loop-number.invariant.read rows has))
-    c.requires.none c.are_doubled.ensures c.if-are_doubled.true are)
+    lists_are_not rows c.args.section.now c.args.terms.now c.in_ok-longs.claims c.are_doubled.result lists
+    (all_claimed rows c.args.section.now c.args.terms.now c.len.result c.in_ok-longs.claims (sym c.len.ensures.count) (c.in_ok-longs.ensures.found rows has))
+    c.are_doubled.ensures c.if-are_doubled.true are)
 
 pub returns-clause-found : goal.returns-clause-found
 returns-clause-found c rows has =
-    let read = read_all_lists rows c.args.section.now c.args.terms.now c.loop-number.number c.args.claims c.loop-number.claims (omega (arith, c.loop-number-test.false, c.len-number-end.ensures.count)) (c.loop-number.invariant.read rows has) in
-    (read.lists, lists_are rows c.args.section.now c.args.terms.now c.args.claims c.loop-number.claims c.are_doubled.result read c.requires.none c.are_doubled.ensures (λ twice. cc (twice, c.if-are_doubled.false)))
-
-pub returns-clause-entered : goal.returns-clause-entered
-returns-clause-entered c = c.loop-number.invariant.entered
+    let read : AreClaimedLists rows c.args.section.now c.args.terms.now c.in_ok-longs.claims = all_claimed rows c.args.section.now c.args.terms.now c.len.result c.in_ok-longs.claims (sym c.len.ensures.count) (c.in_ok-longs.ensures.found rows has) in
+    (read.lists, lists_are rows c.args.section.now c.args.terms.now c.in_ok-longs.claims c.are_doubled.result read c.are_doubled.ensures (λ twice. cc (twice, c.if-are_doubled.false)))
