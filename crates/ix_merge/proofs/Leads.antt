@@ -89,12 +89,6 @@ below_by_lead (suc count) one other bytes bytes' low =
 pub same_by_lead : (count : ℕ) (one other : List ℕ) → Bytes one → Bytes other → lead count one ≡ lead count other → length one ≡ length other → length one ≤ count → one ≡ other
 same_by_lead count one other bytes bytes' same long few = same_number_lists one other long (λ place within. same_bytes count one other bytes bytes' same place (omega arith))
 
--- two standings alike that show whole terms are of one term
-pub same_shown : (one another : List ℕ) (standing standing' : Standing) → IsStanding (record { term = one; end = standing.end }) standing → IsStanding (record { term = another; end = standing'.end }) standing'
-    → standing.lead ≡ standing'.lead → standing.length ≡ standing'.length → standing.length ≤ 16 → one ≡ another
-same_shown one another standing standing' is is' led long few =
-    same_by_lead 16 one another (bytes_of one is.bytes) (bytes_of another is'.bytes) (sym is.led ∙ led ∙ is'.led) (sym is.long ∙ long ∙ is'.long) (omega (arith, is.long))
-
 -- ---- the order of two sources by their standings
 
 module _ {S : Type 0} (heading : S → Heading) (current : S → Option (List ℕ)) where

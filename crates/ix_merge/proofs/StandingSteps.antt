@@ -48,32 +48,6 @@ end_stays {S} heading current sources standings place source new standing are wi
     by None none has some = let e = rw none at some in cc
     by (Some term) is has some = let stands : IsStanding (record { term = term; end = end_of (heading source) }) (get_or standings place standing) = rw is at has in stands.ends ∙ sym (ap end_of same)
 
--- The standing of a source with a term at hand, at its place, shows that term.
-pub stands_here : {S : Type 0} (heading : S → Heading) (current : S → Option (List ℕ)) (sources : List S) (standings : List Standing) (place : ℕ) (source : S) (standing : Standing)
-    → AreStandings (map (key_of heading current) sources) standings → place < length sources → get_or sources place source ≡ source
-    → (term : List ℕ) → current source ≡ Some term → IsStanding (record { term = term; end = (get_or standings place standing).end }) (get_or standings place standing)
-stands_here {S} heading current sources standings place source standing are within here term is =
-    let e : key_at (map (key_of heading current) sources) place ≡ key_of heading current source = get_or-map (key_of heading current) sources place source None within ∙ ap (key_of heading current) here in
-    let has : HasStanding (key_of heading current source) (get_or standings place standing) =
-    subst (λ (k : Option Key). HasStanding k (get_or standings place standing)) e (are.each place standing (omega (arith, length-map sources (key_of heading current)))) in
-    let stands : IsStanding (record { term = term; end = end_of (heading source) }) (get_or standings place standing) = rw is at has in
-    record { bytes = stands.bytes; led = stands.led; long = stands.long; ends = refl }
-
--- A source whose standing shows the term of another one has that term at hand.
-pub known_here : {S : Type 0} (heading : S → Heading) (current : S → Option (List ℕ)) (sources : List S) (standings : List Standing) (place : ℕ) (source : S) (standing last : Standing) (told : List ℕ)
-    → AreStandings (map (key_of heading current) sources) standings → place < length sources → get_or sources place source ≡ source → IsSome (key_at (map (key_of heading current) sources) place)
-    → IsStanding (record { term = told; end = last.end }) last
-    → ((one another : List ℕ) → IsStanding (record { term = one; end = (get_or standings place standing).end }) (get_or standings place standing) → IsStanding (record { term = another; end = last.end }) last → one ≡ another)
-    → current source ≡ Some told
-known_here {S} heading current sources standings place source standing last told are within here some shown alike = by (current source) refl
-  where
-    by : (o : Option (List ℕ)) → current source ≡ o → current source ≡ Some told
-    by None none =
-        let e : key_at (map (key_of heading current) sources) place ≡ key_of heading current source = get_or-map (key_of heading current) sources place source None within ∙ ap (key_of heading current) here in
-        let h : IsSome (key_of heading current source) = subst (λ (k : Option Key). IsSome k) e some in
-        absurd (let f = rw none at h in cc)
-    by (Some term) is = is ∙ ap (λ (t : List ℕ). Some t) (alike term told (stands_here heading current sources standings place source standing are within here term is) shown)
-
 module _ {S : Type 0} (heading : S → Heading) (current : S → Option (List ℕ)) (sources : List S) (standings : List Standing) (place : ℕ) (new : S) (one : Standing)
     (within : place < length sources) (has : HasStanding (key_of heading current new) one) where
   abbrev keys : List (Option Key)

@@ -1,5 +1,5 @@
 //! The entry that a merge tells: a term, and the lists of the sources that have it, one behind another.
-ghost use Rattle.std.specs.Prelude.{◌≡◌, ◌≢◌, ◌≤◌, ℕ, List, Option, length, OnOk, OnErr, IfErr, IsTrue, string_bytes, []};
+ghost use Rattle.std.specs.Prelude.{◌≡◌, ◌≢◌, ◌≤◌, ℕ, List, Option, length, OnOk, OnErr, IfErr, string_bytes, []};
 ghost use Rattle.ix_file.specs.Telling.{IsClosable};
 ghost use Rattle.ix_file.specs.Told.{Told};
 ghost use Rattle.ix_file.specs.Writers.{CanEndEntry, IsReady, WasTold, sink, sink_name};
@@ -32,15 +32,12 @@ impl EntryAtHand {
         }
     }
 
-    /// Begins the entry of a term, of at most 255 bytes, where it is not the one at hand. Writes nothing. Where it is known
-    /// to be the one at hand, its bytes are not fetched.
+    /// Begins the entry of a term, of at most 255 bytes, where it is not the one at hand. Writes nothing.
     pub(crate) fn begin<W: Write>(
         &mut self,
-        known: bool,
         term: &str,
         writer: &mut IndexWriter<'_, W>,
     ) -> Result<(), PutError>
-        requires known { IsTrue known → string_bytes self.old.term ≡ term.now }
         requires short { length term.now ≤ 255 }
         requires ready { IsReady writer.old }
         requires may { CanEndEntry writer.old }
@@ -53,7 +50,7 @@ impl EntryAtHand {
             (string_bytes self.old.term) self.old.next term.now self.new.next) }
         ensures error { IfErr result (λ error. error ≡ PutError.Memory) }
     {
-        if !known && self.term.as_str() != term {
+        if self.term.as_str() != term {
             writer.term(term)?;
             self.term.clear();
             self.term.push_str(term)?;

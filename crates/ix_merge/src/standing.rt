@@ -1,5 +1,5 @@
 //! Where a source stands in a tournament: what is compared of it before its term.
-ghost use Rattle.std.specs.Prelude.{◌≡◌, ℕ, List, [], IsTrue, is_some, slice_index};
+ghost use Rattle.std.specs.Prelude.{◌≡◌, is_some, slice_index};
 ghost use Rattle.ix_merge.specs.Keys.{end_of, key_of};
 ghost use Rattle.ix_merge.specs.Standings.{HasStanding, IsStanding, lead};
 
@@ -22,12 +22,7 @@ pub(crate) struct Standing {
 
 impl Standing {
     /// That of no source.
-    pub(crate) fn none() -> Standing
-        ensures { IsStanding (record {
-          term = [];
-          end = 0;
-        }) result }
-    {
+    pub(crate) fn none() -> Standing {
         Standing {
             lead: 0,
             length: 0,
@@ -47,26 +42,6 @@ impl Standing {
             length: term.len(),
             end,
         }
-    }
-
-    /// Whether both show the whole of their terms, and these are one term. False tells nothing.
-    #[inline]
-    pub(crate) fn shows_term_of(&self, other: &Standing) -> bool
-        ensures { IsTrue result → (one another : List ℕ)
-            → IsStanding (record {
-              term = one;
-              end = self.now.end;
-            }) self.now
-            → IsStanding (record {
-              term = another;
-              end = other.now.end;
-            }) other.now
-            → one ≡ another }
-    {
-        if self.lead != other.lead || self.length != other.length {
-            return false;
-        }
-        self.length <= SHOWN
     }
 
     /// Sets that of a source which has gone on: it has a term at hand, or none and then it stands nowhere.

@@ -87,12 +87,9 @@ fn merge_by<S: Source, W: Write>(
 {
     begin_all(sources, standings, tree)?;
     play_all(sources, standings, tree);
-    let mut last = Standing::none();
     while let Some(place) = first_of(tree) {
         let source = &mut sources[place];
-        let known = standings[place].shows_term_of(&last);
-        last = standings[place];
-        let more = take_turn(place, known, source, entry, writer)?;
+        let more = take_turn(place, source, entry, writer)?;
         standings[place].follow(source, more);
         let leaf = sources.len() + place;
         tree[leaf] = more.then_some(place);

@@ -1,5 +1,5 @@
 //! A source's turn in a merge: its term at hand is told, with its documents, and its next term is read.
-ghost use Rattle.std.specs.Prelude.{◌≡◌, ◌≢◌, ◌+◌, ℕ, List, Option, IfOk, IfErr, OnOk, OnErr, IsSome, IsTrue, Some, is_some, string_bytes};
+ghost use Rattle.std.specs.Prelude.{◌≡◌, ◌≢◌, ◌+◌, ℕ, List, Option, IfOk, IfErr, OnOk, OnErr, IsSome, is_some, string_bytes};
 ghost use Rattle.ix_text.specs.Parts.{DictionaryEntry};
 ghost use Rattle.ix_file.specs.Told.{Told};
 ghost use Rattle.ix_file.specs.Writers.{WasTold, sink_name};
@@ -14,23 +14,19 @@ use ix_run::{ListError, Source};
 use std::io::Write;
 
 /// Tells the term at hand of a source, with the documents that it has of it, and goes on to the source's next term.
-/// False: there is none. `place` is where the source stands among those that are merged, and `known` that its term is the
-/// one of the entry at hand.
+/// False: there is none. `place` is where the source stands among those that are merged.
 pub(crate) fn take_turn<S: Source, W: Write>(
     place: usize,
-    known: bool,
     source: &mut S,
     entry: &mut EntryAtHand,
     writer: &mut IndexWriter<'_, W>,
 ) -> Result<bool, MergeError<S::Error>>
     requires at_hand { IsSome (S.current source.old) }
-    requires known { IsTrue known → S.current source.old ≡ Some (string_bytes entry.old.term) }
     requires may { MayTurnSomehow S.heading S.current S.gives W.contents source.old
         (string_bytes entry.old.term) entry.old.next writer.old }
     ensures same_writer { sink_name writer.new ≡ sink_name writer.old }
     ensures heading { S.heading source.new ≡ S.heading source.old }
     ensures more { IfOk result (λ more. more ≡ is_some (S.current source.new)) }
-    ensures term { OnOk result (S.current source.old ≡ Some (string_bytes entry.new.term)) }
     ensures turned { (before : Option (List ℕ)) (told : Told) (given : List DictionaryEntry)
         → WasTold W.contents before writer.old told
         → MayTurn S.heading S.current S.gives source.old given told
@@ -47,7 +43,7 @@ pub(crate) fn take_turn<S: Source, W: Write>(
     ensures no_more_faults { OnOk result (KeepsFaults S.faults source.old source.new) }
     ensures refused { IfErr result (IsRefusalAt place (S.faults source.old)) }
 {
-    if let Err(error) = entry.begin(known, source.term(), writer) {
+    if let Err(error) = entry.begin(source.term(), writer) {
         return Err(put_error(error));
     }
     entry.list.clear();

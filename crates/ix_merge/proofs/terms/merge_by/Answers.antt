@@ -1,18 +1,17 @@
 -- From turn to turn: the sources gave what was told, and the tournament holds the least of what they have at hand.
-use Rattle.std.proofs.Common.{◌≡◌, ◌+◌, ◌*◌, ◌-◌, ◌^◌, ◌<◌, ℕ, List, [], Option, length, length-set, map, get_or, set, string_bytes, refl, sym, subst, ◌∙◌, arith}
+use Rattle.std.proofs.Common.{◌≡◌, ◌+◌, ◌*◌, ◌-◌, ◌^◌, ◌<◌, ℕ, List, Option, length, length-set, map, get_or, set, string_bytes, refl, sym, subst, ◌∙◌, arith}
 use Rattle.std.proofs.Math.Seq.{map-set_same}
 use Rattle.std.proofs.lemmas.List.{get_or_default, length-map}
 use Rattle.ix_run.specs.Heads.{Heading}
 use Rattle.ix_merge.specs.Keys.{key_of}
 use Rattle.ix_merge.specs.Merging.{AreApart}
-use Rattle.ix_merge.specs.Standings.{IsStanding}
 use Rattle.ix_merge.specs.Tournaments.{IsSettledBut}
 use Rattle.std.proofs.lemmas.Result.{err_from_is_err_and}
 use Rattle.ix_merge.proofs.Faulting.{keep_more, refusal_at}
 use Rattle.ix_merge.proofs.MergingSteps.{behind_then, longer, may_take, merged_nothing, merged_some_then, merging_first, merging_more, share_here, tells_all}
 use Rattle.ix_merge.proofs.Playing.{HoldsFirst, holds_first}
 use Rattle.ix_merge.proofs.Rounds.{behind_first, leaf_changed, none_left, then_some-cond}
-use Rattle.ix_merge.proofs.StandingSteps.{end_stays, known_here, standings_changed, stands_here}
+use Rattle.ix_merge.proofs.StandingSteps.{end_stays, standings_changed}
 use Rattle.ix_merge.proofs.Starts.{started_headed}
 use Rattle.ix_merge.proofs.Turning.{on_err_if}
 use Rattle.ix_merge.proofs.terms.merge_by.Goals as goal
@@ -25,15 +24,12 @@ returns-in_err-begin_all-clause-some g c before told was none =
 pub loop-place-init : goal.loop-place-init
 loop-place-init g c =
     let started = c.in_ok-begin_all.ensures.started in
-    let none = c.none-last.ensures in
-    let shown : IsStanding (record { term = []; end = c.none-last.result.end }) c.none-last.result = record { bytes = none.bytes; led = none.led; long = none.long; ends = refl } in
     record {
       as_many = started.as_many;
       headed = started_headed g.S.Source.heading g.S.Source.current g.S.Source.yields g.S.Source.gives c.args.sources.now c.begin_all.new.sources started;
       no_more_faults = c.in_ok-begin_all.ensures.no_more_faults;
       same_writer = refl;
       standings = c.in_ok-begin_all.ensures.standings;
-      shown = subst (λ (term : List ℕ). IsStanding (record { term = term; end = c.none-last.result.end }) c.none-last.result) (sym c.requires.none) shown;
       played = c.play_all.ensures;
       behind = behind_first g.S.Source.heading g.S.Source.current g.S.Source.yields g.S.Source.gives g.met.S.Source.given_lawfully c.args.sources.now c.begin_all.new.sources (string_bytes c.args.entry.now.term) c.args.entry.now.next started c.requires.none;
       merging = λ before told was none.
@@ -61,16 +57,6 @@ take_turn-requires-clause-may g c =
           may_take g.S.Source.heading g.S.Source.current g.S.Source.yields g.S.Source.gives g.W.Write.contents g.met.S.Source.given_lawfully c.args.sources.now c.loop-place.sources r.before r.told c.loop-place.writer
           (string_bytes c.loop-place.entry.term) c.loop-place.entry.next merging i.behind c.requires.few c.in-Some.place source within here;
     }
-
-pub take_turn-requires-clause-known : goal.take_turn-requires-clause-known
-take_turn-requires-clause-known g c known =
-    let i = c.loop-place.invariant in
-    let first : HoldsFirst (map (key_of g.S.Source.heading g.S.Source.current) c.loop-place.sources) c.in-Some.place =
-    holds_first (map (key_of g.S.Source.heading g.S.Source.current) c.loop-place.sources) c.loop-place.tree c.in-Some.place i.played (sym c.first_of.ensures ∙ c.in-Some.is) in
-    let within : c.in-Some.place < length c.loop-place.sources = omega (arith, first.within, length-map c.loop-place.sources (key_of g.S.Source.heading g.S.Source.current)) in
-    let source = get_or c.loop-place.sources c.in-Some.place c.index-sources-place.result in
-    let here : get_or c.loop-place.sources c.in-Some.place source ≡ source = get_or_default c.loop-place.sources c.in-Some.place source c.index-sources-place.result within in
-    known_here g.S.Source.heading g.S.Source.current c.loop-place.sources c.loop-place.standings c.in-Some.place source _ c.loop-place.last (string_bytes c.loop-place.entry.term) i.standings within here first.there i.shown (c.shows_term_of-known.ensures known)
 
 pub returns-in_err-more-clause-some : goal.returns-in_err-more-clause-some
 returns-in_err-more-clause-some g c before told was none =
@@ -169,7 +155,6 @@ loop-place-preserved g c =
           c.take_turn.new.source c.in_ok-more.ensures.no_more_faults;
       same_writer = c.take_turn.ensures.same_writer ∙ i.same_writer;
       standings = standings_changed g.S.Source.heading g.S.Source.current c.loop-place.sources c.loop-place.standings c.in-Some.place c.take_turn.new.source c.follow.new.self within c.follow.ensures i.standings;
-      shown = stands_here g.S.Source.heading g.S.Source.current c.loop-place.sources c.loop-place.standings c.in-Some.place source _ i.standings within here (string_bytes c.take_turn.new.entry.term) c.in_ok-more.ensures.term;
       played = c.play_again.ensures;
       behind =
           behind_then g.S.Source.heading g.S.Source.current g.S.Source.yields g.S.Source.gives g.W.Write.contents g.met.S.Source.given_lawfully c.args.sources.now c.loop-place.sources r.before r.told c.loop-place.writer

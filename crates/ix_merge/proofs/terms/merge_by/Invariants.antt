@@ -3,7 +3,7 @@ use Rattle.ix_file.specs.Told.{Told, entries_of}
 use Rattle.ix_file.specs.Writers.{WasTold, sink_name}
 use Rattle.ix_merge.specs.Keys.{key_of}
 use Rattle.ix_merge.specs.Merging.{KeepFaults}
-use Rattle.ix_merge.specs.Standings.{AreStandings, IsStanding}
+use Rattle.ix_merge.specs.Standings.{AreStandings}
 use Rattle.ix_merge.specs.Tournaments.{IsTournament}
 use Rattle.ix_merge.proofs.Behind.{AreBehind}
 use Rattle.ix_merge.proofs.MergingSteps.{IsMerging}
@@ -16,7 +16,6 @@ invariant-loop-place g l = record {
   no_more_faults : KeepFaults g.S.Source.faults l.fn.sources l.sources;
   same_writer : sink_name l.writer ≡ sink_name l.fn.writer;
   standings : AreStandings (map (key_of g.S.Source.heading g.S.Source.current) l.sources) l.standings;
-  shown : IsStanding (record { term = string_bytes l.entry.term; end = l.last.end }) l.last;
   played : IsTournament (map (key_of g.S.Source.heading g.S.Source.current) l.sources) l.tree;
   behind : AreBehind g.S.Source.heading g.S.Source.current (string_bytes l.entry.term) l.entry.next l.sources;
   merging : (before : Option (List ℕ)) (told : Told) → WasTold g.W.Write.contents before l.fn.writer told → entries_of told ≡ []

@@ -1,30 +1,12 @@
 -- A turn tells what the source gives: as the clauses of the calls say it, one after the other.
-use Rattle.std.proofs.Common.{◌≡◌, ◌⊎◌, List, ℕ, Some, None, true, false, Bool, MatchBool, string_bytes, inl, inr, sym, ◌∙◌}
+use Rattle.std.proofs.Common.{◌≡◌, List, ℕ, Some, None, true, false, Bool, MatchBool, string_bytes, inr, sym, ◌∙◌}
 use Rattle.ix_file.specs.Told.{settled_front}
 use Rattle.ix_file.specs.Writers.{sink}
 use Rattle.ix_file.proofs.EndingLemmas.{front_of_spelled}
-use Rattle.ix_file.specs.declared.put_error.PutError.{PutError}
-use Rattle.ix_file.specs.declared.put_error.PutError.TheVariants.{Write, Memory, Failed}
 use Rattle.ix_run.specs.Sources.{BeginsTerm, EndsTerms, entry_with}
 use Rattle.ix_merge.specs.Turns.{GoesOn, told_then}
 use Rattle.ix_merge.proofs.Turning.{HasTaken, has_taken, on_err_if, on_ok_if}
 use Rattle.ix_merge.proofs.turn.take_turn.Goals as goal
-
-pub returns-in-Err-clause-some : goal.returns-in-Err-clause-some
-returns-in-Err-clause-some g c before told given was may =
-    inl (rw c.in-Err.ensures.nothing_written (front_of_spelled before (g.W.Write.contents (sink c.args.writer.now)) c.args.writer.now.sections.pending.items (settled_front told) was.written))
-
-pub put_error-requires-in-Err-list : goal.put_error-requires-in-Err-list
-put_error-requires-in-Err-list g c failed =
-    let m = c.requires.may in
-    let taken = has_taken g.S.Source.heading g.S.Source.current g.S.Source.yields g.S.Source.gives g.S.Source.is_drained g.met.S.Source.given_lawfully c.args.source.now m.given m.told (string_bytes c.args.entry.now.term) c.args.entry.now.next m.may
-    c.term.result.now c.term.ensures g.W.Write.contents m.before c.begin.new.writer c.begin.new.self.next (c.in_default.ensures.told m.before m.told m.was m.may.closable) c.take_list.new.self c.take_list.ensures.heading
-    c.in-Ok.listed.documents c.in-Ok.listed.next c.clear.new.self.items c.take_list.new.out.items c.deref.result.now c.clear.ensures.items c.deref.ensures.value c.in-Ok.ensures.given in
-    neither c.in-Err-list.error (c.in-Err-list.ensures.error taken.was.ready) failed
-  where
-    neither : (error : PutError) → (error ≡ Write) ⊎ (error ≡ Memory) → error ≡ Failed → ⊥
-    neither error (inl write) failed = let e : Write ≡ Failed = sym write ∙ failed in cc
-    neither error (inr memory) failed = let e : Memory ≡ Failed = sym memory ∙ failed in cc
 
 pub list-requires : goal.list-requires
 list-requires g c =
