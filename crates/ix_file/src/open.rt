@@ -54,7 +54,7 @@ pub(crate) fn read_tables(alloc: Global, frame: &Frame<'_>) -> Result<Tables, Op
 }
 
 /// Reads the tables as `read_tables` does: POSTINGS and GRAMS side by side, and beside them how many grams the terms
-/// have, in three threads where there may be three.
+/// have, in several threads where there may be several.
 ///
 /// The same errors in the same order: where both are refused, those of POSTINGS.
 pub(crate) fn read_tables_beside<R: Threads + Sync>(

@@ -91,8 +91,8 @@ impl Volume {
         })
     }
 
-    /// Opens an index text as `open` does, and checks POSTINGS and GRAMS side by side, in three threads where there may
-    /// be three. It answers the same: of two errors that of POSTINGS.
+    /// Opens an index text as `open` does, and checks POSTINGS and GRAMS side by side, each in parts, in several threads
+    /// where there may be several. It answers the same: of two errors that of POSTINGS.
     pub fn open_beside<R: Threads + Sync>(
         rt: &R,
         alloc: Global,
