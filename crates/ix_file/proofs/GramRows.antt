@@ -1,7 +1,7 @@
 -- A row of GRAMS is of a gram with some of the terms that have it, or not.
-use Rattle.std.proofs.Common.{◌≡◌, ◌≢◌, ℕ, ◌+◌, ◌-◌, ◌^◌, ◌<◌, List, [], ◌++◌, length, slice_range, flat_map, ◌∷◌, take, drop, get_or, All, IsUtf8, refl, sym, ap, ap₂, subst, ◌∙◌, arith}
-use Rattle.std.proofs.lemmas.List.{append-nil, length-map, nil_from_length, take-append-drop, take_more}
-use Rattle.std.proofs.lemmas.List.Elements.{All-append, All-nil, All-cons, All-head, All-push, All-tail}
+use Rattle.std.proofs.Common.{◌≡◌, ◌≢◌, ℕ, ◌+◌, ◌-◌, ◌^◌, ◌<◌, List, [], ◌++◌, length, slice_range, flat_map, ◌∷◌, take, get_or, All, IsUtf8, refl, sym, ap, ap₂, subst, ◌∙◌, arith}
+use Rattle.std.proofs.lemmas.List.{append-nil, length-map, nil_from_length, take_more}
+use Rattle.std.proofs.lemmas.List.Elements.{All-nil, All-cons, All-head, All-push, All-tail}
 use Rattle.std.proofs.lemmas.List.Sums.{sum_by-cons}
 use Rattle.ix_text.specs.ByteOrder.{IsAscending}
 use Rattle.ix_text.specs.Parts.{GramEntry}
@@ -162,12 +162,8 @@ rows_right_there rows few texts section table cut grams are same =
     let only = cut.only grams (listed_grams rows few texts grams are) same in
     each_right (terms_in rows) section table only.1 (subst (λ (gs : List GramEntry). All (IsRightEntry (terms_in rows)) gs) only.0 (right_entries (terms_in rows) grams are))
 
--- ---- each of some rows
+-- ---- a front of rows
 
--- one element more of a front
+-- one row more
 pub front_more : {X : Type 0} (P : X → Type 0) (xs : List X) (i : ℕ) (d : X) → i < length xs → All P (take i xs) → P (get_or xs i d) → All P (take (i + 1) xs)
 front_more P xs i d low all one = subst (All P) (sym (take_more xs i d low)) (All-push P (take i xs) (get_or xs i d) all one)
-
--- what holds of both parts of a list holds of the list
-pub both_parts : {X : Type 0} (P : X → Type 0) (xs : List X) (i : ℕ) → All P (take i xs) → All P (drop i xs) → All P xs
-both_parts P xs i p q = subst (All P) (take-append-drop i xs) (All-append P (take i xs) (drop i xs) p q)
