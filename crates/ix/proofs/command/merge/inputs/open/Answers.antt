@@ -11,8 +11,8 @@ returns-in-Err-Refused-clause-refused g c = inl (unread refl)
 pub returns-in-Err-Memory-clause-refused : goal.returns-in-Err-Memory-clause-refused
 returns-in-Err-Memory-clause-refused g c = inl (unread tt)
 
-pub open_volume-requires : goal.open_volume-requires
-open_volume-requires g c =
+pub open_volume-requires-after_bounds : goal.open_volume-requires-after_bounds
+open_volume-requires-after_bounds g c κs within =
     refused _ g.F.Reader.Read.remaining (g.met.F.FileSource.untold c.args.files.now c.args.path.now) c.in-Ok.reader c.in-Ok.ensures
     _ c.open-2.result Magic (c.in-Err-Magic.is ∙ ap Err c.in-Err-Magic.field-0-is) c.open-2.ensures.accepted (is_other_or_not Magic)
 
