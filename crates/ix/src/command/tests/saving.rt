@@ -167,7 +167,7 @@ pub fn expect<R: AllocGlobal + Abort + Threads + Wait + Sync>(
     words: &[&str],
     line: &str,
 ) -> Result<(), Fail> {
-    expect_with(rt, disk, &NoRuns, &Unwatched, words, line)
+    expect_with(rt, disk, &NoRuns, words, line)
 }
 
 /// The same, where runs may be kept in these files.
