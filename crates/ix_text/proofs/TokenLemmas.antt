@@ -65,6 +65,12 @@ entry_of_term-drops stop term shown kept same tested is =
     let e : keeps stop term ≡ false = ap (keeps stop) (sym same) ∙ sym tested ∙ is in
     sym (ap (λ b. cond b (Some term) None) e)
 
+-- the entry is the term just where it is kept
+pub entry_of_term-kept_or_dropped : (stop : List (List ℕ)) (term shown : List ℕ) (kept : Bool) → shown ≡ term → kept ≡ keeps stop shown → entry_of_term stop term ≡ cond kept (Some shown) None
+unfolding entry_of_term
+entry_of_term-kept_or_dropped stop term shown kept same tested =
+    ap (λ b. cond b (Some term) None) (ap (keeps stop) (sym same) ∙ sym tested) ∙ ap (λ t. cond kept (Some t) None) (sym same)
+
 -- one more place is done
 pub taken_more : {A : Type 0} (shown : A → Entry) (old more : List A) (place : ℕ) (entry : Entry) (left : List Entry) (all : List Entry) → map shown (take (place + 1) more) ≡ map shown (take place old) ++ entry ∷ [] → map shown (take place old) ++ entry ∷ left ≡ all → map shown (take (place + 1) more) ++ left ≡ all
 taken_more shown old more place entry left all here so_far = ap (λ l. l ++ left) here ∙ append_assoc (map shown (take place old)) (entry ∷ []) left ∙ so_far

@@ -28,7 +28,9 @@ pub use parts::{
 pub use sink::{WriteRefused, flush, put_all};
 pub use stop::{StopError, StopList, has_stop_set_or_a_fault};
 pub use term::{equal_terms_match, term_of};
-pub use token::{lawful_collection, tokens, tokens_are_no_more_than_bytes, write_tokens};
+pub use token::{
+    lawful_collection, tokens, tokens_are_no_more_than_bytes, write_token, write_tokens,
+};
 pub use token_marks::TokenMarks;
 pub use token_table::TokenTable;
 pub use windows::{TrigramWindows, trigrams, trigrams_stand_by_place};

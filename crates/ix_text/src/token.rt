@@ -1,4 +1,4 @@
-ghost use Rattle.std.specs.Prelude.{◌≡◌, ℕ, ◌+◌, ◌<◌, ◌≤◌, ◌&&◌, not, List, [], ◌∷◌, ◌++◌, All, map, take, length, option_map, string_bytes, vec_len, IsUtf8, IfOk, OnOk};
+ghost use Rattle.std.specs.Prelude.{◌≡◌, ℕ, ◌+◌, ◌<◌, ◌≤◌, ◌&&◌, not, List, [], ◌∷◌, ◌++◌, All, map, take, length, option_map, string_bytes, vec_len, IsUtf8, IfOk, OnOk, Some, None, if◌then◌else◌};
 ghost use Rattle.ix_text.specs.CollectionText.{IsCollectionText};
 ghost use Rattle.ix_text.specs.Collections.{NamedText, collection_of, IsLawful, IsLawfulEntry};
 ghost use Rattle.ix_text.specs.Sizes.{SlicesAreSmall, TokensAreNoMoreThanBytes};
@@ -83,12 +83,26 @@ fn write_entry(
         *entry = entry_of(alloc, spare, word, stop)?;
         return Ok(());
     };
-    write_term(alloc, term, word)?;
-    if is_kept(term, stop) {
+    if write_token(alloc, term, word, stop)? {
         return Ok(());
     }
     keep(spare, entry.take())?;
     Ok(())
+}
+
+/// Makes the text the term of the word, over what it held, and answers whether a token list has it: not where it is
+/// among the stop terms or is empty or longer than 255 bytes. After `Memory` the text is anything.
+pub fn write_token(
+    alloc: Global,
+    term: &mut String,
+    word: &str,
+    stop: &StopList,
+) -> Result<bool, Memory>
+    ensures { IfOk result (λ kept. entry_of_term stop.now (term_of_word word.now)
+        ≡ (if kept then Some (string_bytes term.new) else None)) }
+{
+    write_term(alloc, term, word)?;
+    Ok(is_kept(term, stop))
 }
 
 /// Adds the string of an entry to the spare ones.
@@ -111,8 +125,7 @@ fn entry_of(
         option_map string_bytes entry ≡ entry_of_term stop.now (term_of_word word.now)) }
 {
     let mut term = spare.pop().unwrap_or(String::new(alloc));
-    write_term(alloc, &mut term, word)?;
-    if is_kept(&term, stop) {
+    if write_token(alloc, &mut term, word, stop)? {
         return Ok(Some(term));
     }
     spare.push(term)?;
@@ -194,6 +207,18 @@ mod tests {
         assert!(rt; are_tokens(&list[..count], &["bonn", "a", "b", "c"]));
         assert_eq!(rt; write_tokens(rt.alloc(), &mut list, "", &stop)?, 0);
         assert_eq!(rt; list.len(), 4);
+        Ok(())
+    }
+
+    #[test]
+    fn one_text_serves_word_after_word(rt: HostRuntime) -> Result<(), Fail> {
+        let stop = StopList::read(rt.alloc(), "to")?;
+        let mut term = String::new(rt.alloc());
+        assert!(rt; write_token(rt.alloc(), &mut term, "KÖLN", &stop)?);
+        assert_eq!(rt; term.as_str(), "köln");
+        assert!(rt; !write_token(rt.alloc(), &mut term, "To", &stop)?);
+        assert!(rt; write_token(rt.alloc(), &mut term, "Tower", &stop)?);
+        assert_eq!(rt; term.as_str(), "tower");
         Ok(())
     }
 
