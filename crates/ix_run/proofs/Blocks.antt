@@ -1,42 +1,36 @@
 -- A block of documents, inverted document by document.
-use Rattle.std.proofs.Common.{◌≡◌, ℕ, zero, suc, ◌+◌, ◌-◌, ◌^◌, ◌<◌, ◌≤◌, List, [], ◌∷◌, ◌++◌, length, map, take, get_or, All, None, Option, String, string_bytes, bytes_eq, MatchOption, IfSome, refl, sym, ap, ap₂, subst, ◌∙◌, inl, inr, arith, zero-add}
-use Rattle.std.proofs.lemmas.List.{append_assoc, append-nil, map-append, length-map, take_more}
+use Rattle.std.proofs.Common.{◌≡◌, ℕ, zero, suc, ◌+◌, ◌^◌, ◌<◌, ◌≤◌, List, [], ◌∷◌, ◌++◌, length, map, take, get_or, All, String, refl, sym, ap, ap₂, subst, ◌∙◌, inl, inr, arith}
+use Rattle.std.proofs.lemmas.List.{length-append, map-append, length-map, take_more}
 use Rattle.std.proofs.lemmas.List.Elements.{All-nil, All-push, All-weaker}
 use Rattle.std.proofs.lemmas.List.Sums.{sum_by-cons}
-use Rattle.std.specs.HashMap.{HashMap, get_by_text}
-use Rattle.std.specs.Map.{lookup}
+use Rattle.std.specs.HashMap.{HashMap}
 use Rattle.ix_text.specs.Collections.{Document, IsLawful, IsLawfulEntry, IsName, NamedText, collection_of}
 use Rattle.ix_text.specs.Parts.{DocumentRow, row_of}
 use Rattle.ix_text.specs.StopSets.{IsStopSet}
-use Rattle.ix_text.specs.TokenLists.{token_list}
+use Rattle.ix_text.specs.TokenLists.{Entry, token_list}
 use Rattle.ix_run.specs.CodedTerms.{AreTermsOf}
-use Rattle.ix_run.specs.Dictionaries.{AreBefore, HoldsOccurrences}
-use Rattle.ix_run.specs.Inverted.{IsLawfulDocument, Occurrence, document_of, documents_of, occurrences_in, occurrences_of, postings_of, tokens_of}
+use Rattle.ix_run.specs.Dictionaries.{HoldsTokens, tokens_in}
+use Rattle.ix_run.specs.DocumentEnds.{ends_of}
+use Rattle.ix_run.specs.Inverted.{IsLawfulDocument, document_of, documents_of, occurrences_of, tokens_of}
 use Rattle.ix_run.specs.Heads.{row_of_doc}
 use Rattle.ix_run.specs.Runs.{IsRunOf, IsTooLarge, RunValue, TermValue}
-use Rattle.ix_run.specs.TermLists.{HoldsPostings, IsBefore, ListValue}
 use Rattle.ix_run.specs.declared.head.RunDoc.{RunDoc}
 use Rattle.ix_run.proofs.Inverting.{are_parts, parts_of, terms_shown}
+use Rattle.ix_run.proofs.SpanLemmas.{ends_of-push, tokens_in-push}
 
--- the documents are inverted into the dictionary, they have these rows, and so many tokens may follow
-pub record IsInvertedBefore {Y S : Type 0} (stop : List (List ℕ)) (documents : List Document) (number : ℕ) (dictionary : HashMap (String Y) ListValue S) (rows : List RunDoc) (left : ℕ) : Type 0 where
+-- the documents are inverted into the dictionary, and have these ends and rows
+pub record IsInvertedBefore {Y S : Type 0} (stop : List (List ℕ)) (documents : List Document) (last : HashMap (String Y) ℕ S) (links ends : List ℕ) (rows : List RunDoc) : Type 0 where
   pub shown : map row_of_doc rows ≡ map row_of documents
-  pub held : HoldsOccurrences dictionary (occurrences_of 0 documents)
-  pub before : AreBefore dictionary number 0
+  pub held : HoldsTokens last links (tokens_in documents)
+  pub ended : ends ≡ ends_of 0 documents
   pub lawful : All (IsLawfulDocument stop) documents
-  pub count : left + tokens_of documents ≡ 2 ^ 28
+  pub count : length links ≡ tokens_of documents
+  pub few : tokens_of documents ≤ 2 ^ 28
 
 -- what a map makes of the elements before the next index
 pub map_take_more : {A B : Type 0} (f : A → B) (xs : List A) (i : ℕ) (x : A) → i < length xs → x ≡ get_or xs i x → map f (take (i + 1) xs) ≡ map f (take i xs) ++ f x ∷ []
 map_take_more f xs i x within is =
     ap (map f) (take_more xs i x within ∙ ap (λ y. take i xs ++ y ∷ []) (sym is)) ∙ map-append f (take i xs) (x ∷ [])
-
-occurrences_of-append : (number : ℕ) (xs ys : List Document) → occurrences_of number (xs ++ ys) ≡ occurrences_of number xs ++ occurrences_of (number + length xs) ys
-occurrences_of-append number [] ys = ap (λ n. occurrences_of n ys) (omega arith)
-occurrences_of-append number (x ∷ xs) ys =
-    let here = occurrences_in number 0 x.tokens in
-    ap (λ rest. here ++ rest) (occurrences_of-append (number + 1) xs ys ∙ ap (λ n. occurrences_of (number + 1) xs ++ occurrences_of n ys) (omega arith))
-    ∙ sym (append_assoc here (occurrences_of (number + 1) xs) (occurrences_of (number + length (x ∷ xs)) ys))
 
 tokens_of-append : (xs : List Document) (d : Document) → tokens_of (xs ++ d ∷ []) ≡ tokens_of xs + length d.tokens
 tokens_of-append [] d = sum_by-cons (λ (e : Document). length e.tokens) d [] ∙ omega arith
@@ -45,39 +39,43 @@ tokens_of-append (x ∷ xs) d =
     let two = sum_by-cons (λ (e : Document). length e.tokens) x xs in
     let more = tokens_of-append xs d in omega (arith, one, two, more)
 
+-- as many tokens stand one behind another
+pub length-tokens_in : (documents : List Document) → length (tokens_in documents) ≡ tokens_of documents
+length-tokens_in [] = refl
+length-tokens_in (d ∷ documents) =
+    let one = sum_by-cons (λ (e : Document). length e.tokens) d documents in
+    let rest = length-tokens_in documents in omega (arith, one, rest, length-append d.tokens (tokens_in documents))
+
 -- nothing is inverted yet
-pub nothing_inverted : {Y S : Type 0} (stop : List (List ℕ)) (dictionary : HashMap (String Y) ListValue S) (rows : List RunDoc) → dictionary.entries ≡ [] → rows ≡ [] → IsInvertedBefore stop [] 0 dictionary rows (2 ^ 28)
-nothing_inverted {Y} stop dictionary rows empty none =
-    let absent : (term : List ℕ) → get_by_text dictionary term ≡ None = λ term. ap (lookup (λ k. bytes_eq term (string_bytes k))) empty in
-    record {
-      shown = ap (map row_of_doc) none;
-      held = record { each = λ term. let P : Option ListValue → Type 0 = λ o. MatchOption o (postings_of term [] ≡ []) (λ l. HoldsPostings l (postings_of term [])) in subst P (sym (absent term)) refl };
-      before = record { each = λ term. let P : Option ListValue → Type 0 = λ o. IfSome o (λ l. IsBefore l 0 0) in subst P (sym (absent term)) tt };
-      lawful = All-nil (IsLawfulDocument stop);
-      count = refl;
-    }
+pub nothing_inverted : {Y S : Type 0} (stop : List (List ℕ)) (last : HashMap (String Y) ℕ S) (links ends : List ℕ) (rows : List RunDoc) → HoldsTokens last links [] → ends ≡ [] → rows ≡ [] → IsInvertedBefore stop [] last links ends rows
+nothing_inverted stop last links ends rows empty ended none = record {
+  shown = ap (map row_of_doc) none;
+  held = empty;
+  ended = ended;
+  lawful = All-nil (IsLawfulDocument stop);
+  count = empty.count;
+  few = omega arith;
+}
 
 -- one document more
-pub one_more_inverted : {Y S : Type 0} (stop : List (List ℕ)) (documents more : List Document) (number : ℕ) (old new : HashMap (String Y) ListValue S) (rows rows' : List RunDoc) (left : ℕ) (document : Document) (row : RunDoc)
-    → more ≡ documents ++ document ∷ [] → rows' ≡ rows ++ row ∷ [] → length documents ≡ number → row_of_doc row ≡ row_of document → length document.tokens ≤ left
-    → ((occurrences : List Occurrence) → HoldsOccurrences old occurrences → HoldsOccurrences new (occurrences ++ occurrences_in number 0 document.tokens))
-    → AreBefore new (number + 1) 0 → IsLawfulDocument stop document
-    → IsInvertedBefore stop documents number old rows left → IsInvertedBefore stop more (number + 1) new rows' (left - row.tokens)
-one_more_inverted stop documents more number old new rows rows' left document row is rows_are size same few holds before lawful was =
-    let count : row.tokens ≡ length document.tokens = ap (λ r. r.tokens) same in
+pub one_more_inverted : {Y S : Type 0} (stop : List (List ℕ)) (documents more : List Document) (old new : HashMap (String Y) ℕ S) (links links' ends ends' : List ℕ) (rows rows' : List RunDoc) (document : Document) (row : RunDoc)
+    → more ≡ documents ++ document ∷ [] → rows' ≡ rows ++ row ∷ [] → row_of_doc row ≡ row_of document
+    → ((tokens : List Entry) → HoldsTokens old links tokens → HoldsTokens new links' (tokens ++ document.tokens)) → ends' ≡ ends ++ length links' ∷ [] → length links' ≡ length links + length document.tokens → length links' ≤ 2 ^ 28
+    → IsLawfulDocument stop document → IsInvertedBefore stop documents old links ends rows → IsInvertedBefore stop more new links' ends' rows'
+one_more_inverted stop documents more old new links links' ends ends' rows rows' document row is rows_are same holds ended longer few lawful was =
+    let total : tokens_of more ≡ tokens_of documents + length document.tokens = ap tokens_of is ∙ tokens_of-append documents document in
+    let count : length links' ≡ tokens_of more = omega (arith, longer, was.count, total) in
     record {
       shown =
           ap (map row_of_doc) rows_are ∙ map-append row_of_doc rows (row ∷ []) ∙ ap₂ (λ rs r. rs ++ r ∷ []) was.shown same
           ∙ sym (map-append row_of documents (document ∷ [])) ∙ ap (map row_of) (sym is);
-      held =
-          let seen : occurrences_of 0 documents ++ occurrences_in number 0 document.tokens ≡ occurrences_of 0 more =
-          ap (λ n. occurrences_of 0 documents ++ occurrences_in n 0 document.tokens) (sym size ∙ sym (zero-add (length documents)))
-          ∙ ap (λ rest. occurrences_of 0 documents ++ rest) (sym (append-nil (occurrences_in (0 + length documents) 0 document.tokens)))
-          ∙ sym (occurrences_of-append 0 documents (document ∷ [])) ∙ ap (occurrences_of 0) (sym is) in
-          subst (HoldsOccurrences new) seen (holds (occurrences_of 0 documents) was.held);
-      before = before;
+      held = subst (HoldsTokens new links') (sym (ap tokens_in is ∙ tokens_in-push documents document)) (holds (tokens_in documents) was.held);
+      ended =
+          ended ∙ ap₂ (λ es n. es ++ n ∷ []) was.ended (let size : length links' ≡ 0 + length (tokens_in documents) + length document.tokens = omega (arith, longer, was.held.count) in size)
+          ∙ sym (ends_of-push 0 documents document) ∙ ap (ends_of 0) (sym is);
       lawful = subst (All (IsLawfulDocument stop)) (sym is) (All-push (IsLawfulDocument stop) documents document was.lawful lawful);
-      count = let total = tokens_of-append documents document in let same_total = ap tokens_of is in let w = was.count in omega (arith, total, same_total, w, few, count);
+      count = count;
+      few = omega (arith, few, count);
     }
 
 -- ---- the whole block
@@ -145,9 +143,9 @@ module _ {A : Type 0} (stop : List (List ℕ)) (f : A → NamedText) where
   documents_more xs i x within is = ap (documents_of stop) (map_take_more f xs i x within is) ∙ map-append (document_of stop) (map f (take i xs)) (f x ∷ [])
 
   -- a document with more tokens than may follow makes all too many
-  pub too_many_tokens : (xs : List A) (i left : ℕ) (x : A) → i < length xs → x ≡ get_or xs i x → left + tokens_of (documents_of stop (map f (take i xs))) ≡ 2 ^ 28
-      → left < length (token_list stop (f x).text) → 2 ^ 28 < tokens_of (documents_of stop (map f xs))
-  too_many_tokens xs i left x within is count many =
+  pub too_many_tokens : (xs : List A) (i count : ℕ) (x : A) → i < length xs → x ≡ get_or xs i x → count ≡ tokens_of (documents_of stop (map f (take i xs)))
+      → 2 ^ 28 < count + length (token_list stop (f x).text) → 2 ^ 28 < tokens_of (documents_of stop (map f xs))
+  too_many_tokens xs i count x within is counted many =
       let more = ap tokens_of (documents_more xs i x within is) in
       let total = tokens_of-append (documents_of stop (map f (take i xs))) (document_of stop (f x)) in
-      let part = tokens_of-take xs (i + 1) in omega (arith, more, total, part, count, many)
+      let part = tokens_of-take xs (i + 1) in omega (arith, more, total, part, counted, many)

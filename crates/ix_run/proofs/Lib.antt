@@ -1,7 +1,8 @@
 pub mod Blocks
+pub mod ChainLemmas
 pub mod CodeLemmas
 pub mod CodedLists
-pub mod Dictionaries
+pub mod CodedPlaces
 pub mod Faulting
 pub mod Fronts
 pub mod HeadLemmas
@@ -27,6 +28,7 @@ pub mod RunSources
 pub mod RunTold
 pub mod ShortCodes
 pub mod Sorting
+pub mod SpanLemmas
 pub mod SpelledLemmas
 pub mod StopTermLemmas
 pub mod TermLemmas

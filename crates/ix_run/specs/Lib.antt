@@ -1,6 +1,7 @@
 pub mod CodeFaults
 pub mod CodedTerms
 pub mod Dictionaries
+pub mod DocumentEnds
 pub mod Errors
 pub mod Faults
 pub mod Heads

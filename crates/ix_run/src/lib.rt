@@ -4,6 +4,7 @@
 #![tactic(auto)]
 
 mod coded_terms;
+mod coding;
 mod dictionary;
 mod errors;
 mod head;
@@ -21,6 +22,7 @@ mod run_source;
 mod run_text;
 mod run_text_error;
 mod source;
+mod span;
 mod stop_terms;
 mod term;
 mod term_list;

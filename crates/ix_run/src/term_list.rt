@@ -1,4 +1,4 @@
-//! One term's list, coded while its documents are counted (IIR 4.3).
+//! One term's list, coded while its places are gone through (IIR 5.3).
 
 ghost use Rattle.std.specs.Prelude.{◌≡◌, ℕ, ◌+◌, ◌^◌, ◌<◌, ◌≤◌, [], ◌∷◌, ◌++◌, List, IfOk, OnOk, length, take, drop};
 ghost use Rattle.ix_text.specs.Parts.{Posting};
@@ -8,12 +8,12 @@ ghost use Rattle.ix_run.specs.TermLists.{HoldsPostings, IsBefore, IsOpen, added_
 
 use crate::coded_terms::byte_count;
 use ix_text::Memory;
-use ix_vbyte::{code_len, push_code};
+use ix_vbyte::push_code;
 use std::alloc::Global;
 use std::marker::Model;
 
 /// The postings of one term, in the bytes of the run text. The number of positions stands before the positions, so the
-/// last posting stays open until a later document brings the term again, or the run is done.
+/// last posting stays open until a place in a later document comes, or there is none.
 ///
 /// Most terms of a block stand in one document once: such a term takes no memory for bytes.
 #[derive(Drop)]
@@ -144,32 +144,6 @@ impl TermList {
         let start = self.start as usize;
         let next = self.next_position;
         close_posting(&mut self.bytes, start, self.gap, self.positions, next)
-    }
-
-    /// How many postings there are.
-    pub(crate) fn documents(&self) -> u32
-        ensures { result ≡ self.now.documents }
-    {
-        self.documents
-    }
-
-    /// The document of the last posting.
-    pub(crate) fn last(&self) -> u32
-        ensures { result ≡ self.now.document }
-    {
-        self.document
-    }
-
-    /// How many bytes the coded list has.
-    pub(crate) fn coded_len(&self) -> usize
-        ensures { result ≡ length (closed_bytes self.now.coded self.now.gaps self.now.gap
-            self.now.positions self.now.next_position) }
-    {
-        let counts = code_len(self.gap) + code_len(self.positions);
-        if self.positions == 1 {
-            return self.start as usize + counts + code_len(self.next_position);
-        }
-        self.bytes.len() + counts
     }
 
     /// Puts the coded list, and nothing else, into a vector, and answers how many postings it has, and the document of

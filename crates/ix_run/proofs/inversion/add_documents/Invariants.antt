@@ -4,6 +4,7 @@ use Rattle.ix_run.specs.Inverted.{documents_of}
 use Rattle.ix_run.proofs.Blocks.{IsInvertedBefore}
 use Rattle.ix_run.proofs.inversion.add_documents.Given as goal
 
--- the documents before the number are inverted and counted
-abbrev pub invariant-loop-number : goal.invariant-loop-number
-invariant-loop-number l = IsInvertedBefore l.stop (documents_of l.stop (map named_text (take l.number l.docs))) l.number l.dictionary l.rows.items l.left
+-- the documents before the next one are inverted
+abbrev pub invariant-loop-doc : goal.invariant-loop-doc
+invariant-loop-doc l =
+    IsInvertedBefore l.stop (documents_of l.stop (map named_text (take l.doc-index l.docs))) l.dictionary.last l.dictionary.links.items l.dictionary.ends.items l.rows.items
