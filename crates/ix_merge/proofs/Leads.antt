@@ -1,8 +1,8 @@
 -- The order of leads is that of their texts, and a lead with a length is a text.
-use Rattle.std.proofs.Common.{◌≡◌, ◌≢◌, ℕ, zero, suc, ◌+◌, ◌*◌, ◌^◌, ◌<◌, ◌≤◌, List, [], ◌∷◌, length, get_or, add-one, All, Option, Some, None, IsSome, is_some, MatchBool, Bool, true, false, leb, ltb, Ordering, Less, Equal, inl, inr, refl, sym, ap, subst, ◌∙◌, arith}
+use Rattle.std.proofs.Common.{◌≡◌, ◌≢◌, ◌↔◌, ◌⊎◌, IsTrue, ℕ, zero, suc, ◌+◌, ◌*◌, ◌^◌, ◌<◌, ◌≤◌, List, [], ◌∷◌, length, get_or, add-one, All, Option, Some, None, IsSome, is_some, MatchBool, Bool, true, false, leb, Ordering, Less, Equal, inl, inr, refl, sym, ap, subst, ◌∙◌, arith}
 use Rattle.std.proofs.Math.Nat.{pow-suc, pow-le-pow_right}
-use Rattle.std.proofs.lemmas.Bool.{cases_lt, cases_eq, lt-ltb}
-use Rattle.std.proofs.lemmas.Bool.Decides.{nat_tests}
+use Rattle.std.proofs.lemmas.Bool.{cases_lt, cases_eq, le-leb, lt-leb, lt-ltb}
+use Rattle.std.proofs.lemmas.Bool.Decides.{when_false, when_true}
 use Rattle.std.proofs.lemmas.Cmp.{tied_itself, nat_cmp_total, nat_list_cmp_total}
 use Rattle.std.proofs.lemmas.Grind.{same_number_lists}
 use Rattle.std.proofs.lemmas.List.{get_or_past}
@@ -11,7 +11,7 @@ use Rattle.std.specs.Cmp.Lexicographic.{slice_cmp}
 use Rattle.std.specs.Ordering.{nat_cmp, ordering_then}
 use Rattle.ix_run.specs.Heads.{Heading}
 use Rattle.ix_merge.specs.Keys.{key_of, end_of, ComesFirst}
-use Rattle.ix_merge.specs.Standings.{HasStanding, IsStanding, lead}
+use Rattle.ix_merge.specs.Standings.{HasStanding, IsStanding, StandsBefore, lead}
 use Rattle.ix_merge.specs.declared.standing.Standing.{Standing}
 use Rattle.ix_merge.proofs.KeyOrder.{first_if_below, first_if_same}
 
@@ -73,6 +73,12 @@ below_at place [] (y ∷ ys) same low = refl
 below_at zero (x ∷ xs) (y ∷ ys) same low = less_first x y xs ys low
 below_at (suc place) (x ∷ xs) (y ∷ ys) same low = less_later x y xs ys (same 0 (omega arith)) (below_at place xs ys (λ before l. same (suc before) (omega arith)) low)
 
+-- a text is lower than a longer one that begins with it
+below_longer : (one other : List ℕ) → ((place : ℕ) → place < length one → get_or one place 0 ≡ get_or other place 0) → length one < length other → slice_cmp nat_cmp one other ≡ Less
+below_longer one [] same short = absurd (omega arith)
+below_longer [] (y ∷ ys) same short = refl
+below_longer (x ∷ xs) (y ∷ ys) same short = less_later x y xs ys (same 0 (omega arith)) (below_longer xs ys (λ place within. same (suc place) (omega arith)) (omega arith))
+
 -- the lower lead is that of the lower text
 pub below_by_lead : (count : ℕ) (one other : List ℕ) → Bytes one → Bytes other → lead count one < lead count other → slice_cmp nat_cmp one other ≡ Less
 unfolding lead
@@ -113,6 +119,17 @@ module _ {S : Type 0} (heading : S → Heading) (current : S → Option (List �
       first_if_below heading current one other is.term is'.term is.at_hand is'.at_hand
       (below_by_lead 16 is.term is'.term (bytes_of is.term is.stands.bytes) (bytes_of is'.term is'.stands.bytes) (omega (arith, is.stands.led, is'.stands.led)))
 
+  -- of one lead that shows the shorter term whole
+  shorter_first : (one other : S) (standing standing' : Standing) → Stands one standing → Stands other standing' → standing.lead ≡ standing'.lead → standing.length < standing'.length → standing.length ≤ 16 → First one other
+  shorter_first one other standing standing' is is' led short few =
+      let bytes = bytes_of is.term is.stands.bytes in
+      let bytes' = bytes_of is'.term is'.stands.bytes in
+      let same : lead 16 is.term ≡ lead 16 is'.term = sym is.stands.led ∙ led ∙ is'.stands.led in
+      let long = is.stands.long in
+      let long' = is'.stands.long in
+      first_if_below heading current one other is.term is'.term is.at_hand is'.at_hand
+      (below_longer is.term is'.term (λ place within. same_bytes 16 is.term is'.term bytes bytes' same place (omega arith)) (omega arith))
+
   module _ (one other : S) (standing standing' : Standing) (has : HasStanding (key_of heading current one) standing) (has' : HasStanding (key_of heading current other) standing')
       (some : IsSome (current one)) (some' : IsSome (current other)) where
     is : Stands one standing
@@ -121,16 +138,8 @@ module _ {S : Type 0} (heading : S → Heading) (current : S → Option (List �
     is' : Stands other standing'
     is' = stands_at other standing' has' some'
 
-    -- of different leads
-    pub first_by_lead : standing.lead ≢ standing'.lead → MatchBool (ltb standing.lead standing'.lead) (First one other) (First other one)
-    first_by_lead apart = decided (ltb standing.lead standing'.lead) refl
-      where
-        decided : (b : Bool) → ltb standing.lead standing'.lead ≡ b → MatchBool b (First one other) (First other one)
-        decided true low = lower_first one other standing standing' is is' (grind (arith, nat_tests))
-        decided false high = lower_first other one standing' standing is' is (let h : standing'.lead ≤ standing.lead = grind (arith, nat_tests) in omega arith)
-
     -- of one term that both show whole
-    pub first_by_end : standing.lead ≡ standing'.lead → standing.length ≡ standing'.length → standing.length ≤ 16 → MatchBool (leb standing.end standing'.end) (First one other) (First other one)
+    first_by_end : standing.lead ≡ standing'.lead → standing.length ≡ standing'.length → standing.length ≤ 16 → MatchBool (leb standing.end standing'.end) (First one other) (First other one)
     first_by_end led long few =
         let same : is.term ≡ is'.term =
         same_by_lead 16 is.term is'.term (bytes_of is.term is.stands.bytes) (bytes_of is'.term is'.stands.bytes) (sym is.stands.led ∙ led ∙ is'.stands.led) (sym is.stands.long ∙ long ∙ is'.stands.long) (omega (arith, is.stands.long)) in
@@ -138,3 +147,30 @@ module _ {S : Type 0} (heading : S → Heading) (current : S → Option (List �
         let P : ℕ → ℕ → Type 0 = λ m n. MatchBool (leb m n) (First one other) (First other one) in
         subst (λ m. P m standing'.end) (sym is.stands.ends)
         (subst (P (end_of (heading one))) (sym is'.stands.ends) (first_if_same heading current one other is.term is'.term is.at_hand is'.at_hand tie))
+
+    -- whichever it is, where the first shows its term whole or they begin in different ways
+    pub first_by_standing : (result : Bool) → IsTrue result ↔ StandsBefore standing standing' → (standing.lead ≡ standing'.lead → standing.length ≤ 16) → MatchBool result (First one other) (First other one)
+    first_by_standing true told few = yes (told.0 refl)
+      where
+        yes : StandsBefore standing standing' → First one other
+        yes (inl low) = lower_first one other standing standing' is is' low
+        yes (inr (led, inl short)) = shorter_first one other standing standing' is is' led short (few led)
+        yes (inr (led, inr (long, ends))) = when_true (First one other) (First other one) (le-leb standing.end standing'.end ends) (first_by_end led long (few led))
+    first_by_standing false told few = elim (cases_lt standing.lead standing'.lead) [
+      | inl low ↦ no (inl low)
+      | inr high ↦
+          elim (cases_eq standing.lead standing'.lead) [
+            | inl led ↦ alike led (cases_lt standing.length standing'.length) (cases_eq standing.length standing'.length) (cases_lt standing'.end standing.end)
+            | inr apart ↦ lower_first other one standing' standing is' is (omega arith)
+          ]
+    ]
+      where
+        no : StandsBefore standing standing' → First other one
+        no before = let e = told.1 before in absurd cc
+
+        alike : standing.lead ≡ standing'.lead → (standing.length < standing'.length) ⊎ (standing'.length ≤ standing.length) → (standing.length ≡ standing'.length) ⊎ (standing.length ≢ standing'.length)
+            → (standing'.end < standing.end) ⊎ (standing.end ≤ standing'.end) → First other one
+        alike led (inl short) same ends = no (inr (led, inl short))
+        alike led (inr long) (inl same) (inr ends) = no (inr (led, inr (same, ends)))
+        alike led (inr long) (inl same) (inl later) = when_false (First one other) (First other one) (lt-leb standing.end standing'.end later) (first_by_end led same (few led))
+        alike led (inr long) (inr apart) ends = shorter_first other one standing' standing is' is (sym led) (omega arith) (let h = few led in omega arith)

@@ -1,5 +1,5 @@
 -- Where sources stand in a tournament: of each the first bytes of its term, as a number, and the end of its numbers.
-use Rattle.std.specs.Prelude.{◌≡◌, ℕ, zero, suc, ◌+◌, ◌*◌, ◌<◌, ⊤, List, length, All, Option, MatchOption, slice_index, slice_index_or}
+use Rattle.std.specs.Prelude.{◌≡◌, ℕ, zero, suc, ◌+◌, ◌*◌, ◌<◌, ◌≤◌, ◌⊎◌, ⊤, List, length, All, Option, MatchOption, slice_index, slice_index_or}
 use Rattle.ix_merge.specs.Keys.{Key}
 use Rattle.ix_merge.specs.Tournaments.{key_at}
 use Rattle.ix_merge.specs.declared.standing.Standing.{Standing}
@@ -24,3 +24,7 @@ HasStanding key standing = MatchOption key ⊤ (λ key. IsStanding key standing)
 pub record AreStandings (keys : List (Option Key)) (standings : List Standing) : Type 0 where
   pub as_many : length standings ≡ length keys
   pub each : (place : ℕ) (standing : Standing) → place < length keys → HasStanding (key_at keys place) (slice_index_or standings place standing)
+
+-- The one has the lower lead, or the same one and fewer bytes, or as many and numbers that end no later.
+abbrev pub StandsBefore : Standing → Standing → Type 0
+StandsBefore one other = (one.lead < other.lead) ⊎ ((one.lead ≡ other.lead) × ((one.length < other.length) ⊎ ((one.length ≡ other.length) × (one.end ≤ other.end))))

@@ -1,11 +1,12 @@
 -- Terms with their lists close together: what is held is what the rows tell.
-use Rattle.std.proofs.Common.{◌≡◌, ℕ, ◌<◌, ◌≤◌, Option, List, [], ◌∷◌, ◌++◌, length, take, drop, flat_map, All, IsUtf8, refl, sym, ap, ap₂, subst, ◌∙◌, arith, append_assoc, append-nil, length-append, ◌+◌}
+use Rattle.std.proofs.Common.{◌≡◌, ℕ, zero, suc, ◌<◌, ◌≤◌, Option, List, [], ◌∷◌, ◌++◌, length, take, drop, flat_map, All, IsUtf8, refl, sym, ap, ap₂, subst, ◌∙◌, arith, append_assoc, append-nil, length-append}
 use Rattle.std.proofs.lemmas.List.{drop_at, nil_from_length, take_at}
 use Rattle.std.proofs.lemmas.List.Elements.{All-head, All-nil, All-push, All-tail}
-use Rattle.std.proofs.lemmas.Str.{IsCharBoundary-at_seam, IsUtf8-append, IsUtf8-nil}
-use Rattle.std.specs.Str.{IsCharBoundary}
+use Rattle.ix_vbyte.specs.Code.{code_of}
+use Rattle.ix_vbyte.specs.CodesIn.{numbers_in}
+use Rattle.ix_vbyte.proofs.Values.{length-code_of}
 use Rattle.ix_vbyte.proofs.Walks.{numbers_in-nil}
-use Rattle.ix_run.specs.HeldTerms.{HoldTerms, BeginsWithRow, MayBeHeld, ReadsRow, bytes_of_row, row_of_term, terms_in, terms_told}
+use Rattle.ix_run.specs.HeldTerms.{HoldTerms, BeginsWithRow, MayBeHeld, ReadsRow, bytes_of_row, bytes_of_term, row_of_term, terms_in, terms_told, told_behind, told_first}
 use Rattle.std.specs.Io.KnownBytes.{Appends}
 use Rattle.ix_text.specs.Sinks.{AppendsFront}
 use Rattle.ix_text.proofs.SinkLemmas.{appends_nothing, appends_then}
@@ -14,135 +15,137 @@ use Rattle.ix_run.specs.declared.coded_terms.TermRow.{TermRow}
 use Rattle.ix_run.proofs.TermRows.{row_numbers}
 use Rattle.ix_run.proofs.Writing.{front_more, front_then}
 
-abbrev pub text_of : TermValue → List ℕ
-text_of value = value.term
+abbrev pub held_bytes : List TermValue → List ℕ
+held_bytes terms = flat_map bytes_of_term terms
 
-abbrev pub list_of : TermValue → List ℕ
-list_of value = value.list
-
-abbrev pub row_bytes_of : TermValue → List ℕ
-row_bytes_of value = bytes_of_row (row_of_term value)
+-- the bytes of a term before others: its row, and behind it the text and the list
+term_spelled : (value : TermValue) (rest : List ℕ) → bytes_of_term value ++ rest ≡ bytes_of_row (row_of_term value) ++ (value.term ++ (value.list ++ rest))
+term_spelled value rest = append_assoc (bytes_of_row (row_of_term value)) (value.term ++ value.list) rest ∙ ap (λ (bytes : List ℕ). bytes_of_row (row_of_term value) ++ bytes) (append_assoc value.term value.list rest)
 
 -- ---- what is held is told
 
-told : (terms : List TermValue) → All MayBeHeld terms → terms_in (flat_map text_of terms) (flat_map list_of terms) (flat_map row_bytes_of terms) ≡ terms
-told [] each = ap (terms_told [] []) numbers_in-nil
-told (value ∷ terms) each =
-    let texts = flat_map text_of terms in
-    let lists = flat_map list_of terms in
-    let rows = flat_map row_bytes_of terms in
-    let may = All-head MayBeHeld value terms each in
-    let text = take_at value.term texts (length value.term) refl in
-    let list = take_at value.list lists (length value.list) refl in
-    let texts_behind = drop_at value.term texts (length value.term) refl in
-    let lists_behind = drop_at value.list lists (length value.list) refl in
-    ap (terms_told (value.term ++ texts) (value.list ++ lists)) (row_numbers (row_of_term value) rows may.row)
-    ∙ ap₂ (λ (t l : List ℕ). record { term = t; documents = value.documents; last = value.last; list = l } ∷ terms_in (drop (length value.term) (value.term ++ texts)) (drop (length value.list) (value.list ++ lists)) rows) text list
-    ∙ ap₂ (λ (ts ls : List ℕ). value ∷ terms_in ts ls rows) texts_behind lists_behind
-    ∙ ap (λ (values : List TermValue). value ∷ values) (told terms (All-tail MayBeHeld value terms each))
+-- a row's numbers, and then its text and its list
+behind_told : (others : List ℕ → List TermValue) (value : TermValue) (rest : List ℕ) → told_behind others (row_of_term value) (value.term ++ (value.list ++ rest)) ≡ value ∷ others rest
+behind_told others value rest =
+    let row = row_of_term value in
+    let text = take_at value.term (value.list ++ rest) (length value.term) refl in
+    let listed = drop_at value.term (value.list ++ rest) (length value.term) refl in
+    let list = take_at value.list rest (length value.list) refl in
+    let behind = drop_at value.list rest (length value.list) refl in
+    ap₂ (λ (t l : List ℕ). record { term = t; documents = value.documents; last = value.last; list = take (length value.list) l } ∷ others (drop (length value.list) l)) text listed
+    ∙ ap₂ (λ (l r : List ℕ). record { term = value.term; documents = value.documents; last = value.last; list = l } ∷ others r) list behind
 
-pub terms_held : (texts lists rows : List ℕ) (terms : List TermValue) → HoldTerms texts lists rows terms → terms_in texts lists rows ≡ terms
-terms_held texts lists rows terms holds =
-    ap₂ (λ (ts ls : List ℕ). terms_in ts ls rows) holds.of_texts holds.of_lists
-    ∙ ap (terms_in (flat_map text_of terms) (flat_map list_of terms)) holds.of_rows ∙ told terms holds.each
+first_told_of : (others : List ℕ → List TermValue) (value : TermValue) (rest : List ℕ) → MayBeHeld value → told_first others (bytes_of_term value ++ rest) (numbers_in (bytes_of_term value ++ rest)) ≡ value ∷ others rest
+first_told_of others value rest may =
+    let row = row_of_term value in
+    let behind = value.term ++ (value.list ++ rest) in
+    ap (λ (bytes : List ℕ). told_first others bytes (numbers_in bytes)) (term_spelled value rest)
+    ∙ ap (told_first others (bytes_of_row row ++ behind)) (row_numbers row behind may.row)
+    ∙ ap (told_behind others row) (drop_at (bytes_of_row row) behind (length (bytes_of_row row)) refl)
+    ∙ behind_told others value rest
 
--- what holds some terms holds those that its rows tell
-pub held_told : (texts lists rows : List ℕ) (terms : List TermValue) → HoldTerms texts lists rows terms → HoldTerms texts lists rows (terms_in texts lists rows)
-held_told texts lists rows terms holds = subst (HoldTerms texts lists rows) (sym (terms_held texts lists rows terms holds)) holds
+told : (terms : List TermValue) (most : ℕ) → All MayBeHeld terms → length terms ≤ most → terms_told most (held_bytes terms) ≡ terms
+told [] zero each few = refl
+told [] (suc most) each few = ap (told_first (terms_told most) []) numbers_in-nil
+told (value ∷ terms) zero each few = absurd (omega arith)
+told (value ∷ terms) (suc most) each few =
+    first_told_of (terms_told most) value (held_bytes terms) (All-head MayBeHeld value terms each)
+    ∙ ap (λ (values : List TermValue). value ∷ values) (told terms most (All-tail MayBeHeld value terms each) (omega arith))
+
+term_takes_bytes : (value : TermValue) → MayBeHeld value → 0 < length (bytes_of_term value)
+term_takes_bytes value may =
+    let row = row_of_term value in
+    let first = (length-code_of row.text may.row.text).0 in
+    omega (arith, length-append (bytes_of_row row) (value.term ++ value.list), length-append (code_of row.text) (code_of row.list ++ (code_of row.documents ++ code_of row.last)))
+
+-- there are no more terms than bytes
+few_terms : (terms : List TermValue) → All MayBeHeld terms → length terms ≤ length (held_bytes terms)
+few_terms [] each = omega arith
+few_terms (value ∷ terms) each =
+    let one = term_takes_bytes value (All-head MayBeHeld value terms each) in
+    let others = few_terms terms (All-tail MayBeHeld value terms each) in
+    omega (arith, length-append (bytes_of_term value) (held_bytes terms))
+
+pub terms_held : (bytes : List ℕ) (terms : List TermValue) → HoldTerms bytes terms → terms_in bytes ≡ terms
+terms_held bytes terms holds = ap terms_in holds.of_bytes ∙ told terms (length (held_bytes terms)) holds.each (few_terms terms holds.each)
+
+-- what holds some terms holds those that it tells
+pub held_told : (bytes : List ℕ) (terms : List TermValue) → HoldTerms bytes terms → HoldTerms bytes (terms_in bytes)
+held_told bytes terms holds = subst (HoldTerms bytes) (sym (terms_held bytes terms holds)) holds
 
 -- ---- no terms, and one more
 
-pub none_told : (texts lists rows : List ℕ) → length rows ≡ 0 → terms_in texts lists rows ≡ []
-none_told texts lists rows none = ap (terms_in texts lists) (nil_from_length rows none) ∙ ap (terms_told texts lists) numbers_in-nil
+pub none_told : (bytes : List ℕ) → length bytes ≡ 0 → terms_in bytes ≡ []
+none_told bytes none = ap terms_in (nil_from_length bytes none)
 
-pub none_held : HoldTerms [] [] [] (terms_in [] [] [])
-none_held = held_told [] [] [] [] (record { of_texts = refl; of_lists = refl; of_rows = refl; each = All-nil MayBeHeld })
+pub none_held : HoldTerms [] (terms_in [])
+none_held = held_told [] [] (record { of_bytes = refl; each = All-nil MayBeHeld })
 
 flat_push : {A : Type 0} (f : A → List ℕ) (xs : List A) (x : A) → flat_map f (xs ++ x ∷ []) ≡ flat_map f xs ++ f x
 flat_push f [] x = append-nil (f x)
 flat_push f (y ∷ xs) x = ap (λ (bytes : List ℕ). f y ++ bytes) (flat_push f xs x) ∙ sym (append_assoc (f y) (flat_map f xs) (f x))
 
-pub one_more_held : (texts lists rows : List ℕ) (terms : List TermValue) (value : TermValue) (texts' lists' rows' : List ℕ) → HoldTerms texts lists rows terms → MayBeHeld value
-    → texts' ≡ texts ++ value.term → lists' ≡ lists ++ value.list → rows' ≡ rows ++ row_bytes_of value → HoldTerms texts' lists' rows' (terms ++ value ∷ [])
-one_more_held texts lists rows terms value texts' lists' rows' holds may text list row = record {
-  of_texts = text ∙ ap (λ (ts : List ℕ). ts ++ value.term) holds.of_texts ∙ sym (flat_push text_of terms value);
-  of_lists = list ∙ ap (λ (ls : List ℕ). ls ++ value.list) holds.of_lists ∙ sym (flat_push list_of terms value);
-  of_rows = row ∙ ap (λ (rs : List ℕ). rs ++ row_bytes_of value) holds.of_rows ∙ sym (flat_push row_bytes_of terms value);
+pub one_more_held : (bytes : List ℕ) (terms : List TermValue) (value : TermValue) (bytes' : List ℕ) → HoldTerms bytes terms → MayBeHeld value → bytes' ≡ bytes ++ bytes_of_term value → HoldTerms bytes' (terms ++ value ∷ [])
+one_more_held bytes terms value bytes' holds may more = record {
+  of_bytes = more ∙ ap (λ (bs : List ℕ). bs ++ bytes_of_term value) holds.of_bytes ∙ sym (flat_push bytes_of_term terms value);
   each = All-push MayBeHeld terms value holds.each may;
 }
 
 -- ---- the first term
 
-texts_utf8 : (terms : List TermValue) → All MayBeHeld terms → IsUtf8 (flat_map text_of terms)
-texts_utf8 [] each = IsUtf8-nil
-texts_utf8 (value ∷ terms) each =
-    let may = All-head MayBeHeld value terms each in IsUtf8-append value.term (flat_map text_of terms) may.utf8 (texts_utf8 terms (All-tail MayBeHeld value terms each))
-
 -- There is a first term, and the others are held behind it.
-record IsFirstHeld (texts lists rows : List ℕ) (terms : List TermValue) : Type 0 where
+record IsFirstHeld (bytes : List ℕ) (terms : List TermValue) : Type 0 where
   value : TermValue
   rest : List TermValue
   parts : terms ≡ value ∷ rest
   may : MayBeHeld value
   each : All MayBeHeld rest
-  of_texts : texts ≡ value.term ++ flat_map text_of rest
-  of_lists : lists ≡ value.list ++ flat_map list_of rest
-  of_rows : rows ≡ row_bytes_of value ++ flat_map row_bytes_of rest
+  of_bytes : bytes ≡ bytes_of_row (row_of_term value) ++ (value.term ++ (value.list ++ held_bytes rest))
 
-first_held : (texts lists rows : List ℕ) (terms : List TermValue) → HoldTerms texts lists rows terms → 0 < length rows → IsFirstHeld texts lists rows terms
-first_held texts lists rows [] holds some = let none : length rows ≡ 0 = ap length holds.of_rows in absurd (omega arith)
-first_held texts lists rows (value ∷ rest) holds some = record {
+first_held : (bytes : List ℕ) (terms : List TermValue) → HoldTerms bytes terms → 0 < length bytes → IsFirstHeld bytes terms
+first_held bytes [] holds some = let none : length bytes ≡ 0 = ap length holds.of_bytes in absurd (omega arith)
+first_held bytes (value ∷ rest) holds some = record {
   value = value;
   rest = rest;
   parts = refl;
   may = All-head MayBeHeld value rest holds.each;
   each = All-tail MayBeHeld value rest holds.each;
-  of_texts = holds.of_texts;
-  of_lists = holds.of_lists;
-  of_rows = holds.of_rows;
+  of_bytes = holds.of_bytes ∙ term_spelled value (held_bytes rest);
 }
 
-pub begins_with_row : (texts lists rows : List ℕ) → HoldTerms texts lists rows (terms_in texts lists rows) → 0 < length rows → BeginsWithRow rows
-begins_with_row texts lists rows holds some =
-    let first = first_held texts lists rows (terms_in texts lists rows) holds some in record { row = row_of_term first.value; rest = flat_map row_bytes_of first.rest; is = first.may.row; coded = first.of_rows }
+pub begins_with_row : (bytes : List ℕ) → HoldTerms bytes (terms_in bytes) → 0 < length bytes → BeginsWithRow bytes
+begins_with_row bytes holds some =
+    let first = first_held bytes (terms_in bytes) holds some in
+    record { row = row_of_term first.value; rest = first.value.term ++ (first.value.list ++ held_bytes first.rest); is = first.may.row; coded = first.of_bytes }
 
--- The first term is the one of this row, and the others are held behind it.
-pub record IsFirstTold (texts lists rows : List ℕ) (row : TermRow) (behind : List ℕ) : Type 0 where
-  pub list_within : row.list ≤ length lists
-  pub seam : IsCharBoundary texts row.text
-  pub told : terms_in texts lists rows ≡ record { term = take row.text texts; documents = row.documents; last = row.last; list = take row.list lists } ∷ terms_in (drop row.text texts) (drop row.list lists) behind
-  pub behind_it : HoldTerms (drop row.text texts) (drop row.list lists) behind (terms_in (drop row.text texts) (drop row.list lists) behind)
+-- The first term is the one of this row with what stands behind it, and the others are held behind that.
+pub record IsFirstTold (bytes : List ℕ) (row : TermRow) (behind : List ℕ) : Type 0 where
+  pub text_within : row.text ≤ length behind
+  pub list_within : row.list ≤ length (drop row.text behind)
+  pub utf8 : IsUtf8 (take row.text behind)
+  pub told : terms_in bytes ≡ told_behind terms_in row behind
+  pub behind_it : HoldTerms (drop row.list (drop row.text behind)) (terms_in (drop row.list (drop row.text behind)))
 
-pub first_told : (texts lists rows : List ℕ) (row : TermRow) (behind : List ℕ) → HoldTerms texts lists rows (terms_in texts lists rows) → 0 < length rows → ReadsRow rows row behind → IsFirstTold texts lists rows row behind
-first_told texts lists rows row behind holds some reads =
-    let first = first_held texts lists rows (terms_in texts lists rows) holds some in
+pub first_told : (bytes : List ℕ) (row : TermRow) (behind : List ℕ) → HoldTerms bytes (terms_in bytes) → 0 < length bytes → ReadsRow bytes row behind → IsFirstTold bytes row behind
+first_told bytes row behind holds some reads =
+    let first = first_held bytes (terms_in bytes) holds some in
     let value = first.value in
-    let rest = first.rest in
-    let read = reads (row_of_term value) (flat_map row_bytes_of rest) first.may.row first.of_rows in
-    let text_size : length value.term ≡ row.text = sym (ap (λ (r : TermRow). r.text) read.0) in
-    let list_size : length value.list ≡ row.list = sym (ap (λ (r : TermRow). r.list) read.0) in
-    let documents : value.documents ≡ row.documents = sym (ap (λ (r : TermRow). r.documents) read.0) in
-    let last : value.last ≡ row.last = sym (ap (λ (r : TermRow). r.last) read.0) in
-    let text : take row.text texts ≡ value.term = ap (take row.text) first.of_texts ∙ take_at value.term (flat_map text_of rest) row.text text_size in
-    let list : take row.list lists ≡ value.list = ap (take row.list) first.of_lists ∙ take_at value.list (flat_map list_of rest) row.list list_size in
-    let held : HoldTerms (drop row.text texts) (drop row.list lists) behind rest =
+    let rest = held_bytes first.rest in
+    let stands = value.term ++ (value.list ++ rest) in
+    let read = reads (row_of_term value) stands first.may.row first.of_bytes in
+    let text = take_at value.term (value.list ++ rest) (length value.term) refl in
+    let listed = drop_at value.term (value.list ++ rest) (length value.term) refl in
+    let after : drop (length value.list) (drop (length value.term) stands) ≡ rest = ap (drop (length value.list)) listed ∙ drop_at value.list rest (length value.list) refl in
+    let held : HoldTerms rest first.rest = record { of_bytes = refl; each = first.each } in
+    let is : IsFirstTold bytes (row_of_term value) stands =
     record {
-      of_texts = ap (drop row.text) first.of_texts ∙ drop_at value.term (flat_map text_of rest) row.text text_size;
-      of_lists = ap (drop row.list) first.of_lists ∙ drop_at value.list (flat_map list_of rest) row.list list_size;
-      of_rows = read.1;
-      each = first.each;
+      text_within = omega (arith, length-append value.term (value.list ++ rest));
+      list_within = omega (arith, ap length listed, length-append value.list rest);
+      utf8 = subst IsUtf8 (sym text) first.may.utf8;
+      told = first.parts ∙ ap (λ (terms : List TermValue). value ∷ terms) (sym (terms_held rest first.rest held)) ∙ sym (behind_told terms_in value rest);
+      behind_it = subst (λ (bs : List ℕ). HoldTerms bs (terms_in bs)) (sym after) (held_told rest first.rest held);
     } in
-    let edge = IsCharBoundary-at_seam texts value.term (flat_map text_of rest) first.of_texts (texts_utf8 rest first.each) in
-    let lists_size : length lists ≡ length value.list + length (flat_map list_of rest) = ap length first.of_lists ∙ length-append value.list (flat_map list_of rest) in
-    record {
-      list_within = omega (arith, list_size, lists_size);
-      seam = subst (IsCharBoundary texts) text_size edge;
-      told = first.parts
-          ∙ ap₂ (λ (d l : ℕ). record { term = value.term; documents = d; last = l; list = value.list } ∷ rest) documents last
-          ∙ ap₂ (λ (t l : List ℕ). record { term = t; documents = row.documents; last = row.last; list = l } ∷ rest) (sym text) (sym list)
-          ∙ ap (λ (terms : List TermValue). record { term = take row.text texts; documents = row.documents; last = row.last; list = take row.list lists } ∷ terms) (sym (terms_held _ _ _ rest held));
-      behind_it = held_told _ _ _ rest held;
-    }
+    subst (IsFirstTold bytes row) (sym read.1) (subst (λ (r : TermRow). IsFirstTold bytes r stands) (sym read.0) is)
 
 -- ---- terms that are put out one after another
 

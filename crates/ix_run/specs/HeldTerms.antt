@@ -1,5 +1,5 @@
--- Terms with their lists close together in memory: the texts one behind another, the lists likewise, and the coded rows of the terms.
-use Rattle.std.specs.Prelude.{◌≡◌, ℕ, ◌^◌, ◌<◌, List, [], ◌∷◌, ◌++◌, length, flat_map, take, drop, All, IsUtf8}
+-- Terms with their lists close together in memory: of each its coded row, its text and its list, one term behind another.
+use Rattle.std.specs.Prelude.{◌≡◌, ℕ, zero, suc, ◌^◌, ◌<◌, List, [], ◌∷◌, ◌++◌, length, flat_map, take, drop, All, IsUtf8}
 use Rattle.ix_vbyte.specs.Code.{code_of}
 use Rattle.ix_vbyte.specs.CodesIn.{numbers_in}
 use Rattle.ix_run.specs.Runs.{TermValue}
@@ -31,23 +31,36 @@ pub record BeginsWithRow (bytes : List ℕ) : Type 0 where
 abbrev pub ReadsRow : List ℕ → TermRow → List ℕ → Type 0
 ReadsRow bytes read rest = (row : TermRow) (others : List ℕ) → IsRow row → bytes ≡ bytes_of_row row ++ others → (read ≡ row) × (rest ≡ others)
 
--- the terms whose rows have these numbers, and whose texts and lists these begin with
-abbrev pub terms_told : List ℕ → List ℕ → List ℕ → List TermValue
-terms_told texts lists (text ∷ list ∷ documents ∷ last ∷ numbers) = record { term = take text texts; documents = documents; last = last; list = take list lists } ∷ terms_told (drop text texts) (drop list lists) numbers
-terms_told texts lists _ = []
+-- the bytes of a term: its row, its text and its list
+abbrev pub bytes_of_term : TermValue → List ℕ
+bytes_of_term value = bytes_of_row (row_of_term value) ++ (value.term ++ value.list)
 
--- the terms of these rows, whose texts and lists these begin with
-abbrev pub terms_in : List ℕ → List ℕ → List ℕ → List TermValue
-terms_in texts lists rows = terms_told texts lists (numbers_in rows)
+-- the term of a row with what stands behind the row, and those that are told of the rest
+abbrev pub told_behind : (List ℕ → List TermValue) → TermRow → List ℕ → List TermValue
+told_behind others row behind =
+    record { term = take row.text behind; documents = row.documents; last = row.last; list = take row.list (drop row.text behind) } ∷ others (drop row.list (drop row.text behind))
+
+-- the same of the row that the numbers begin with, which stands at the front of the bytes
+abbrev pub told_first : (List ℕ → List TermValue) → List ℕ → List ℕ → List TermValue
+told_first others bytes (text ∷ list ∷ documents ∷ last ∷ numbers) =
+    let row : TermRow = record { text = text; list = list; documents = documents; last = last } in told_behind others row (drop (length (bytes_of_row row)) bytes)
+told_first others bytes _ = []
+
+-- the terms that the bytes tell from the front on, at most so many
+abbrev pub terms_told : ℕ → List ℕ → List TermValue
+terms_told zero bytes = []
+terms_told (suc most) bytes = told_first (terms_told most) bytes (numbers_in bytes)
+
+-- the terms that the bytes tell: none of them takes no byte
+abbrev pub terms_in : List ℕ → List TermValue
+terms_in bytes = terms_told (length bytes) bytes
 
 -- the term is text, and its row has numbers of 32 bits
 pub record MayBeHeld (value : TermValue) : Type 0 where
   pub utf8 : IsUtf8 value.term
   pub row : IsRow (row_of_term value)
 
--- Texts, lists and rows are those of the terms, and nothing else.
-pub record HoldTerms (texts lists rows : List ℕ) (terms : List TermValue) : Type 0 where
-  pub of_texts : texts ≡ flat_map (λ value. value.term) terms
-  pub of_lists : lists ≡ flat_map (λ value. value.list) terms
-  pub of_rows : rows ≡ flat_map (λ value. bytes_of_row (row_of_term value)) terms
+-- The bytes are those of the terms, and nothing else.
+pub record HoldTerms (bytes : List ℕ) (terms : List TermValue) : Type 0 where
+  pub of_bytes : bytes ≡ flat_map bytes_of_term terms
   pub each : All MayBeHeld terms

@@ -81,37 +81,54 @@ pub(crate) fn byte_count(bytes: usize) -> Result<u32, Memory>
     u32::try_from(bytes).map_err(|_| AllocError)
 }
 
-/// Appends the codes of a row's numbers. A refusal leaves the rows as they were.
-fn push_row(rows: &mut Vec<u8>, row: TermRow) -> Result<(), AllocError>
-    ensures pushed { OnOk result (rows.new.items ≡ rows.old.items ++ bytes_of_row row) }
-    ensures kept { OnErr result (rows.new.items ≡ rows.old.items) }
+/// Appends a term: its row, its text and its list. A refusal leaves the bytes as they were.
+fn push_term(bytes: &mut Vec<u8>, row: TermRow, text: &[u8], list: &[u8]) -> Result<(), AllocError>
+    ensures pushed { OnOk result (bytes.new.items
+        ≡ bytes.old.items ++ (bytes_of_row row ++ (text.now ++ list.now))) }
+    ensures kept { OnErr result (bytes.new.items ≡ bytes.old.items) }
 {
-    let start = rows.len();
-    let pushed = append_row(rows, row);
+    let start = bytes.len();
+    let pushed = append_term(bytes, row, text, list);
     if pushed.is_err() {
-        rows.truncate(start);
+        bytes.truncate(start);
     }
     pushed
 }
 
 /// The same, but that a refusal may leave a beginning.
-fn append_row(rows: &mut Vec<u8>, row: TermRow) -> Result<(), AllocError>
-    ensures pushed { OnOk result (rows.new.items ≡ rows.old.items ++ bytes_of_row row) }
-    ensures kept { OnErr result (take (length rows.old.items) rows.new.items ≡ rows.old.items) }
+fn append_term(
+    bytes: &mut Vec<u8>,
+    row: TermRow,
+    text: &[u8],
+    list: &[u8],
+) -> Result<(), AllocError>
+    ensures pushed { OnOk result (bytes.new.items
+        ≡ bytes.old.items ++ (bytes_of_row row ++ (text.now ++ list.now))) }
+    ensures kept { OnErr result (take (length bytes.old.items) bytes.new.items ≡ bytes.old.items) }
 {
-    push_code(rows, row.text)?;
-    push_code(rows, row.list)?;
-    push_code(rows, row.documents)?;
-    push_code(rows, row.last)
+    append_row(bytes, row)?;
+    bytes.extend_from_slice(text)?;
+    bytes.extend_from_slice(list)
+}
+
+/// Appends the codes of a row's numbers. A refusal may leave a beginning.
+fn append_row(bytes: &mut Vec<u8>, row: TermRow) -> Result<(), AllocError>
+    ensures pushed { OnOk result (bytes.new.items ≡ bytes.old.items ++ bytes_of_row row) }
+    ensures kept { OnErr result (take (length bytes.old.items) bytes.new.items ≡ bytes.old.items) }
+{
+    push_code(bytes, row.text)?;
+    push_code(bytes, row.list)?;
+    push_code(bytes, row.documents)?;
+    push_code(bytes, row.last)
 }
 
 /// The row at the front, and what follows it.
 #[inline(always)]
-fn first_row(rows: &[u8]) -> (TermRow, &[u8])
-    requires { BeginsWithRow rows.now }
-    ensures { ReadsRow rows.now result.0 result.1.now }
+fn first_row(bytes: &[u8]) -> (TermRow, &[u8])
+    requires { BeginsWithRow bytes.now }
+    ensures { ReadsRow bytes.now result.0 result.1.now }
 {
-    let (text, rest) = first_number(rows);
+    let (text, rest) = first_number(bytes);
     let (list, rest) = first_number(rest);
     let (documents, rest) = first_number(rest);
     let (last, rest) = first_number(rest);
@@ -126,28 +143,25 @@ fn first_row(rows: &[u8]) -> (TermRow, &[u8])
 
 /// Terms with their coded lists. Contracts see the list of their values.
 ///
-/// A run may have a million terms: a piece of memory for each text and each list would take more than these do.
+/// A run may have a million terms: a piece of memory for each text and each list would take more than these do. A merge
+/// goes through a thousand runs at a time, and each term of each is a wait for memory: so all that is kept of a term
+/// stands together.
 #[derive(Drop)]
 pub(crate) struct CodedTerms {
-    // one behind another
-    texts: String,
-    lists: Vec<u8>,
-    // coded
-    rows: Vec<u8>,
+    // of each term its coded row, its text and its list, one term behind another
+    bytes: Vec<u8>,
 }
 
 impl Model for CodedTerms {
-    ghost use Rattle.std.specs.Prelude.{List, string_bytes};
+    ghost use Rattle.std.specs.Prelude.{List};
     ghost use Rattle.ix_run.specs.HeldTerms.{HoldTerms, terms_in};
     ghost use Rattle.ix_run.specs.Runs.{TermValue};
 
     ghost Value = { List TermValue };
 
-    ghost view = { λ terms.
-        terms_in (string_bytes terms.texts) terms.lists.items terms.rows.items };
+    ghost view = { λ terms. terms_in terms.bytes.items };
 
-    ghost invariant = { λ terms. HoldTerms (string_bytes terms.texts) terms.lists.items terms.rows.items
-        (terms_in (string_bytes terms.texts) terms.lists.items terms.rows.items) };
+    ghost invariant = { λ terms. HoldTerms terms.bytes.items (terms_in terms.bytes.items) };
 }
 
 impl CodedTerms {
@@ -155,10 +169,12 @@ impl CodedTerms {
     pub(crate) fn with_room(alloc: Global, room: Room) -> Result<CodedTerms, Memory>
         ensures { IfOk result (λ terms. terms ≡ []) }
     {
+        let room = room
+            .texts
+            .saturating_add(room.lists)
+            .saturating_add(room.rows);
         Ok(CodedTerms {
-            texts: String::with_capacity(alloc, room.texts)?,
-            lists: Vec::with_capacity(alloc, room.lists)?,
-            rows: Vec::with_capacity(alloc, room.rows)?,
+            bytes: Vec::with_capacity(alloc, room)?,
         })
     }
 
@@ -168,17 +184,14 @@ impl CodedTerms {
         ensures pushed { OnOk result (self.new ≡ self.old ++ term_shown term.entry ∷ []) }
         ensures kept { OnErr result (self.new ≡ self.old) }
     {
+        let text = term.term.as_bytes();
         let row = TermRow {
-            text: byte_count(term.term.len())?,
+            text: byte_count(text.len())?,
             list: byte_count(term.list.len())?,
             documents: term.documents,
             last: term.last,
         };
-        self.texts.reserve(term.term.len())?;
-        self.lists.reserve(term.list.len())?;
-        push_row(&mut self.rows, row)?;
-        self.texts.push_str(term.term)?;
-        self.lists.extend_from_slice(term.list)?;
+        push_term(&mut self.bytes, row, text, term.list)?;
         Ok(())
     }
 
@@ -187,9 +200,7 @@ impl CodedTerms {
         ensures { IfOk result (λ terms. terms ≡ self) }
     {
         Ok(CodedTerms {
-            texts: String::from_str(alloc, self.texts.as_str())?,
-            lists: Vec::from_slice(alloc, self.lists.as_slice())?,
-            rows: Vec::from_slice(alloc, self.rows.as_slice())?,
+            bytes: Vec::from_slice(alloc, self.bytes.as_slice())?,
         })
     }
 
@@ -198,9 +209,7 @@ impl CodedTerms {
         ensures { result ≡ self.now }
     {
         TermWalk {
-            texts: self.texts.as_str(),
-            lists: self.lists.as_slice(),
-            rows: self.rows.as_slice(),
+            bytes: self.bytes.as_slice(),
         }
     }
 }
@@ -208,9 +217,7 @@ impl CodedTerms {
 /// A walk over coded terms, in order. Contracts see the terms that are left.
 #[derive(Drop)]
 pub(crate) struct TermWalk<'a> {
-    texts: &'a str,
-    lists: &'a [u8],
-    rows: &'a [u8],
+    bytes: &'a [u8],
 }
 
 impl<'a> Model for TermWalk<'a> {
@@ -220,10 +227,9 @@ impl<'a> Model for TermWalk<'a> {
 
     ghost Value = { List TermValue };
 
-    ghost view = { λ walk. terms_in walk.texts.now walk.lists.now walk.rows.now };
+    ghost view = { λ walk. terms_in walk.bytes.now };
 
-    ghost invariant = { λ walk. HoldTerms walk.texts.now walk.lists.now walk.rows.now
-        (terms_in walk.texts.now walk.lists.now walk.rows.now) };
+    ghost invariant = { λ walk. HoldTerms walk.bytes.now (terms_in walk.bytes.now) };
 }
 
 impl<'a> TermWalk<'a> {
@@ -233,17 +239,17 @@ impl<'a> TermWalk<'a> {
         ensures { MatchOption result ((self.old ≡ []) × (self.new ≡ []))
             (λ term. self.old ≡ term_shown term ∷ self.new) }
     {
-        if self.rows.is_empty() {
+        if self.bytes.is_empty() {
             return None;
         }
-        let (row, rows) = first_row(self.rows);
-        let (text, texts) = self.texts.split_at(row.text as usize);
-        let (list, lists) = self.lists.split_at(row.list as usize);
-        self.texts = texts;
-        self.lists = lists;
-        self.rows = rows;
+        let (row, rest) = first_row(self.bytes);
+        let (text, rest) = rest.split_at(row.text as usize);
+        let (list, rest) = rest.split_at(row.list as usize);
+        self.bytes = rest;
+        // SAFETY: `push` got these bytes as text, and so the invariant has them.
+        let term = unsafe { str::from_utf8_unchecked(text) };
         Some(CodedTerm {
-            term: text,
+            term,
             documents: row.documents,
             last: row.last,
             list,
