@@ -4,7 +4,7 @@ ghost use Rattle.ix_run.specs.HeldTerms.{BeginsWithRow, ReadsRow, bytes_of_row};
 ghost use Rattle.ix_run.specs.Runs.{term_shown};
 
 use ix_text::Memory;
-use ix_vbyte::{code_len, first_number, push_code};
+use ix_vbyte::{first_number, push_code};
 use std::alloc::{AllocError, Global};
 use std::marker::Model;
 
@@ -29,49 +29,6 @@ struct TermRow {
     list: u32,
     documents: u32,
     last: u32,
-}
-
-/// How many bytes the texts, the lists and the rows of terms have. It decides about memory alone.
-#[derive(Clone, Copy)]
-pub(crate) struct Room {
-    texts: usize,
-    lists: usize,
-    rows: usize,
-}
-
-impl Room {
-    /// The room of no terms.
-    pub(crate) fn none() -> Room
-        ensures { result ≡ record { texts = 0; lists = 0; rows = 0 } }
-    {
-        Room {
-            texts: 0,
-            lists: 0,
-            rows: 0,
-        }
-    }
-
-    /// Adds the room of a term, whose text and list have so many bytes. Of a text or a list of 2^32 bytes or more it
-    /// is refused.
-    pub(crate) fn add(
-        &mut self,
-        text: usize,
-        list: usize,
-        documents: u32,
-        last: u32,
-    ) -> Result<(), Memory>
-        ensures texts { OnOk result (self.old.texts + text < 2 ^ 64
-            → self.new.texts ≡ self.old.texts + text) }
-        ensures lists { OnOk result (self.old.lists + list < 2 ^ 64
-            → self.new.lists ≡ self.old.lists + list) }
-    {
-        let sizes = code_len(byte_count(text)?) + code_len(byte_count(list)?);
-        let row = sizes + code_len(documents) + code_len(last);
-        self.texts = self.texts.saturating_add(text);
-        self.lists = self.lists.saturating_add(list);
-        self.rows = self.rows.saturating_add(row);
-        Ok(())
-    }
 }
 
 /// A number of bytes as a row has it. 2^32 bytes or more find no room.
@@ -165,16 +122,12 @@ impl Model for CodedTerms {
 }
 
 impl CodedTerms {
-    /// No terms, with this room.
-    pub(crate) fn with_room(alloc: Global, room: Room) -> Result<CodedTerms, Memory>
+    /// No terms, with room for so many bytes.
+    pub(crate) fn with_room(alloc: Global, bytes: usize) -> Result<CodedTerms, Memory>
         ensures { IfOk result (λ terms. terms ≡ []) }
     {
-        let room = room
-            .texts
-            .saturating_add(room.lists)
-            .saturating_add(room.rows);
         Ok(CodedTerms {
-            bytes: Vec::with_capacity(alloc, room)?,
+            bytes: Vec::with_capacity(alloc, bytes)?,
         })
     }
 
@@ -196,12 +149,11 @@ impl CodedTerms {
     }
 
     /// The same terms in no more memory than they take.
-    pub(crate) fn fit(self, alloc: Global) -> Result<CodedTerms, Memory>
-        ensures { IfOk result (λ terms. terms ≡ self) }
+    pub(crate) fn fit(mut self) -> CodedTerms
+        ensures { result ≡ self }
     {
-        Ok(CodedTerms {
-            bytes: Vec::from_slice(alloc, self.bytes.as_slice())?,
-        })
+        self.bytes.shrink_to_fit();
+        self
     }
 
     /// A walk over the terms.

@@ -36,7 +36,7 @@ pub fn invert(alloc: Global, docs: &[Doc<'_>], stop: &StopList, first: u32) -> R
         return Err(RunError::TooLarge);
     }
     let stop_terms = stop.copy(alloc)?;
-    let mut dictionary = Dictionary::new(alloc);
+    let mut dictionary = Dictionary::with_room(alloc, byte_total(docs))?;
     let rows = add_documents(alloc, &mut dictionary, docs, stop)?;
     let terms = code_terms(alloc, dictionary)?;
     let head = RunHead {
@@ -77,6 +77,15 @@ fn add_documents(
         rows.push(make_row(alloc, doc, tokens)?)?;
     }
     Ok(rows)
+}
+
+/// How many bytes the texts of documents have together. It decides about memory alone.
+fn byte_total(docs: &[Doc<'_>]) -> usize {
+    let mut bytes = 0usize;
+    for doc in docs {
+        bytes = bytes.saturating_add(doc.text.len());
+    }
+    bytes
 }
 
 /// The row of a document that has so many tokens.

@@ -14,6 +14,7 @@ mod inversion;
 mod laws;
 mod list;
 mod listed;
+mod room;
 mod rows;
 mod run;
 mod run_file;

@@ -8,7 +8,7 @@ ghost use Rattle.ix_run.specs.RunTextErrors.{IsRefusal};
 ghost use Rattle.ix_run.specs.RunFiles.{read_shown};
 ghost use Rattle.ix_run.specs.Sources.{IsUnread};
 
-use crate::coded_terms::{CodedTerm, CodedTerms, Room};
+use crate::coded_terms::{CodedTerm, CodedTerms};
 use crate::run_reader::RunReader;
 use crate::{Run, RunTextError, Source};
 use ix_vbyte::push_posting;
@@ -63,7 +63,7 @@ fn read_terms<R: Read + Drop>(
     ensures refused { (entries : List DictionaryEntry) → Faces R.remaining reader.old [] entries
         → IfErr result IsRefusal }
 {
-    let mut terms = CodedTerms::with_room(alloc, Room::none())?;
+    let mut terms = CodedTerms::with_room(alloc, 0)?;
     let mut positions = Vec::new(alloc);
     while reader.next_term()? {
         let read = read_term(alloc, reader, &mut positions)?;
@@ -74,7 +74,7 @@ fn read_terms<R: Read + Drop>(
             list: read.list.as_slice(),
         })?;
     }
-    Ok(terms.fit(alloc)?)
+    Ok(terms.fit())
 }
 
 /// Takes the term at hand with all its postings, none of which was given yet. `positions` is where they are read into.

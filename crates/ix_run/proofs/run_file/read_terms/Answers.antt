@@ -20,7 +20,7 @@ pub returns-clause-read : goal.returns-clause-read
 returns-clause-read g c =
     let ok = c.in_ok-next_term.ensures in
     let ends = rw c.if-branch.false at ok.begun in
-    subst (ReadsAll g.R.Read.remaining c.args.reader.now) (sym c.in_ok-fit.ensures)
+    subst (ReadsAll g.R.Read.remaining c.args.reader.now) (sym c.fit.ensures)
     (reads_all g.R.Read.remaining c.args.reader.now c.loop-positions.reader c.loop-positions.terms c.loop-positions.invariant c.next_term.new.self ends.2
     (λ entries faces. rw c.if-branch.false at (ok.accepted [] entries faces)))
 
