@@ -17,6 +17,9 @@ pub(crate) mod documents;
 pub(crate) mod frame;
 mod front;
 pub(crate) mod grams;
+#[cfg(test)]
+mod grams_tests;
+pub(crate) mod list;
 pub(crate) mod lists;
 mod pairs;
 pub(crate) mod stop;
