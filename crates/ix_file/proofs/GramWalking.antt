@@ -6,7 +6,6 @@ use Rattle.std.proofs.lemmas.List.{append-nil, take_more}
 use Rattle.std.proofs.lemmas.List.Elements.{All-nil, All-cons, All-head, All-tail, All-contains, Contains-append_left, Contains-append_right, Contains-push_cases}
 use Rattle.std.proofs.lemmas.Option.{get_or_from_slice_get}
 use Rattle.ix_text.proofs.AscendingLists.{contains_first, contains_later, contains_map, contains_none}
-use Rattle.ix_text.specs.ByteOrder.{IsAscending}
 use Rattle.ix_text.specs.Parts.{GramEntry, HasNumber}
 use Rattle.ix_text.specs.Windows.{grams_of}
 use Rattle.ix_vbyte.specs.Code.{code_of}

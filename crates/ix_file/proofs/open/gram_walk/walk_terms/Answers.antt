@@ -1,9 +1,8 @@
-use Rattle.std.proofs.Common.{◌≡◌, ◌≤◌, All, List, length, sym, subst, ◌∙◌, ap, arith}
+use Rattle.std.proofs.Common.{◌≤◌, All, length, arith}
 use Rattle.std.proofs.lemmas.List.{length-map, take_at}
 use Rattle.ix_file.specs.GramWalks.{HaveRead, IsAtEnd}
 use Rattle.ix_file.specs.PlacedTerms.{terms_in}
-use Rattle.ix_file.specs.declared.open.gram_walk.Cursor.{Cursor}
-use Rattle.ix_file.proofs.GramWalking.{AreWalked, all_right, walked_all, walked_more}
+use Rattle.ix_file.proofs.GramWalking.{all_right, walked_all, walked_more}
 use Rattle.ix_file.proofs.PairCounts.{text_of}
 use Rattle.ix_file.proofs.open.gram_walk.walk_terms.Goals as goal
 
