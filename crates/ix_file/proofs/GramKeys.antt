@@ -116,6 +116,14 @@ module _ (terms : List (List ℕ)) where
       let e = All-contains (IsRightEntry terms) grams (record { gram = g; numbers = has.numbers }) right has.among in
       All-contains (IsGramOfTerm terms g) has.numbers n e.numbers.right has.listed
 
+  -- where each gram of the terms is listed, right ones are those of the terms
+  pub all_listed : (grams : List GramEntry) → IsAscending (texts_of grams) → All (IsRightEntry terms) grams → ((g : List ℕ) (n : ℕ) → IsGramOfTerm terms g n → HasNumber grams g n) → AreGramsOfTerms terms grams
+  all_listed grams up right all = record {
+    ascending = up;
+    each = λ k d low. let e = right k d low in (e.some, Ascends-rising 0 (length terms) (get_or grams k d).numbers e.numbers.ascend);
+    related = λ g n. (right_number grams right g n, all g n);
+  }
+
   -- and as many right ones, each once, are those of the terms
   pub as_many : (grams : List GramEntry) (pairs : List (List ℕ × ℕ)) → IsAscending (texts_of grams) → All (IsRightEntry terms) grams → AreAllPairs terms pairs → length pairs ≡ numbers_listed grams → AreGramsOfTerms terms grams
   as_many grams pairs up right all many = record {

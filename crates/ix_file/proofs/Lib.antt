@@ -24,6 +24,7 @@ pub mod GramReading
 pub mod GramRows
 pub mod GramSections
 pub mod GramTexts
+pub mod GramWalking
 pub mod GramWindows
 pub mod Halving
 pub mod HeldLemmas

@@ -6,6 +6,7 @@ pub mod Frames
 pub mod GramLaws
 pub mod GramPairs
 pub mod GramTables
+pub mod GramWalks
 pub mod Grams
 pub mod HeldTerms
 pub mod IndexText

@@ -16,7 +16,11 @@ mod dictionary_tests;
 pub(crate) mod documents;
 pub(crate) mod frame;
 mod front;
+mod gram_walk;
 pub(crate) mod grams;
+#[cfg(test)]
+mod grams_tests;
+pub(crate) mod list;
 pub(crate) mod lists;
 mod pairs;
 pub(crate) mod stop;
@@ -53,8 +57,8 @@ pub(crate) fn read_tables(alloc: Global, frame: &Frame<'_>) -> Result<Tables, Op
     Ok(tables_of(frame, catalog, longs, grams))
 }
 
-/// Reads the tables as `read_tables` does: POSTINGS and GRAMS side by side, and beside them how many grams the terms
-/// have, in several threads where there may be several.
+/// Reads the tables as `read_tables` does: POSTINGS and GRAMS side by side, in several threads where there may be
+/// several.
 ///
 /// The same errors in the same order: where both are refused, those of POSTINGS.
 pub(crate) fn read_tables_beside<R: Threads + Sync>(
@@ -96,7 +100,7 @@ pub(crate) fn read_tables_beside<R: Threads + Sync>(
             ⊎ AreNoSections (version_in frame.entry.now.version)
             (texts_in frame.entry.now.sections) frame.entry.now.documents
             frame.entry.now.terms) }
-    { catalog.check_grams_beside(rt, alloc, frame) };
+    { catalog.check_grams(alloc, frame) };
     let (longs, grams) = join(rt, check_postings, check_grams);
     let longs = longs?;
     let grams = grams?;

@@ -1,5 +1,5 @@
-//! The grams of an index text. They are those of the terms where each that is listed is right, and where there are as
-//! many as the terms have: so nothing is put in order again.
+//! The grams of an index text. They are those of the terms where each gram of each term lists it, and nothing else is
+//! listed: so nothing is put in order again.
 ghost use Rattle.std.specs.Prelude.{◌≡◌, ◌≢◌, ◌⊎◌, ◌↔◌, ℕ, ◌+◌, ◌-◌, ◌^◌, ◌<◌, ◌≤◌, ◌++◌, ◌∷◌, [], List, map, length, All, IsUtf8, IsTrue, IfOk, IfErr, OnErr, MatchOption, ⊤};
 ghost use Rattle.ix_text.specs.ByteOrder.{IsAscending};
 ghost use Rattle.ix_text.specs.Parts.{GramEntry};
@@ -13,6 +13,7 @@ ghost use Rattle.ix_file.specs.Sections.{grams_section};
 ghost use Rattle.ix_file.specs.declared.open_error.OpenError.TheVariants.{Memory};
 
 use crate::open::front::{read_number, read_text};
+use crate::open::gram_walk::walk_terms;
 use crate::open::pairs::{GramPair, count_pairs, has_gram, pair_of};
 use crate::open::terms::Terms;
 use crate::{OpenError, Section};
@@ -20,7 +21,6 @@ use ix_vbyte::skip_codes;
 use std::alloc::Global;
 use std::cmp::Ordering;
 use std::str::from_utf8;
-use std::thread::{Threads, join};
 
 /// A gram: where it stands in GRAMS and how many bytes it has, how many terms have it, and where in GRAMS the gaps
 /// of their numbers stand and how many bytes these take.
@@ -51,24 +51,30 @@ pub(crate) fn read_grams(
         ⊎ ((grams : List GramEntry) → AreGramsOfTerms (terms_in terms.now) grams →
         section.now ≢ grams_section grams)) }
 {
-    let (rows, listed) = read_rows(alloc, section, terms)?;
-    let total = count_pairs(alloc, terms, section.len())?;
-    if listed != total {
-        return Err(OpenError::Grams);
+    let (rows, listed) = cut_rows(alloc, section)?;
+    match walk_terms(alloc, section, &rows, terms) {
+        Ok(()) => Ok(rows),
+        Err(OpenError::Memory) => Err(OpenError::Memory),
+        // the walk promises nothing of what it refuses
+        Err(_) => check_rows(alloc, section, rows, listed, terms),
     }
-    Ok(rows)
 }
 
-/// Reads GRAMS as `read_grams` does, and counts the grams of the terms beside it, in three threads where there may be
-/// three.
-pub(crate) fn read_grams_beside<R: Threads>(
-    rt: &R,
+/// Looks at rows one by one, each number of which is to be that of a term that has the row's gram, and counts the grams
+/// of the terms, which are to be as many as the numbers.
+///
+/// `Grams` where they are not those of the terms, or `Memory`.
+fn check_rows(
     alloc: Global,
     section: &[u8],
+    rows: Vec<GramRow>,
+    listed: usize,
     terms: &Terms,
 ) -> Result<Vec<GramRow>, OpenError>
     requires few { length terms.now < 2 ^ 32 }
     requires texts { All IsUtf8 (terms_in terms.now) }
+    requires cut { AreCutRows section.now rows.items }
+    requires claimed { listed ≡ numbers_claimed rows.items }
     ensures grams { IfOk result (λ rows. AreGramsOfTerms (terms_in terms.now)
         (grams_in section.now rows.items) × (section.now ≡ grams_section
         (grams_in section.now rows.items))) }
@@ -77,82 +83,14 @@ pub(crate) fn read_grams_beside<R: Threads>(
         ⊎ ((grams : List GramEntry) → AreGramsOfTerms (terms_in terms.now) grams →
         section.now ≢ grams_section grams)) }
 {
-    let count = || -> Result<usize, OpenError>
-        requires { length terms.now < 2 ^ 32 }
-        ensures found { IfOk result (λ total. (pairs : List (List ℕ × ℕ))
-            × AreAllPairs (terms_in terms.entry.now) pairs × (length pairs ≡ total)) }
-        ensures refused { IfErr result (λ error. (error ≡ Memory)
-            ⊎ ((pairs : List (List ℕ × ℕ)) → AreAllPairs (terms_in terms.entry.now) pairs →
-            length section.entry.now < length pairs)) }
-    { count_pairs(alloc, terms, section.len()) };
-    let read = || -> Result<(Vec<GramRow>, usize), OpenError>
-        requires few { length terms.now < 2 ^ 32 }
-        requires texts { All IsUtf8 (terms_in terms.now) }
-        ensures found { IfOk result (λ read.
-            AreRightRows (terms_in terms.entry.now) section.entry.now read.0.items) }
-        ensures listed { IfOk result (λ read.
-            read.1 ≡ numbers_listed (grams_in section.entry.now read.0.items)) }
-        ensures refused { IfErr result (λ error. (error ≡ Memory)
-            ⊎ ((grams : List GramEntry) → AreGramsOfTerms (terms_in terms.entry.now) grams →
-            section.entry.now ≢ grams_section grams)) }
-    { read_rows_beside(rt, alloc, section, terms) };
-    let (total, read) = join(rt, count, read);
-    let (rows, listed) = read?;
-    let total = total?;
+    if !are_right(section, &rows, terms) {
+        return Err(OpenError::Grams);
+    }
+    let total = count_pairs(alloc, terms, section.len())?;
     if listed != total {
         return Err(OpenError::Grams);
     }
     Ok(rows)
-}
-
-/// Reads the rows of GRAMS, each of a gram with numbers of terms that have it, and counts the numbers. Whether a number
-/// is missing is not looked at.
-///
-/// `Grams` where the section is of no such rows, or `Memory`.
-fn read_rows(
-    alloc: Global,
-    section: &[u8],
-    terms: &Terms,
-) -> Result<(Vec<GramRow>, usize), OpenError>
-    requires few { length terms.now < 2 ^ 32 }
-    requires texts { All IsUtf8 (terms_in terms.now) }
-    ensures found { IfOk result (λ read.
-        AreRightRows (terms_in terms.now) section.now read.0.items) }
-    ensures listed { IfOk result (λ read.
-        read.1 ≡ numbers_listed (grams_in section.now read.0.items)) }
-    ensures refused { IfErr result (λ error. (error ≡ Memory)
-        ⊎ ((grams : List GramEntry) → AreGramsOfTerms (terms_in terms.now) grams →
-        section.now ≢ grams_section grams)) }
-{
-    let (rows, listed) = cut_rows(alloc, section)?;
-    if !are_right(section, &rows, terms) {
-        return Err(OpenError::Grams);
-    }
-    Ok((rows, listed))
-}
-
-/// Reads the rows as `read_rows` does, and looks at their numbers in two threads where there may be two.
-fn read_rows_beside<R: Threads>(
-    rt: &R,
-    alloc: Global,
-    section: &[u8],
-    terms: &Terms,
-) -> Result<(Vec<GramRow>, usize), OpenError>
-    requires few { length terms.now < 2 ^ 32 }
-    requires texts { All IsUtf8 (terms_in terms.now) }
-    ensures found { IfOk result (λ read.
-        AreRightRows (terms_in terms.now) section.now read.0.items) }
-    ensures listed { IfOk result (λ read.
-        read.1 ≡ numbers_listed (grams_in section.now read.0.items)) }
-    ensures refused { IfErr result (λ error. (error ≡ Memory)
-        ⊎ ((grams : List GramEntry) → AreGramsOfTerms (terms_in terms.now) grams →
-        section.now ≢ grams_section grams)) }
-{
-    let (rows, listed) = cut_rows(alloc, section)?;
-    if !are_right_beside(rt, section, &rows, terms) {
-        return Err(OpenError::Grams);
-    }
-    Ok((rows, listed))
 }
 
 /// Cuts GRAMS into its rows, and adds up how many numbers these say that they have. The numbers are passed over.
@@ -209,34 +147,6 @@ fn cut_row<'a>(section: &[u8], left: &'a [u8]) -> Result<(GramRow, &'a [u8]), Op
         numbers_size: size,
     };
     Ok((row, &gaps[size..]))
-}
-
-/// Whether each of the rows is of a gram with some of the terms that have it. It is found in two threads where there
-/// may be two, each of which has about half of the section.
-fn are_right_beside<R: Threads>(rt: &R, section: &[u8], rows: &[GramRow], terms: &Terms) -> bool
-    requires few { length terms.now < 2 ^ 32 }
-    requires texts { All IsUtf8 (terms_in terms.now) }
-    requires lie { All (LiesIn section.now) rows.now }
-    ensures { IsTrue result ↔ All (IsRightRow (terms_in terms.now) section.now) rows.now }
-{
-    let middle = rows.partition_point(|row| row.numbers < section.len() / 2);
-    let (front, back) = rows.split_at(middle);
-    let first = || -> bool
-        requires few { length terms.now < 2 ^ 32 }
-        requires texts { All IsUtf8 (terms_in terms.now) }
-        requires lie { All (LiesIn section.now) front.now }
-        ensures { IsTrue result ↔ All (IsRightRow (terms_in terms.entry.now) section.entry.now)
-            front.entry.now }
-    { are_right(section, front, terms) };
-    let second = || -> bool
-        requires few { length terms.now < 2 ^ 32 }
-        requires texts { All IsUtf8 (terms_in terms.now) }
-        requires lie { All (LiesIn section.now) back.now }
-        ensures { IsTrue result ↔ All (IsRightRow (terms_in terms.entry.now) section.entry.now)
-            back.entry.now }
-    { are_right(section, back, terms) };
-    let (first, second) = join(rt, first, second);
-    first && second
 }
 
 /// Whether each of the rows is of a gram with some of the terms that have it.
@@ -365,96 +275,9 @@ pub(crate) fn find_gram(section: &[u8], rows: &[GramRow], gram: &str) -> Option<
 }
 
 /// The bytes of the gram of a row.
-fn gram_bytes(section: &[u8], row: GramRow) -> &[u8]
+pub(crate) fn gram_bytes(section: &[u8], row: GramRow) -> &[u8]
     requires { row.start + row.size ≤ length section.now }
     ensures { result.now ≡ (gram_in section.now row).gram }
 {
     &section[row.start..row.start + usize::from(row.size)]
-}
-
-#[cfg(test)]
-mod tests {
-    use super::{find_gram, read_grams};
-    use crate::OpenError;
-    use crate::open::terms::{ListPlace, Terms};
-    use std::alloc::{AllocError, Global};
-    use std::process::Abort;
-    use std::test::Fail;
-
-    /// `$x$` of the first term, `$y$` of the second.
-    const TWO: [u8; 12] = [
-        0x83, b'$', b'x', b'$', 0x81, 0x81, 0x83, b'$', b'y', b'$', 0x81, 0x82,
-    ];
-
-    /// `$aa`, `aa$` and `aaa`, which stands twice in the term.
-    const REPEATED: [u8; 18] = [
-        0x83, b'$', b'a', b'a', 0x81, 0x81, 0x83, b'a', b'a', b'$', 0x81, 0x81, 0x83, b'a', b'a',
-        b'a', 0x81, 0x81,
-    ];
-
-    /// Terms without postings.
-    fn terms_of(alloc: Global, texts: &[&str]) -> Result<Terms, AllocError> {
-        let mut terms = Terms::with_room(alloc, texts.len(), 0)?;
-        let place = ListPlace {
-            start: 0,
-            size: 0,
-            documents: 1,
-        };
-        for text in texts {
-            terms.push(text, place)?;
-        }
-        Ok(terms)
-    }
-
-    /// Whether the section is refused as no grams of the terms.
-    fn is_refused(
-        rt: &impl Abort,
-        alloc: Global,
-        section: &[u8],
-        terms: &Terms,
-    ) -> Result<bool, OpenError> {
-        assert!(rt; terms.len() < 1000);
-        match read_grams(alloc, section, terms) {
-            Ok(_) => Ok(false),
-            Err(OpenError::Grams) => Ok(true),
-            Err(error) => Err(error),
-        }
-    }
-
-    #[test]
-    fn grams_are_read_and_found(rt: HostRuntime) -> Result<(), Fail> {
-        let alloc = rt.alloc();
-        let terms = terms_of(alloc, &["x", "y"])?;
-        assert!(rt; terms.len() < 1000);
-        let grams = read_grams(alloc, &TWO, &terms)?;
-        assert_eq!(rt; grams.len(), 2);
-        assert_eq!(rt; find_gram(&TWO, &grams, "$x$"), Some(0));
-        assert_eq!(rt; find_gram(&TWO, &grams, "$y$"), Some(1));
-        assert_eq!(rt; find_gram(&TWO, &grams, "$a$"), None);
-        assert_eq!(rt; find_gram(&TWO, &grams, "$z$"), None);
-        let repeated = terms_of(alloc, &["aaaa"])?;
-        assert!(rt; !is_refused(&rt, alloc, &REPEATED, &repeated)?);
-        let none = terms_of(alloc, &[])?;
-        assert!(rt; !is_refused(&rt, alloc, &[], &none)?);
-        Ok(())
-    }
-
-    #[test]
-    fn any_other_section_is_refused(rt: HostRuntime) -> Result<(), Fail> {
-        let alloc = rt.alloc();
-        let terms = terms_of(alloc, &["x", "y"])?;
-        for len in 0..TWO.len() {
-            assert!(rt; is_refused(&rt, alloc, &TWO[..len], &terms)?);
-        }
-        for index in 0..TWO.len() {
-            let mut bytes = TWO;
-            bytes[index] ^= 1;
-            assert!(rt; is_refused(&rt, alloc, &bytes, &terms)?);
-        }
-        let mut longer = Vec::new(alloc);
-        longer.extend_from_slice(&TWO)?;
-        longer.extend_from_slice(&TWO[6..])?;
-        assert!(rt; is_refused(&rt, alloc, &longer, &terms)?);
-        Ok(())
-    }
 }

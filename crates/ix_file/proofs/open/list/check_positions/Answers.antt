@@ -2,7 +2,7 @@ use Rattle.std.proofs.Common.{◌≡◌, ◌+◌, inr, subst, arith}
 use Rattle.std.proofs.lemmas.Result.{err_from_is_err_and}
 use Rattle.ix_file.specs.ReadLists.{ArePositionsIn}
 use Rattle.ix_file.proofs.PositionReading.{go_on, go_on_behind, no_gap, positions_all, read_more, read_none, read_within, wide_gap}
-use Rattle.ix_file.proofs.open.lists.check_positions.Goals as goal
+use Rattle.ix_file.proofs.open.list.check_positions.Goals as goal
 
 pub loop-place-init : goal.loop-place-init
 loop-place-init c = record {

@@ -6,7 +6,7 @@ use Rattle.ix_file.proofs.ListReading.{ListGoesOn, list_goes_on, list_goes_on_be
 use Rattle.ix_vbyte.proofs.Places.{no_skips}
 use Rattle.ix_file.proofs.ListEntering.{place_kept, place_stands}
 use Rattle.ix_file.proofs.ListsFound.{AreFew}
-use Rattle.ix_file.proofs.open.lists.check_list.Goals as goal
+use Rattle.ix_file.proofs.open.list.check_list.Goals as goal
 
 pub loop-document-init : goal.loop-document-init
 loop-document-init c = record {

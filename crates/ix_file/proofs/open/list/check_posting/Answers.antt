@@ -5,7 +5,7 @@ use Rattle.ix_vbyte.proofs.ShortPostings.{single_parts}
 use Rattle.ix_file.specs.ReadLists.{IsNextPosting}
 use Rattle.ix_file.proofs.PositionReading.{one_position, positions_all, wide_position}
 use Rattle.ix_file.proofs.PostingReading.{claimed_posting, next_posting, no_positions, past_documents, same_count, span_below, span_within}
-use Rattle.ix_file.proofs.open.lists.check_posting.Goals as goal
+use Rattle.ix_file.proofs.open.list.check_posting.Goals as goal
 
 pub returns-in_default-checked_add-clause-refused : goal.returns-in_default-checked_add-clause-refused
 returns-in_default-checked_add-clause-refused c =

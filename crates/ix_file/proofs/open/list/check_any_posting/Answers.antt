@@ -2,7 +2,7 @@ use Rattle.std.proofs.Common.{◌≡◌, ◌+◌, ◌-◌, ◌^◌, ◌≤◌, i
 use Rattle.std.proofs.lemmas.Result.{err_from_is_err_and}
 use Rattle.ix_file.proofs.ClaimLemmas.{room_below}
 use Rattle.ix_file.proofs.PostingReading.{claimed_posting, next_posting, no_count, no_document, no_positions, past_documents, same_count, span_below, span_within}
-use Rattle.ix_file.proofs.open.lists.check_any_posting.Goals as goal
+use Rattle.ix_file.proofs.open.list.check_any_posting.Goals as goal
 
 pub returns-in_err-gap-clause-refused : goal.returns-in_err-gap-clause-refused
 returns-in_err-gap-clause-refused c =

@@ -2,7 +2,7 @@ use Rattle.std.proofs.Common.{ℕ, List}
 use Rattle.ix_file.specs.Claimed.{HasRoom}
 use Rattle.ix_file.specs.ReadLists.{ArePositionsIn}
 use Rattle.ix_file.proofs.PositionReading.{HasReadPositions, PositionsGoOn}
-use Rattle.ix_file.proofs.open.lists.check_positions.Given as goal
+use Rattle.ix_file.proofs.open.list.check_positions.Given as goal
 
 abbrev pub invariant-loop-place : goal.invariant-loop-place
 invariant-loop-place l = record {

@@ -4,7 +4,7 @@ use Rattle.ix_text.specs.TokenTables.{HasTokens}
 use Rattle.ix_vbyte.specs.Skips.{AreSkipsIn}
 use Rattle.ix_file.specs.ReadLists.{AreListedIn, MayClaim}
 use Rattle.ix_file.proofs.ListReading.{HasReadList, ListGoesOn}
-use Rattle.ix_file.proofs.open.lists.check_list.Given as goal
+use Rattle.ix_file.proofs.open.list.check_list.Given as goal
 
 abbrev pub invariant-loop-document : goal.invariant-loop-document
 invariant-loop-document l = record {
