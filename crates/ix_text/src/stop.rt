@@ -109,6 +109,9 @@ impl StopList {
     pub fn contains(&self, term: &str) -> bool
         ensures { IsTrue result ↔ Contains self.now term.now }
     {
+        if self.terms.is_empty() {
+            return false;
+        }
         match self.slots[slot_of(term)] {
             Slot::Empty => false,
             Slot::One(place) => is_at(self.terms(), place, term),
