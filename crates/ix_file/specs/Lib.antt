@@ -19,6 +19,7 @@ pub mod OpenedGrams
 pub mod OpenedLaws
 pub mod OpenedRows
 pub mod PlacedTerms
+pub mod PositionReads
 pub mod Places
 pub mod PutErrors
 pub mod ReadLists

@@ -23,6 +23,7 @@ mod grams_tests;
 pub(crate) mod list;
 pub(crate) mod lists;
 mod pairs;
+pub(crate) mod positions;
 pub(crate) mod stop;
 pub(crate) mod tables;
 pub(crate) mod terms;
