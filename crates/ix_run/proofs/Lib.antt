@@ -11,6 +11,7 @@ pub mod InputLemmas
 pub mod Inverting
 pub mod ListSteps
 pub mod OrderLemmas
+pub mod Passing
 pub mod PieceLemmas
 pub mod PositionLemmas
 pub mod PostingLemmas
@@ -21,6 +22,7 @@ pub mod ReadOpen
 pub mod ReadSkips
 pub mod ReadSteps
 pub mod ReadWholes
+pub mod ReaderLists
 pub mod RowLemmas
 pub mod RunFiles
 pub mod RunSizes

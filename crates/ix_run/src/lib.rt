@@ -5,6 +5,7 @@
 
 mod coded_terms;
 mod coding;
+mod copying;
 mod dictionary;
 mod errors;
 mod head;

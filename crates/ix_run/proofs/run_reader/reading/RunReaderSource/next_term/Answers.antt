@@ -5,7 +5,7 @@ use Rattle.ix_run.specs.declared.run_reader.Place.{Place}
 use Rattle.ix_run.specs.declared.run_reader.Place.TheVariants.{AtTerm, Ended}
 use Rattle.ix_run.proofs.Faulting.{going_begun, keeps_faults_on, may_fault, well_begun}
 use Rattle.ix_run.proofs.ReadSkips.{ends_again}
-use Rattle.ix_run.proofs.run_reader.RunReaderSource.next_term.Goals as goal
+use Rattle.ix_run.proofs.run_reader.reading.RunReaderSource.next_term.Goals as goal
 
 at_no_term : (place : Place) → place ≡ Ended → place ≡ AtTerm → ⊥
 at_no_term place over here = cc

@@ -1,7 +1,7 @@
 use Rattle.ix_run.proofs.ReadSkips.{none_left}
 use Rattle.ix_run.proofs.Faulting.{going_at_term, keeps_faults, may_fault}
-use Rattle.ix_run.proofs.run_reader.RunReaderSource.next_posting.Goals as goal
-use Rattle.ix_run.proofs.run_reader.RunReaderSource.next_posting.Goals.{in-Failed, in_default}
+use Rattle.ix_run.proofs.run_reader.RunReader.next_of_list.Goals as goal
+use Rattle.ix_run.proofs.run_reader.RunReader.next_of_list.Goals.{in-Failed, in_default}
 
 pub returns-then-self-eq0-clause-accepted : goal.returns-then-self-eq0-clause-accepted
 returns-then-self-eq0-clause-accepted g c postings entries faces = none_left g.R.Read.remaining c.args.self.now postings entries c.if-self-eq0.true faces
