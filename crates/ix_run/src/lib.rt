@@ -15,6 +15,7 @@ mod inversion;
 mod laws;
 mod list;
 mod listed;
+mod place_sort;
 mod room;
 mod rows;
 mod run;
