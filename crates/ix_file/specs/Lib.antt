@@ -5,6 +5,7 @@ pub mod Endings
 pub mod Frames
 pub mod GramLaws
 pub mod GramPairs
+pub mod GramSides
 pub mod GramTables
 pub mod GramWalks
 pub mod Grams
