@@ -1,5 +1,5 @@
 -- What was taken of a buffer, from call to call.
-use Rattle.std.proofs.Common.{◌≡◌, ℕ, ◌+◌, ◌-◌, ◌<◌, ◌≤◌, List, [], ◌∷◌, ◌++◌, length, take, drop, Result, Ok, Err, OnOk, is_ok, if◌then◌else◌, get_or, sym, ap, ap₂, ◌∙◌, subst, arith, append_assoc, append-nil}
+use Rattle.std.proofs.Common.{◌≡◌, ℕ, ◌+◌, ◌-◌, ◌<◌, ◌≤◌, List, [], ◌∷◌, ◌++◌, length, take, drop, Result, Ok, Err, OnOk, get_or, sym, ap, ap₂, ◌∙◌, subst, arith, append_assoc, append-nil}
 use Rattle.std.proofs.lemmas.List.{append_cancel_left, get_or_read, length-append, length-drop, length-take, nil_from_length, take-append-drop, take-take, take_more}
 use Rattle.std.proofs.Math.Seq.{drop-append_seam, take-add, take-append_seam}
 use Rattle.ix_vbyte.specs.Postings.{posting_bytes}
@@ -74,10 +74,26 @@ passes_posting a b c d gap count given posting one two three same all =
     subst (λ (n : ℕ). P n (length posting.1)) same
     (subst (λ (m : ℕ). P gap m) all (passes_on a c d (code_of gap ++ code_of count) (codes_of (gaps_of posting.1)) (passes_on a b c (code_of gap) (code_of count) one two) three))
 
--- what was appended, where it was
-pub appended_is : {T E : Type 0} (result : Result T E) (new old more all : List ℕ) → new ≡ (if is_ok result then old ++ more else old) → more ≡ all → OnOk result (new ≡ old ++ all)
-appended_is (Ok x) new old more all is same = is ∙ ap (λ (bytes : List ℕ). old ++ bytes) same
-appended_is (Err e) new old more all is same = tt
-
 pub take_zero : (bytes : List ℕ) → take 0 bytes ≡ []
 take_zero bytes = nil_from_length (take 0 bytes) (omega (arith, length-take 0 bytes))
+
+-- of a posting what stands behind its gap, behind any gap
+pub tail_passed : (before after last : List ℕ) (gap given : ℕ) (posting : Posting) → Passes before after (posting_bytes gap posting) → EndsWith after last
+    → length last ≡ length (posting_bytes gap posting) - length (code_of gap) → code_of given ++ last ≡ posting_bytes given posting
+tail_passed before after last gap given posting passes ends len =
+    let count : List ℕ = code_of (length posting.1) in
+    let gaps : List ℕ = codes_of (gaps_of posting.1) in
+    let tail : List ℕ = count ++ gaps in
+    let behind : Passes (before ++ code_of gap) after tail =
+    record { gone = passes.gone; is = passes.is ∙ ap (λ (xs : List ℕ). before ++ xs) (append_assoc (code_of gap) count gaps) ∙ sym (append_assoc before (code_of gap) tail) } in
+    let size : length last ≡ length tail = omega (arith, len, ap length (append_assoc (code_of gap) count gaps), length-append (code_of gap) tail) in
+    ap (λ (xs : List ℕ). code_of given ++ xs) (last_passed (before ++ code_of gap) after tail last behind ends size) ∙ sym (append_assoc (code_of given) count gaps)
+
+pub gap_within : (gap : ℕ) (posting : Posting) → length (code_of gap) ≤ length (posting_bytes gap posting)
+gap_within gap posting =
+    omega (arith, length-append (code_of gap ++ code_of (length posting.1)) (codes_of (gaps_of posting.1)), length-append (code_of gap) (code_of (length posting.1)))
+
+-- what was appended, where it was, is the same bytes
+pub appended_same : {T E : Type 0} (result : Result T E) (new old more all : List ℕ) → OnOk result (new ≡ old ++ more) → more ≡ all → OnOk result (new ≡ old ++ all)
+appended_same (Ok x) new old more all is same = is ∙ ap (λ (bytes : List ℕ). old ++ bytes) same
+appended_same (Err e) new old more all is same = tt

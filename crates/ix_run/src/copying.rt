@@ -5,7 +5,7 @@ ghost use Rattle.ix_vbyte.specs.Postings.{posting_bytes};
 ghost use Rattle.ix_run.specs.Inputs.{Passes, passed};
 
 use crate::input::Input;
-use ix_vbyte::push_posting;
+use ix_vbyte::{code_len, push_code_and, push_posting};
 use std::alloc::AllocError;
 use std::io::Read;
 
@@ -19,8 +19,10 @@ pub(crate) struct TakenPosting {
 }
 
 /// Appends the posting that was taken last from the input, with this document and these positions, to a list in which
-/// `next` is one above the document before it. Where its gap stays and its bytes are still buffered, they are copied.
-/// Where memory is refused, nothing was appended.
+/// `next` is one above the document before it. Where memory is refused, nothing was appended.
+///
+/// Behind the gap stand the bytes that were read: of several positions they are copied, where they are still buffered. One
+/// position is written as fast anew.
 #[inline(always)]
 pub(crate) fn push_taken<R: Read>(
     input: &Input<R>,
@@ -40,9 +42,10 @@ pub(crate) fn push_taken<R: Read>(
         ≡ out.old.items ++ posting_bytes (document + 1 - next) (document, positions.now)) }
     ensures err { OnErr result (out.new.items ≡ out.old.items) }
 {
-    if document + 1 - next == taken.gap {
-        if let Some(bytes) = input.behind(taken.bytes) {
-            return out.extend_from_slice(bytes);
+    if positions.len() > 1 {
+        let head = code_len(taken.gap);
+        if let Some(tail) = input.behind(taken.bytes - head) {
+            return push_code_and(out, document + 1 - next, tail);
         }
     }
     push_posting(out, next, document, positions)

@@ -46,6 +46,8 @@ pub struct RunReader<R> {
     term: String,
     // a term's bytes before they are known to be text
     scratch: Vec<u8>,
+    // lent to lists for the positions of one posting
+    positions: Vec<u32>,
     place: Place,
     // one above the last document given of the term at hand
     next: u32,
@@ -124,6 +126,7 @@ impl<R: Read + Drop> RunReader<R> {
             marks,
             term: String::new(alloc),
             scratch: Vec::new(alloc),
+            positions: Vec::new(alloc),
             place: Place::Begun,
             next: 0,
             documents: 0,

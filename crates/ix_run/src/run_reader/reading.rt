@@ -3,6 +3,7 @@
 use super::{Place, RunReader};
 use crate::{ListError, Listed, RunHead, RunTextError, Source};
 use std::io::Read;
+use std::mem::replace;
 
 impl<R: Read + Drop> Source for RunReader<R> {
     ghost use Rattle.std.specs.Prelude.{◌≡◌, ◌<◌, ◌≤◌, ◌∷◌, [], List, ℕ, Some, None, Ok, Err, false, IsSome, IfErr, IfOk, IfSome, OnErr, OnOk, MatchBool, MatchOption, MatchResult};
@@ -144,8 +145,10 @@ impl<R: Read + Drop> Source for RunReader<R> {
         ensures no_more_faults { OnOk result
             (KeepsFaults (MayFault R.remaining) self.old self.new) }
     {
-        let mut positions = Vec::new(self.alloc);
-        self.take_postings(next, &mut positions, out)
+        let mut positions = replace(&mut self.positions, Vec::new(self.alloc));
+        let listed = self.take_postings(next, &mut positions, out);
+        self.positions = positions;
+        listed
     }
 
     ghost drained_without_term = { λ reader none some. absurd (some none) };
