@@ -1,5 +1,5 @@
 -- The terms are walked, and each gram of a term lists it next.
-use Rattle.std.proofs.Common.{◌≡◌, ℕ, zero, suc, ◌+◌, ◌-◌, ◌^◌, ◌<◌, ◌≤◌, List, [], ◌∷◌, ◌++◌, length, map, set, get_or, take, slice_get, Some, All, Contains, IsUtf8, refl, sym, ap, subst, ◌∙◌, ⊎_elim, arith}
+use Rattle.std.proofs.Common.{◌≡◌, ℕ, zero, suc, ◌+◌, ◌-◌, ◌^◌, ◌<◌, ◌≤◌, List, [], ◌∷◌, ◌++◌, length, set, get_or, take, slice_get, Some, All, Contains, IsUtf8, refl, sym, ap, subst, ◌∙◌, ⊎_elim, append_assoc, arith}
 use Rattle.std.specs.List.{AllZip}
 use Rattle.std.proofs.lemmas.Bool.{cases_eq, cases_lt}
 use Rattle.std.proofs.lemmas.List.{append-nil, take_more}
@@ -15,22 +15,24 @@ use Rattle.ix_vbyte.proofs.Gaps.{next_after-le}
 use Rattle.ix_file.specs.declared.open.gram_walk.Cursor.{Cursor}
 use Rattle.ix_file.specs.declared.open.grams.GramRow.{GramRow}
 use Rattle.ix_file.specs.declared.open.pairs.GramPair.{GramPair}
+use Rattle.ix_file.specs.declared.open.sides.Side.{Side}
 use Rattle.ix_file.specs.declared.windows.Gram.{Gram}
+use Rattle.ix_file.specs.GramSides.{AreChars, IsKeyOf, IsOn, gram_key}
 use Rattle.ix_file.specs.GramTables.{text_of}
-use Rattle.ix_file.specs.GramWalks.{AreAllListed, AreListedUpTo, HasRead, HaveRead, IsAtEnd, IsCursorOf, IsListed, IsListedNext, IsRead, gap_bytes}
+use Rattle.ix_file.specs.GramWalks.{AreAllListed, AreListedOn, AreListedUpTo, HasRead, HaveRead, IsAtEnd, IsCursorOf, IsListed, IsListedNext, IsRead, gap_bytes}
 use Rattle.ix_file.specs.Grams.{AreGramsOfTerms, IsGramOfTerm}
 use Rattle.ix_file.specs.OpenedGrams.{AreNumbersOf, AreRightRows, IsRightRow, LiesIn, gram_in, grams_in}
 use Rattle.ix_file.specs.PlacedTerms.{PlacedTerm, terms_in}
-use Rattle.ix_file.specs.WindowPairs.{gram_of, pairs_of_term}
+use Rattle.ix_file.specs.TermWindows.{windows_of_term}
+use Rattle.ix_file.specs.WindowPairs.{gram_of}
 use Rattle.ix_file.proofs.AllLists.{zip_push}
 use Rattle.ix_file.proofs.GramKeys.{all_listed}
 use Rattle.ix_file.proofs.GramNumbers.{NumbersRead, go_on, one_read}
 use Rattle.ix_file.proofs.GramRows.{row_right}
+use Rattle.ix_file.proofs.GramParting.{key_tells, window_there}
 use Rattle.ix_file.proofs.GramSections.{text_in}
-use Rattle.ix_file.proofs.GramWindows.{pair_tells}
-use Rattle.ix_file.proofs.HeldLemmas.{term_has}
 use Rattle.ix_file.proofs.PairCounts.{number_within}
-use Rattle.ix_file.proofs.TermPairs.{IsUnderWay, pair, paired}
+use Rattle.ix_file.proofs.TermPairs.{paired}
 
 -- ---- one number
 
@@ -54,9 +56,9 @@ module _ (terms : List (List ℕ)) (section : List ℕ) (row : GramRow) where
   }
 
   -- the next one
-  pub read_next : (old new : Cursor) (number gap : ℕ) → HasRead terms section row old → IsGramOfTerm terms (text_of old.gram) number → old.next ≤ number → gap ≡ number + 1 - old.next
-      → old.gaps.now ≡ code_of gap ++ new.gaps.now → new.gram ≡ old.gram → new.next ≡ number + 1 → new.left + 1 ≡ old.left → number < length terms → HasRead terms section row new × IsRead terms section row number
-  read_next old new number gap r has low is stands gram next left within =
+  pub read_next : (old new : Cursor) (number gap : ℕ) → HasRead terms section row old → IsGramOfTerm terms (gram_in section row).gram number → old.next ≤ number → gap ≡ number + 1 - old.next
+      → old.gaps.now ≡ code_of gap ++ new.gaps.now → new.key ≡ old.key → new.next ≡ number + 1 → new.left + 1 ≡ old.left → number < length terms → HasRead terms section row new × IsRead terms section row number
+  read_next old new number gap r has low is stands key next left within =
       let g = (gram_in section row).gram in
       let before : NumbersRead terms g (gap_bytes section row) (length r.numbers) old.next old.gaps.now = record {
         numbers = r.numbers;
@@ -67,7 +69,7 @@ module _ (terms : List (List ℕ)) (section : List ℕ) (row : GramRow) where
         read = r.read;
       } in
       let at : old.next + gap - 1 ≡ number = omega (arith, is, low) in
-      let right : IsGramOfTerm terms g (old.next + gap - 1) = subst (IsGramOfTerm terms g) (sym at) (subst (λ (t : List ℕ). IsGramOfTerm terms t number) r.spelled has) in
+      let right : IsGramOfTerm terms g (old.next + gap - 1) = subst (IsGramOfTerm terms g) (sym at) has in
       let behind : NumbersRead terms g (gap_bytes section row) (length r.numbers + 1) (old.next + gap) new.gaps.now =
       one_read terms g (gap_bytes section row) (length r.numbers) old.next gap old.gaps.now new.gaps.now before stands (omega (arith, is, low), omega (arith, is, low, within), right) in (
         record {
@@ -77,7 +79,7 @@ module _ (terms : List (List ℕ)) (section : List ℕ) (row : GramRow) where
           counted = omega (arith, behind.many, r.counted, left);
           after = let last : old.next + gap ≡ next_after 0 behind.numbers = behind.after in omega (arith, next, last, is, low);
           read = behind.read;
-          spelled = ap text_of gram ∙ r.spelled;
+          keyed = subst (IsKeyOf g) (sym key) r.keyed;
         },
         record {
           numbers = behind.numbers;
@@ -109,15 +111,15 @@ picked R (a ∷ xs) (b ∷ ys) (suc place) y all is =
     let more = picked R xs ys place y all.1 is in
     record { x = more.x; among = contains_later a xs more.x more.among; is = more.is; put = λ z one. (all.0, more.put z one) }
 
--- the next number of the cursor of a gram
-pub gram_taken : (terms : List (List ℕ)) (section : List ℕ) (rows : List GramRow) (cursors : List Cursor) (place : ℕ) (gram : Gram) (number : ℕ) (d new : Cursor) → IsCursorOf cursors gram place → IsListedNext (get_or cursors place d) number new
-    → IsGramOfTerm terms (text_of gram) number → HaveRead terms section rows cursors → HaveRead terms section rows (set cursors place new) × IsListed terms section rows (text_of gram) number
-gram_taken terms section rows cursors place gram number d new (cursor, at, is) next has have =
+-- the next number of the cursor of a gram's key
+pub key_taken : (terms : List (List ℕ)) (section : List ℕ) (rows : List GramRow) (cursors : List Cursor) (place : ℕ) (gram : Gram) (key number : ℕ) (d new : Cursor) → IsCursorOf cursors key place → IsListedNext (get_or cursors place d) number new
+    → AreChars gram → gram_key gram ≡ key → IsGramOfTerm terms (text_of gram) number → HaveRead terms section rows cursors → HaveRead terms section rows (set cursors place new) × IsListed terms section rows (text_of gram) number
+key_taken terms section rows cursors place gram key number d new (cursor, at, is) next chars keyed has have =
     let same : get_or cursors place d ≡ cursor = get_or_from_slice_get cursors place cursor d at in
     let p = picked (HasRead terms section) rows cursors place cursor have at in
-    let spelled : text_of gram ≡ text_of (get_or cursors place d).gram = ap text_of (sym is ∙ ap (λ (c : Cursor). c.gram) (sym same)) in
+    let spelled : text_of gram ≡ (gram_in section p.x).gram = key_tells (gram_in section p.x).gram cursor.key gram p.is.keyed chars (keyed ∙ sym is) in
     let taken = next terms section p.x (subst (λ (t : List ℕ). IsGramOfTerm terms t number) spelled has) (subst (HasRead terms section p.x) (sym same) p.is) in
-    (p.put new taken.0, record { row = p.x; among = p.among; spelled = sym p.is.spelled ∙ ap text_of is; is = taken.1 })
+    (p.put new taken.0, record { row = p.x; among = p.among; spelled = sym spelled; is = taken.1 })
 
 -- one row more
 pub have_more : (terms : List (List ℕ)) (section : List ℕ) (rows : List GramRow) (cursors : List Cursor) (i : ℕ) (d : GramRow) (cursor : Cursor) → i < length rows → HaveRead terms section (take i rows) cursors
@@ -127,74 +129,73 @@ have_more terms section rows cursors i d cursor low have one =
 
 -- ---- the windows of a term
 
--- the grams so far list the number
-pub record HaveSeen (terms : List (List ℕ)) (section : List ℕ) (rows : List GramRow) (cursors : List Cursor) (seen : List GramPair) (number : ℕ) : Type 0 where
+-- the grams so far that are on the side list the number
+pub record HaveSeen (terms : List (List ℕ)) (section : List ℕ) (rows : List GramRow) (cursors : List Cursor) (side : Side) (seen : List Gram) (number : ℕ) : Type 0 where
   pub have : HaveRead terms section rows cursors
-  pub listed : (p : GramPair) → Contains seen p → IsListed terms section rows (gram_of p) number
+  pub listed : (g : Gram) → Contains seen g → IsOn side (gram_key g) → IsListed terms section rows (text_of g) number
 
-pub seen_none : (terms : List (List ℕ)) (section : List ℕ) (rows : List GramRow) (cursors : List Cursor) (number : ℕ) → HaveRead terms section rows cursors → HaveSeen terms section rows cursors [] number
-seen_none terms section rows cursors number have = record { have = have; listed = λ p has. absurd (contains_none p has) }
+pub seen_none : (terms : List (List ℕ)) (section : List ℕ) (rows : List GramRow) (cursors : List Cursor) (side : Side) (number : ℕ) → HaveRead terms section rows cursors → HaveSeen terms section rows cursors side [] number
+seen_none terms section rows cursors side number have = record { have = have; listed = λ g has on. absurd (contains_none g has) }
 
-pub next_window : (number : ℕ) (term : List ℕ) (now : List GramPair) (left : List Gram) (gram : Gram) (next : List Gram) → IsUtf8 term → IsUnderWay [] number term now left → left ≡ gram ∷ next → Contains (grams_of term) (text_of gram)
-next_window number term now left gram next text way is =
-    let p = paired number gram in
-    let first : Contains (map (paired number) left) p = subst (λ (gs : List Gram). Contains (map (paired number) gs) p) (sym is) (contains_first p (map (paired number) next)) in
-    let among : Contains (pairs_of_term number term) p = subst (λ (ps : List GramPair). Contains ps p) way.whole (Contains-append_right way.more (map (paired number) left) p first) in
-    (pair_tells term p text).0 among
+-- the windows so far, and those that are left
+pub next_window : (term : List ℕ) (seen left : List Gram) (gram : Gram) (next : List Gram) → IsUtf8 term → seen ++ left ≡ windows_of_term term → left ≡ gram ∷ next → Contains (grams_of term) (text_of gram)
+next_window term seen left gram next text whole is =
+    let first : Contains left gram = subst (λ (gs : List Gram). Contains gs gram) (sym is) (contains_first gram next) in
+    window_there 0 term gram text (subst (λ (gs : List Gram). Contains gs gram) whole (Contains-append_right seen left gram first))
 
-pub seen_more : (terms : List (List ℕ)) (section : List ℕ) (rows : List GramRow) (old new : List Cursor) (seen : List GramPair) (number : ℕ) (gram : Gram) → HaveSeen terms section rows old seen number
-    → HaveRead terms section rows new × IsListed terms section rows (text_of gram) number → HaveSeen terms section rows new (seen ++ paired number gram ∷ []) number
-seen_more terms section rows old new seen number gram so_far (have, listed) = record {
+pub windows_more : (term : List ℕ) (seen left : List Gram) (gram : Gram) (next : List Gram) → seen ++ left ≡ windows_of_term term → left ≡ gram ∷ next → (seen ++ gram ∷ []) ++ next ≡ windows_of_term term
+windows_more term seen left gram next whole is = append_assoc seen (gram ∷ []) next ∙ ap (λ (gs : List Gram). seen ++ gs) (sym is) ∙ whole
+
+pub seen_more : (terms : List (List ℕ)) (section : List ℕ) (rows : List GramRow) (old new : List Cursor) (side : Side) (seen : List Gram) (number : ℕ) (gram : Gram) → HaveSeen terms section rows old side seen number
+    → HaveRead terms section rows new → (IsOn side (gram_key gram) → IsListed terms section rows (text_of gram) number) → HaveSeen terms section rows new side (seen ++ gram ∷ []) number
+seen_more terms section rows old new side seen number gram so_far have listed = record {
   have = have;
-  listed = λ p has.
-      ⊎_elim (so_far.listed p)
-      (λ (same : paired number gram ≡ p). subst (λ (q : GramPair). IsListed terms section rows (gram_of q) number) same listed)
-      (Contains-push_cases seen (paired number gram) p has);
+  listed = λ g has on.
+      ⊎_elim (λ (before : Contains seen g). so_far.listed g before on)
+      (λ (same : gram ≡ g). subst (λ (h : Gram). IsListed terms section rows (text_of h) number) same (listed (subst (λ (h : Gram). IsOn side (gram_key h)) (sym same) on)))
+      (Contains-push_cases seen gram g has);
 }
 
-pub seen_whole : (terms : List (List ℕ)) (section : List ℕ) (rows : List GramRow) (cursors : List Cursor) (seen : List GramPair) (term : List ℕ) (number : ℕ) → IsUtf8 term → seen ≡ pairs_of_term number term → HaveSeen terms section rows cursors seen number
-    → AreListedUpTo terms section rows cursors (grams_of term) number
-seen_whole terms section rows cursors seen term number text whole so_far = record {
-  have = so_far.have;
-  listed = λ gram has.
-      let held = (term_has number term gram number text).1 (refl, has) in
-      subst (λ (g : List ℕ). IsListed terms section rows g number) held.spelled (so_far.listed held.pair (subst (λ (ps : List GramPair). Contains ps held.pair) (sym whole) held.among));
-}
+pub seen_whole : (terms : List (List ℕ)) (section : List ℕ) (rows : List GramRow) (cursors : List Cursor) (side : Side) (seen left : List Gram) (term : List ℕ) (number : ℕ) → seen ++ left ≡ windows_of_term term → left ≡ []
+    → HaveSeen terms section rows cursors side seen number → AreListedUpTo terms section rows cursors side (windows_of_term term) number
+seen_whole terms section rows cursors side seen left term number whole none so_far =
+    let all : seen ≡ windows_of_term term = sym (append-nil seen) ∙ ap (λ (gs : List Gram). seen ++ gs) (sym none) ∙ whole in
+    record { have = so_far.have; listed = λ g has on. so_far.listed g (subst (λ (gs : List Gram). Contains gs g) (sym all) has) on }
 
 -- ---- the terms
 
--- the grams of the terms before a number are listed
-pub record AreWalked (terms : List (List ℕ)) (section : List ℕ) (rows : List GramRow) (cursors : List Cursor) (number : ℕ) : Type 0 where
+-- the grams of the terms before a number that are on the side are listed
+pub record AreWalked (terms : List (List ℕ)) (section : List ℕ) (rows : List GramRow) (cursors : List Cursor) (side : Side) (number : ℕ) : Type 0 where
   pub have : HaveRead terms section rows cursors
-  pub all : (gram : List ℕ) (n : ℕ) → n < number → IsGramOfTerm terms gram n → IsListed terms section rows gram n
+  pub all : (term : List ℕ) (gram : Gram) (n : ℕ) → n < number → slice_get terms n ≡ Some term → Contains (windows_of_term term) gram → IsOn side (gram_key gram) → IsListed terms section rows (text_of gram) n
 
-pub walked_more : (terms : List (List ℕ)) (section : List ℕ) (rows : List GramRow) (old new : List Cursor) (number : ℕ) (term : List ℕ) → AreWalked terms section rows old number → slice_get terms number ≡ Some term
-    → AreListedUpTo terms section rows new (grams_of term) number → AreWalked terms section rows new (number + 1)
-walked_more terms section rows old new number term so_far at listed = record {
+pub walked_more : (terms : List (List ℕ)) (section : List ℕ) (rows : List GramRow) (old new : List Cursor) (side : Side) (number : ℕ) (term : List ℕ) → AreWalked terms section rows old side number → slice_get terms number ≡ Some term
+    → AreListedUpTo terms section rows new side (windows_of_term term) number → AreWalked terms section rows new side (number + 1)
+walked_more terms section rows old new side number term so_far at listed = record {
   have = listed.have;
-  all = λ gram n low is.
-      ⊎_elim (λ (before : n < number). so_far.all gram n before is)
+  all = λ t gram n low is has on.
+      ⊎_elim (λ (before : n < number). so_far.all t gram n before is has on)
       (λ (not_before : number ≤ n).
       let last : n ≡ number = omega (arith, low, not_before) in
-      let same : is.term ≡ term = one_term is.term term (sym is.numbered ∙ ap (slice_get terms) last ∙ at) in
-      subst (IsListed terms section rows gram) (sym last) (listed.listed gram (subst (λ (t : List ℕ). Contains (grams_of t) gram) same is.windowed)))
+      let same : t ≡ term = one_term t term (sym is ∙ ap (slice_get terms) last ∙ at) in
+      subst (IsListed terms section rows (text_of gram)) (sym last) (listed.listed gram (subst (λ (u : List ℕ). Contains (windows_of_term u) gram) same has) on))
       (cases_lt n number);
 }
   where
     one_term : (t u : List ℕ) → Some t ≡ Some u → t ≡ u
     one_term t u e = cc
 
-pub walked_all : (terms : List (List ℕ)) (section : List ℕ) (rows : List GramRow) (cursors : List Cursor) (number : ℕ) → length terms ≤ number → AreWalked terms section rows cursors number → AreAllListed terms section rows
-walked_all terms section rows cursors number end walked gram n is =
-    let low = number_within terms is.term n is.numbered in walked.all gram n (omega (arith, low, end)) is
+pub walked_all : (terms : List (List ℕ)) (section : List ℕ) (rows : List GramRow) (cursors : List Cursor) (side : Side) (number : ℕ) → length terms ≤ number → AreWalked terms section rows cursors side number → AreListedOn side terms section rows
+walked_all terms section rows cursors side number end walked term gram n is has on =
+    let low = number_within terms term n is in walked.all term gram n (omega (arith, low, end)) is has on
 
 -- ---- at the end
 
 module _ (placed : List PlacedTerm) (section : List ℕ) where
   one_right : length placed < 2 ^ 32 → (row : GramRow) (cursor : Cursor) → LiesIn section row → HasRead (terms_in placed) section row cursor → IsAtEnd cursor → IsRightRow (terms_in placed) section row
   one_right few row cursor lies r end =
-      let p : GramPair = pair 0 cursor.gram.first cursor.gram.second cursor.gram.third in
-      let spelled : gram_of p ≡ text_in section row = r.spelled in
+      let p : GramPair = paired 0 r.keyed.gram in
+      let spelled : gram_of p ≡ text_in section row = r.keyed.spelled in
       row_right placed section row p spelled few lies (λ none. let some = r.some in omega (arith, none, some)) cursor.gaps.now
       (r.numbers, subst (λ (g : List ℕ). AreNumbersOf (terms_in placed) g r.numbers) (sym spelled) r.are, omega (arith, r.counted, end.none), r.read)
       end.empty

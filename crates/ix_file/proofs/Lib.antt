@@ -18,6 +18,7 @@ pub mod GramLists
 pub mod GramLookUp
 pub mod GramNumbers
 pub mod GramOrder
+pub mod GramParting
 pub mod GramNotes
 pub mod GramCutting
 pub mod GramReading

@@ -1,5 +1,5 @@
 -- The positions of a posting are read gap by gap.
-use Rattle.std.proofs.Common.{◌≡◌, ℕ, ◌+◌, ◌-◌, ◌^◌, ◌<◌, ◌≤◌, List, [], ◌∷◌, ◌++◌, length, map, refl, sym, ap, ◌∙◌, subst, arith}
+use Rattle.std.proofs.Common.{◌≡◌, ℕ, ◌+◌, ◌-◌, ◌^◌, ◌<◌, ◌≤◌, List, [], ◌∷◌, ◌++◌, length, refl, sym, ap, ◌∙◌, subst, arith}
 use Rattle.std.proofs.lemmas.Grind.{flat_map-append}
 use Rattle.std.proofs.lemmas.List.{append_assoc, append-nil, length-append, map-append}
 use Rattle.ix_vbyte.specs.Code.{code_of}
@@ -8,15 +8,9 @@ use Rattle.ix_vbyte.specs.Postings.{codes_of}
 use Rattle.ix_vbyte.proofs.Gaps.{Ascends-push, gaps_from-push, next_after-le, next_after-push}
 use Rattle.ix_vbyte.proofs.Values.{code_of-apart}
 use Rattle.ix_file.specs.Claimed.{HasClaimed, HaveClaimed}
+use Rattle.ix_file.specs.PositionReads.{HasReadPositions, HavePositions, PositionsGoOn, numbers_at}
 use Rattle.ix_file.specs.ReadLists.{ArePositionsIn}
 use Rattle.ix_file.specs.declared.open.claims.Claims.{Claims}
-
--- the positions were read off the front, and `next` is one above the last
-pub record HavePositions (tokens next count : ℕ) (bytes left positions : List ℕ) : Type 0 where
-  pub ascend : Ascends 0 tokens positions
-  pub counted : length positions ≡ count
-  pub behind : next_after 0 positions ≡ next
-  pub coded : bytes ≡ codes_of (gaps_of positions) ++ left
 
 pub positions_none : (tokens : ℕ) (bytes : List ℕ) → HavePositions tokens 0 0 bytes bytes []
 positions_none tokens bytes = record { ascend = tt; counted = refl; behind = refl; coded = refl }
@@ -38,13 +32,6 @@ positions_more tokens next count gap bytes left rest positions have some fits is
 -- all of them
 pub positions_all : (tokens next count : ℕ) (bytes left positions : List ℕ) → HavePositions tokens next count bytes left positions → ArePositionsIn tokens count bytes positions left
 positions_all tokens next count bytes left positions have = record { ascend = have.ascend; counted = have.counted; coded = have.coded }
-
--- ---- how positions, if there are any, go on behind the first `done`
-pub record PositionsGoOn (tokens next done count : ℕ) (left rest : List ℕ) : Type 0 where
-  pub more : List ℕ
-  pub ascend : Ascends next tokens more
-  pub counted : length more + done ≡ count
-  pub coded : left ≡ codes_of (gaps_from next more) ++ rest
 
 pub go_on : (tokens count : ℕ) (bytes positions rest : List ℕ) → ArePositionsIn tokens count bytes positions rest → PositionsGoOn tokens 0 0 count bytes rest
 go_on tokens count bytes positions rest are = record { more = positions; ascend = are.ascend; counted = omega (arith, are.counted); coded = are.coded }
@@ -104,15 +91,6 @@ wide_gap tokens next done count gap left behind rest within is wide go =
     omega arith
 
 -- ---- with what was claimed
-abbrev pub numbers_at : ℕ → List ℕ → List ℕ
-numbers_at first positions = map (λ position. first + position) positions
-
--- positions were read, and the tokens there were claimed
-pub record HasReadPositions (first tokens next count : ℕ) (bytes left : List ℕ) (old new : Claims) : Type 0 where
-  pub positions : List ℕ
-  pub have : HavePositions tokens next count bytes left positions
-  pub claimed : HaveClaimed old new (numbers_at first positions)
-
 pub read_none : (first tokens : ℕ) (bytes : List ℕ) (claims : Claims) → HasReadPositions first tokens 0 0 bytes bytes claims claims
 read_none first tokens bytes claims = record {
   positions = [];

@@ -5,6 +5,7 @@ pub mod Endings
 pub mod Frames
 pub mod GramLaws
 pub mod GramPairs
+pub mod GramSides
 pub mod GramTables
 pub mod GramWalks
 pub mod Grams
@@ -19,6 +20,7 @@ pub mod OpenedGrams
 pub mod OpenedLaws
 pub mod OpenedRows
 pub mod PlacedTerms
+pub mod PositionReads
 pub mod Places
 pub mod PutErrors
 pub mod ReadLists

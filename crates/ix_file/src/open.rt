@@ -23,6 +23,8 @@ mod grams_tests;
 pub(crate) mod list;
 pub(crate) mod lists;
 mod pairs;
+pub(crate) mod positions;
+mod sides;
 pub(crate) mod stop;
 pub(crate) mod tables;
 pub(crate) mod terms;
@@ -100,7 +102,7 @@ pub(crate) fn read_tables_beside<R: Threads + Sync>(
             ⊎ AreNoSections (version_in frame.entry.now.version)
             (texts_in frame.entry.now.sections) frame.entry.now.documents
             frame.entry.now.terms) }
-    { catalog.check_grams(alloc, frame) };
+    { catalog.check_grams_beside(rt, alloc, frame) };
     let (longs, grams) = join(rt, check_postings, check_grams);
     let longs = longs?;
     let grams = grams?;

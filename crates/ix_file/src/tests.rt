@@ -4,6 +4,7 @@ mod large;
 mod list_faults;
 mod opening;
 mod plain;
+mod positions;
 mod sample;
 mod sinks;
 mod telling;

@@ -1,5 +1,5 @@
 -- Nodes of a tournament are settled one by one, from below.
-use Rattle.std.proofs.Common.{◌≡◌, ◌≢◌, ℕ, zero, suc, ◌+◌, ◌*◌, ◌-◌, ◌/◌, ◌<◌, ◌≤◌, ◌⊎◌, List, length, set, cond, is_some, Option, Some, None, IsSome, inl, inr, refl, sym, ap, ◌∙◌, subst, ⊎_elim, arith, length-set}
+use Rattle.std.proofs.Common.{◌≡◌, ◌≢◌, ℕ, zero, suc, ◌+◌, ◌*◌, ◌-◌, ◌/◌, ◌%◌, ◌<◌, ◌≤◌, ◌⊎◌, List, length, set, cond, Bool, true, false, MatchBool, is_some, Option, Some, None, IsSome, inl, inr, refl, sym, ap, ◌∙◌, subst, ⊎_elim, arith, length-set}
 use Rattle.std.proofs.lemmas.Bool.{cases_lt, cases_eq}
 use Rattle.std.proofs.lemmas.List.{get_or-set_same, get_or-set_other, get_or_past}
 use Rattle.ix_merge.specs.Keys.{Key, ComesFirst}
@@ -135,6 +135,43 @@ next_settled keys tree low one but more within wins =
             (but.settled node some w (λ over. ⊎_elim other free (over_next node low over)))
       ];
     }
+
+-- the node beside a node, and the node itself, have keys
+pub beside_have_keys : (keys : List (Option Key)) (tree : List (Option ℕ)) (low at : ℕ) → IsSettledBut keys tree low → 1 < low → low < 2 * length keys → at ≡ 2 * (low / 2) + (1 - low % 2)
+    → HasKey keys (holder_at tree low) × HasKey keys (holder_at tree at)
+beside_have_keys keys tree low at but more within beside =
+    let here = but.settled low (omega arith) within (λ over. let h = over_lower low low over in omega arith) in
+    let there = but.settled at (omega arith) (omega arith) (λ over. let h = over_lower at low over in omega arith) in
+    (here.has_key, there.has_key)
+
+winner_turned : (keys : List (Option Key)) (one left right : Option ℕ) → IsWinner keys one left right → IsWinner keys one right left
+winner_turned keys one left right wins = record {
+  of_two = ⊎_elim (λ is. inr is) (λ is. inl is) wins.of_two;
+  first = wins.first_too;
+  first_too = wins.first;
+}
+
+-- the winner of a node and the one beside it is that of the two below the next
+pub winner_above : (keys : List (Option Key)) (tree : List (Option ℕ)) (low at : ℕ) (one best : Option ℕ) → best ≡ holder_at tree low → at ≡ 2 * (low / 2) + (1 - low % 2) → IsWinner keys one best (holder_at tree at)
+    → IsWinner keys one (holder_at tree (2 * (low / 2))) (holder_at tree (2 * (low / 2) + 1))
+winner_above keys tree low at one best carried beside wins =
+    let P : ℕ → ℕ → Type 0 = λ m n. IsWinner keys one (holder_at tree m) (holder_at tree n) in
+    let here : P low at = subst (λ (b : Option ℕ). IsWinner keys one b (holder_at tree at)) carried wins in
+    elim (cases_eq low (2 * (low / 2))) [
+      | inl even ↦ let next : at ≡ 2 * (low / 2) + 1 = omega arith in subst (λ m. P m (2 * (low / 2) + 1)) even (subst (P low) next here)
+      | inr odd ↦
+          let last : low ≡ 2 * (low / 2) + 1 = omega arith in
+          let before : at ≡ 2 * (low / 2) = omega arith in
+          winner_turned keys one (holder_at tree (2 * (low / 2) + 1)) (holder_at tree (2 * (low / 2))) (subst (λ m. P m (2 * (low / 2))) last (subst (P low) before here))
+    ]
+
+-- ---- of two places
+
+-- the one that comes first
+pub winner_told : (keys : List (Option Key)) (one other : ℕ) (left right : Option ℕ) (result : Bool) → left ≡ Some one → right ≡ Some other
+    → MatchBool result (ComesFirst (key_at keys one) (key_at keys other)) (ComesFirst (key_at keys other) (key_at keys one)) → MatchBool result (IsWinner keys (Some one) left right) (IsWinner keys (Some other) left right)
+winner_told keys one other left right true is is' told = rw (is, is') (record { of_two = inl refl; first = first_itself (key_at keys one); first_too = told })
+winner_told keys one other left right false is is' told = rw (is, is') (record { of_two = inr refl; first = told; first_too = first_itself (key_at keys other) })
 
 -- ---- one key changes
 

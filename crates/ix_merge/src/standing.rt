@@ -8,6 +8,11 @@ use ix_run::Source;
 /// How many bytes of a term its standing shows.
 pub(crate) const SHOWN: usize = 16;
 
+// half of them, and what a number of the first half counts in a lead
+const HALF: usize = 8;
+
+const HALF_WORTH: u128 = 1 << 64;
+
 /// The first bytes of a source's term at hand, and the end of its numbers. Standings stand close together, where terms and
 /// sources do not, and seldom is more than them compared.
 #[derive(Clone, Copy)]
@@ -31,6 +36,7 @@ impl Standing {
     }
 
     /// That of a source with this term at hand, whose numbers end here.
+    #[inline]
     fn of(term: &str, end: u64) -> Standing
         ensures { IsStanding (record {
           term = term.now;
@@ -57,16 +63,29 @@ impl Standing {
     }
 }
 
-/// The first bytes of a text as a number.
+/// The first 16 bytes of a text as a number, in two halves: most terms have but one.
 #[inline]
 fn lead_of(text: &[u8]) -> u128
     ensures { result ≡ lead 16 text.now }
 {
-    let mut lead = 0;
-    for place in 0..SHOWN {
-        lead = lead * 256 + u128::from(byte_at(text, place));
+    let high = u128::from(half_of(text)) * HALF_WORTH;
+    if text.len() > HALF {
+        high + u128::from(half_of(&text[HALF..]))
+    } else {
+        high
     }
-    lead
+}
+
+/// The first 8 bytes of a text as a number.
+#[inline]
+fn half_of(text: &[u8]) -> u64
+    ensures { result ≡ lead 8 text.now }
+{
+    let mut half = 0;
+    for place in 0..HALF {
+        half = half * 256 + u64::from(byte_at(text, place));
+    }
+    half
 }
 
 /// The byte at a place, or 0 behind the last.

@@ -16,15 +16,16 @@ use Rattle.ix_run.specs.Heads.{row_of_doc}
 use Rattle.ix_run.specs.Runs.{IsRunOf, IsTooLarge, RunValue, TermValue}
 use Rattle.ix_run.specs.declared.head.RunDoc.{RunDoc}
 use Rattle.ix_run.proofs.Inverting.{are_parts, parts_of, terms_shown}
+use Rattle.ix_run.proofs.Numbering.{length_held}
 use Rattle.ix_run.proofs.SpanLemmas.{ends_of-push, tokens_in-push}
 
 -- the documents are inverted into the dictionary, and have these ends and rows
-pub record IsInvertedBefore {Y S : Type 0} (stop : List (List ℕ)) (documents : List Document) (last : HashMap (String Y) ℕ S) (links ends : List ℕ) (rows : List RunDoc) : Type 0 where
+pub record IsInvertedBefore {Y S : Type 0} (stop : List (List ℕ)) (documents : List Document) (numbers : HashMap (String Y) ℕ S) (tokens ends : List ℕ) (rows : List RunDoc) : Type 0 where
   pub shown : map row_of_doc rows ≡ map row_of documents
-  pub held : HoldsTokens last links (tokens_in documents)
+  pub held : HoldsTokens numbers tokens (tokens_in documents)
   pub ended : ends ≡ ends_of 0 documents
   pub lawful : All (IsLawfulDocument stop) documents
-  pub count : length links ≡ tokens_of documents
+  pub count : length tokens ≡ tokens_of documents
   pub few : tokens_of documents ≤ 2 ^ 28
 
 -- what a map makes of the elements before the next index
@@ -47,31 +48,31 @@ length-tokens_in (d ∷ documents) =
     let rest = length-tokens_in documents in omega (arith, one, rest, length-append d.tokens (tokens_in documents))
 
 -- nothing is inverted yet
-pub nothing_inverted : {Y S : Type 0} (stop : List (List ℕ)) (last : HashMap (String Y) ℕ S) (links ends : List ℕ) (rows : List RunDoc) → HoldsTokens last links [] → ends ≡ [] → rows ≡ [] → IsInvertedBefore stop [] last links ends rows
-nothing_inverted stop last links ends rows empty ended none = record {
+pub nothing_inverted : {Y S : Type 0} (stop : List (List ℕ)) (numbers : HashMap (String Y) ℕ S) (tokens ends : List ℕ) (rows : List RunDoc) → HoldsTokens numbers tokens [] → ends ≡ [] → rows ≡ [] → IsInvertedBefore stop [] numbers tokens ends rows
+nothing_inverted stop numbers tokens ends rows empty ended none = record {
   shown = ap (map row_of_doc) none;
   held = empty;
   ended = ended;
   lawful = All-nil (IsLawfulDocument stop);
-  count = empty.count;
+  count = length_held numbers tokens [] empty;
   few = omega arith;
 }
 
 -- one document more
-pub one_more_inverted : {Y S : Type 0} (stop : List (List ℕ)) (documents more : List Document) (old new : HashMap (String Y) ℕ S) (links links' ends ends' : List ℕ) (rows rows' : List RunDoc) (document : Document) (row : RunDoc)
+pub one_more_inverted : {Y S : Type 0} (stop : List (List ℕ)) (documents more : List Document) (old new : HashMap (String Y) ℕ S) (tokens tokens' ends ends' : List ℕ) (rows rows' : List RunDoc) (document : Document) (row : RunDoc)
     → more ≡ documents ++ document ∷ [] → rows' ≡ rows ++ row ∷ [] → row_of_doc row ≡ row_of document
-    → ((tokens : List Entry) → HoldsTokens old links tokens → HoldsTokens new links' (tokens ++ document.tokens)) → ends' ≡ ends ++ length links' ∷ [] → length links' ≡ length links + length document.tokens → length links' ≤ 2 ^ 28
-    → IsLawfulDocument stop document → IsInvertedBefore stop documents old links ends rows → IsInvertedBefore stop more new links' ends' rows'
-one_more_inverted stop documents more old new links links' ends ends' rows rows' document row is rows_are same holds ended longer few lawful was =
+    → ((entries : List Entry) → HoldsTokens old tokens entries → HoldsTokens new tokens' (entries ++ document.tokens)) → ends' ≡ ends ++ length tokens' ∷ [] → length tokens' ≡ length tokens + length document.tokens → length tokens' ≤ 2 ^ 28
+    → IsLawfulDocument stop document → IsInvertedBefore stop documents old tokens ends rows → IsInvertedBefore stop more new tokens' ends' rows'
+one_more_inverted stop documents more old new tokens tokens' ends ends' rows rows' document row is rows_are same holds ended longer few lawful was =
     let total : tokens_of more ≡ tokens_of documents + length document.tokens = ap tokens_of is ∙ tokens_of-append documents document in
-    let count : length links' ≡ tokens_of more = omega (arith, longer, was.count, total) in
+    let count : length tokens' ≡ tokens_of more = omega (arith, longer, was.count, total) in
     record {
       shown =
           ap (map row_of_doc) rows_are ∙ map-append row_of_doc rows (row ∷ []) ∙ ap₂ (λ rs r. rs ++ r ∷ []) was.shown same
           ∙ sym (map-append row_of documents (document ∷ [])) ∙ ap (map row_of) (sym is);
-      held = subst (HoldsTokens new links') (sym (ap tokens_in is ∙ tokens_in-push documents document)) (holds (tokens_in documents) was.held);
+      held = subst (HoldsTokens new tokens') (sym (ap tokens_in is ∙ tokens_in-push documents document)) (holds (tokens_in documents) was.held);
       ended =
-          ended ∙ ap₂ (λ es n. es ++ n ∷ []) was.ended (let size : length links' ≡ 0 + length (tokens_in documents) + length document.tokens = omega (arith, longer, was.held.count) in size)
+          ended ∙ ap₂ (λ es n. es ++ n ∷ []) was.ended (let size : length tokens' ≡ 0 + length (tokens_in documents) + length document.tokens = let held_count = length_held old tokens (tokens_in documents) was.held in omega (arith, longer, held_count) in size)
           ∙ sym (ends_of-push 0 documents document) ∙ ap (ends_of 0) (sym is);
       lawful = subst (All (IsLawfulDocument stop)) (sym is) (All-push (IsLawfulDocument stop) documents document was.lawful lawful);
       count = count;

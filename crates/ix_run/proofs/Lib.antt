@@ -1,5 +1,4 @@
 pub mod Blocks
-pub mod ChainLemmas
 pub mod CodeLemmas
 pub mod CodedLists
 pub mod CodedPlaces
@@ -10,8 +9,12 @@ pub mod HeldTermLemmas
 pub mod InputLemmas
 pub mod Inverting
 pub mod ListSteps
+pub mod Numbering
 pub mod OrderLemmas
+pub mod Passing
 pub mod PieceLemmas
+pub mod PlaceLemmas
+pub mod PlaceSorting
 pub mod PositionLemmas
 pub mod PostingLemmas
 pub mod Postings
@@ -21,6 +24,7 @@ pub mod ReadOpen
 pub mod ReadSkips
 pub mod ReadSteps
 pub mod ReadWholes
+pub mod ReaderLists
 pub mod RowLemmas
 pub mod RunFiles
 pub mod RunSizes

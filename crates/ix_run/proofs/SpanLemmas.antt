@@ -12,7 +12,7 @@ use Rattle.ix_text.specs.TokenLists.{Entry}
 use Rattle.ix_run.specs.Dictionaries.{places_of, tokens_in}
 use Rattle.ix_run.specs.DocumentEnds.{AreEnds, IsSpan, ends_of, last_end, postings_at, token_at}
 use Rattle.ix_run.specs.Inverted.{grown, occurrences_in, occurrences_of, posted, postings_of}
-use Rattle.ix_run.proofs.ChainLemmas.{places_of-append}
+use Rattle.ix_run.proofs.PlaceLemmas.{places_of-append}
 
 -- ---- the document of a place
 

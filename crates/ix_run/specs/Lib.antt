@@ -11,6 +11,7 @@ pub mod Inverted
 pub mod Laws
 pub mod Orders
 pub mod Pieces
+pub mod PlaceSorts
 pub mod ReadPostings
 pub mod ReadTables
 pub mod ReadTerms

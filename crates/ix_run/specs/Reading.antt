@@ -1,13 +1,13 @@
 -- What a reader of a run text has read of its terms, and what it has left of them.
-use Rattle.std.specs.Prelude.{◌≡◌, ◌≢◌, ℕ, ◌+◌, List, [], ◌∷◌, ◌++◌, length, flat_map, string_bytes, slice_index_or, ◌-◌, ◌<◌, Option, Some, None, IfSome, option_map}
+use Rattle.std.specs.Prelude.{◌≡◌, ◌≢◌, ℕ, ◌+◌, List, [], ◌∷◌, ◌++◌, length, flat_map, string_bytes, slice_index_or, ◌-◌, ◌<◌, ◌≤◌, Option, Some, None, IfSome, option_map}
 use Rattle.ix_text.specs.Parts.{DictionaryEntry, Parts, Posting, terms_of}
 use Rattle.ix_text.specs.TokenMarks.{HoldsNumbers}
 use Rattle.ix_text.specs.TokenNumbers.{AreDistinct, numbers_of_entries}
 use Rattle.ix_text.specs.declared.token_marks.TokenMarks.{TokenMarks}
 use Rattle.ix_vbyte.specs.Gaps.{next_after}
-use Rattle.ix_vbyte.specs.Postings.{documents_of, list_bytes_from}
+use Rattle.ix_vbyte.specs.Postings.{documents_of, list_bytes_from, posting_bytes}
 use Rattle.ix_run.specs.Heads.{Heading, heading_of}
-use Rattle.ix_run.specs.Inputs.{known_left}
+use Rattle.ix_run.specs.Inputs.{Passes, known_left, passed}
 use Rattle.ix_run.specs.RunText.{term_bytes}
 use Rattle.ix_run.specs.Sources.{AreWhole, IsLawfulFront, closed, extended}
 use Rattle.ix_run.specs.declared.run_reader.Place.{Place}
@@ -142,3 +142,10 @@ pub record GivesFirst {R : Type 0} (remaining : R → Option (List ℕ)) (reader
 -- the heading of a run of these parts
 abbrev pub heading_from : ℕ → Parts → Heading
 heading_from first parts = record { first = first; stop = parts.stop; rows = parts.rows }
+
+-- From the old state to the new one a reader took the bytes of this posting from its list, in which its document is
+-- counted from the one before.
+pub record TookPosting {R : Type 0} (old new : RunReader R) (posting : Posting) : Type 0 where
+  pub above : old.next ≤ posting.0
+  pub sized : new.bytes + length (posting_bytes (posting.0 + 1 - old.next) posting) ≡ old.bytes
+  pub passed : Passes (passed old.input) (passed new.input) (posting_bytes (posting.0 + 1 - old.next) posting)

@@ -1,5 +1,5 @@
 //! What is left of a reader, buffered.
-ghost use Rattle.std.specs.Prelude.{◌≡◌, ◌<◌, ◌≤◌, ◌++◌, ◌+◌, ◌*◌, ◌%◌, List, ℕ, length, take, vec_len, IfOk, IfErr, IfNone, IfSome, OnOk, MatchBool};
+ghost use Rattle.std.specs.Prelude.{◌≡◌, ◌<◌, ◌≤◌, ◌++◌, ◌+◌, ◌*◌, ◌%◌, List, [], ℕ, length, take, vec_len, IfOk, IfErr, IfNone, IfSome, OnOk, MatchBool};
 ghost use Rattle.std.specs.Io.{ReadsAtMost};
 ghost use Rattle.std.specs.Io.KnownBytes.{Consumes, IsAtEnd, Keeps};
 ghost use Rattle.std.specs.Option.{option_to_list};
@@ -29,7 +29,7 @@ pub(crate) struct Input<R> {
 }
 
 impl<R: Read> Input<R> {
-    ghost use Rattle.ix_run.specs.Inputs.{known_left};
+    ghost use Rattle.ix_run.specs.Inputs.{EndsWith, Passes, known_left, passed};
 
     /// The input that has what the reader has.
     pub(crate) fn new(alloc: Global, reader: R) -> Result<Input<R>, AllocError>
@@ -52,6 +52,7 @@ impl<R: Read> Input<R> {
         ensures has { IfOk result (λ has.
             MatchBool has (self.new.start < self.new.end)
             (IsAtEnd (known_left R.remaining self.new))) }
+        ensures passed { OnOk result (Passes (passed self.old) (passed self.new) []) }
         ensures refused { IfErr result (λ error. error ≡ ReadRefused) }
     {
         if self.start < self.end {
@@ -70,6 +71,8 @@ impl<R: Read> Input<R> {
             (option_to_list byte)) }
         ensures end { IfOk result (λ byte.
             IfNone byte (IsAtEnd (known_left R.remaining self.new))) }
+        ensures passed { IfOk result (λ byte.
+            Passes (passed self.old) (passed self.new) (option_to_list byte)) }
         ensures refused { IfErr result (λ error. error ≡ ReadRefused) }
     {
         if !self.has_byte()? {
@@ -91,8 +94,11 @@ impl<R: Read> Input<R> {
             → Consumes (known_left R.remaining self.old) (known_left R.remaining self.new)
             (code_of result) }
         ensures size { 0 < result → (length (code_of result) ≡ 1) × (0 < limit) }
+        ensures passed { 0 < result
+            → Passes (passed self.old) (passed self.new) (code_of result) }
         ensures kept { result ≡ 0 → known_left R.remaining self.new
             ≡ known_left R.remaining self.old }
+        ensures same { result ≡ 0 → passed self.new ≡ passed self.old }
     {
         let start = self.start;
         if start < self.end && 0 < limit {
@@ -114,8 +120,11 @@ impl<R: Read> Input<R> {
             → Consumes (known_left R.remaining self.old) (known_left R.remaining self.new)
             (code_of result.0) }
         ensures size { 0 < result.0 → (result.1 ≡ length (code_of result.0)) × (result.1 ≤ limit) }
+        ensures passed { 0 < result.0
+            → Passes (passed self.old) (passed self.new) (code_of result.0) }
         ensures kept { result.0 ≡ 0 → known_left R.remaining self.new
             ≡ known_left R.remaining self.old }
+        ensures same { result.0 ≡ 0 → passed self.new ≡ passed self.old }
     {
         match short_number(&self.buffer[self.start..self.end]) {
             Some((number, bytes)) if bytes <= limit => {
@@ -139,8 +148,11 @@ impl<R: Read> Input<R> {
             (posting.size ≡ length (single_bytes posting.gap posting.position_gap))
             × (posting.size ≤ limit)) }
         ensures some { IfSome result (λ posting. (0 < posting.gap) × (0 < posting.position_gap)) }
+        ensures passed { IfSome result (λ posting. Passes (passed self.old) (passed self.new)
+            (single_bytes posting.gap posting.position_gap)) }
         ensures kept { IfNone result (known_left R.remaining self.new
             ≡ known_left R.remaining self.old) }
+        ensures same { IfNone result (passed self.new ≡ passed self.old) }
     {
         match short_posting(&self.buffer[self.start..self.end]) {
             Some(posting) if posting.size <= limit => {
@@ -163,6 +175,8 @@ impl<R: Read> Input<R> {
             (code_of found.0)) }
         ensures size { IfOk result (λ found. (found.1 ≡ length (code_of found.0))
             × (found.1 ≤ limit)) }
+        ensures passed { IfOk result (λ found.
+            Passes (passed self.old) (passed self.new) (code_of found.0)) }
         ensures fault { IfErr result (λ error.
             IfSome (known_left R.remaining self.old) (λ bytes. IsCodeFault limit bytes error)) }
     {
@@ -182,6 +196,8 @@ impl<R: Read> Input<R> {
             (code_of found.0)) }
         ensures size { IfOk result (λ found. (found.1 ≡ length (code_of found.0))
             × (found.1 ≤ limit)) }
+        ensures passed { IfOk result (λ found.
+            Passes (passed self.old) (passed self.new) (code_of found.0)) }
         ensures fault { IfErr result (λ error.
             IfSome (known_left R.remaining self.old) (λ bytes. IsCodeFault limit bytes error)) }
     {
@@ -202,6 +218,8 @@ impl<R: Read> Input<R> {
             (code_of found.0)) }
         ensures size { IfOk result (λ found. (found.1 ≡ length (code_of found.0))
             × (found.1 ≤ limit)) }
+        ensures passed { IfOk result (λ found.
+            Passes (passed self.old) (passed self.new) (code_of found.0)) }
         ensures fault { IfErr result (λ error.
             IfSome (known_left R.remaining self.old) (λ bytes. IsCodeFault limit bytes error)) }
     {
@@ -222,6 +240,18 @@ impl<R: Read> Input<R> {
             }
         }
         Err(RunTextError::Number(VbError::TooBig))
+    }
+
+    /// The bytes that were taken last, so many, where they are all still buffered.
+    #[inline(always)]
+    pub(crate) fn behind(&self, count: usize) -> Option<&[u8]>
+        ensures { IfSome result (λ bytes. EndsWith (passed self.now) bytes.now
+            × (length bytes.now ≡ count)) }
+    {
+        if count > self.start {
+            return None;
+        }
+        Some(&self.buffer[self.start - count..self.start])
     }
 
     /// Takes so many bytes, which `out` then holds alone.

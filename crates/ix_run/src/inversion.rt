@@ -1,4 +1,4 @@
-//! Inverting a block of documents (IIR 4.2): its tokens are linked term by term, and coded once the terms are sorted.
+//! Inverting a block of documents (IIR 4.2): its tokens are numbered by term, and coded once the terms are sorted.
 
 ghost use Rattle.std.specs.Prelude.{◌≡◌, ◌+◌, ◌^◌, ◌<◌, ◌≤◌, [], All, map, length, string_bytes, OnOk, IfOk, IfErr, IsErr, Err};
 ghost use Rattle.ix_text.specs.Collections.{collection_of};
@@ -55,11 +55,11 @@ fn add_documents(
     stop: &StopList,
 ) -> Result<Vec<RunDoc>, RunError>
     requires few { length docs.now ≤ 2 ^ 28 }
-    requires empty { HoldsTokens dictionary.old.last dictionary.old.links.items [] }
+    requires empty { HoldsTokens dictionary.old.numbers dictionary.old.tokens.items [] }
     requires ends { dictionary.old.ends.items ≡ [] }
     ensures rows { IfOk result (λ rows. map row_of_doc rows.items
         ≡ map row_of (documents_of stop.now (map named_text docs.now))) }
-    ensures held { OnOk result (HoldsTokens dictionary.new.last dictionary.new.links.items
+    ensures held { OnOk result (HoldsTokens dictionary.new.numbers dictionary.new.tokens.items
         (tokens_in (documents_of stop.now (map named_text docs.now)))) }
     ensures ends { OnOk result (dictionary.new.ends.items
         ≡ ends_of 0 (documents_of stop.now (map named_text docs.now))) }

@@ -5,6 +5,7 @@
 
 mod coded_terms;
 mod coding;
+mod copying;
 mod dictionary;
 mod errors;
 mod head;
@@ -14,6 +15,7 @@ mod inversion;
 mod laws;
 mod list;
 mod listed;
+mod place_sort;
 mod room;
 mod rows;
 mod run;

@@ -8,7 +8,7 @@ ghost use Rattle.ix_text.specs.TokenTables.{HasTokens, IsSpan};
 ghost use Rattle.ix_vbyte.specs.Code.{code_of};
 ghost use Rattle.ix_vbyte.specs.Gaps.{Ascends, gaps_of};
 ghost use Rattle.ix_vbyte.specs.Postings.{codes_of, posting_bytes};
-ghost use Rattle.ix_run.specs.Inputs.{known_left};
+ghost use Rattle.ix_run.specs.Inputs.{Passes, known_left, passed};
 ghost use Rattle.ix_run.specs.ReadPostings.{HaveRoom, IsFree, PostingFits, StandNext, numbers_at};
 ghost use Rattle.ix_run.specs.RunTextErrors.{IsRefusal};
 
@@ -41,6 +41,8 @@ pub(crate) fn read_posting<R: Read>(
     ensures size { IfOk result (λ read.
         (read.1 ≡ length (posting_bytes (read.0 + 1 - next) (read.0, positions.new.items)))
         × (read.1 ≤ limit)) }
+    ensures passed { IfOk result (λ read. Passes (passed input.old) (passed input.new)
+        (posting_bytes (read.0 + 1 - next) (read.0, positions.new.items))) }
     ensures fits { IfOk result (λ read. (rows : List DocumentRow) → HasTokens tokens.now rows
         → PostingFits rows next (read.0, positions.new.items)) }
     ensures room { room marks.new ≡ room marks.old }
@@ -89,6 +91,8 @@ fn read_any_posting<R: Read>(
     ensures size { IfOk result (λ read.
         (read.1 ≡ length (posting_bytes (read.0 + 1 - next) (read.0, positions.new.items)))
         × (read.1 ≤ limit)) }
+    ensures passed { IfOk result (λ read. Passes (passed input.old) (passed input.new)
+        (posting_bytes (read.0 + 1 - next) (read.0, positions.new.items))) }
     ensures fits { IfOk result (λ read. (rows : List DocumentRow) → HasTokens tokens.now rows
         → PostingFits rows next (read.0, positions.new.items)) }
     ensures room { room marks.new ≡ room marks.old }
@@ -173,6 +177,8 @@ pub(crate) fn read_positive<R: Read>(
         Consumes (known_left R.remaining input.old) (known_left R.remaining input.new)
         (code_of found.0)) }
     ensures size { IfOk result (λ found. (found.1 ≡ length (code_of found.0)) × (found.1 ≤ limit)) }
+    ensures passed { IfOk result (λ found.
+        Passes (passed input.old) (passed input.new) (code_of found.0)) }
     ensures some { IfOk result (λ found. 0 < found.0) }
     ensures accepted { (number : ℕ) (rest : List ℕ) → 0 < number → number < 2 ^ 32
         → length (code_of number) ≤ limit
@@ -195,6 +201,8 @@ fn read_number<R: Read>(input: &mut Input<R>, limit: usize) -> Result<(u32, usiz
         Consumes (known_left R.remaining input.old) (known_left R.remaining input.new)
         (code_of found.0)) }
     ensures size { IfOk result (λ found. (found.1 ≡ length (code_of found.0)) × (found.1 ≤ limit)) }
+    ensures passed { IfOk result (λ found.
+        Passes (passed input.old) (passed input.new) (code_of found.0)) }
     ensures some { IfOk result (λ found. 0 < found.0) }
     ensures accepted { (number : ℕ) (rest : List ℕ) → 0 < number → number < 2 ^ 32
         → length (code_of number) ≤ limit
@@ -239,6 +247,8 @@ fn read_positions<R: Read>(
         (known_left R.remaining input.new) (codes_of (gaps_of positions.new.items))) }
     ensures size { IfOk result (λ bytes. (bytes ≡ length (codes_of (gaps_of positions.new.items)))
         × (bytes ≤ limit)) }
+    ensures passed { OnOk result (Passes (passed input.old) (passed input.new)
+        (codes_of (gaps_of positions.new.items))) }
     ensures all { OnOk result (length positions.new.items ≡ count) }
     ensures ascend { OnOk result (Ascends 0 span.1 positions.new.items) }
     ensures room { room marks.new ≡ room marks.old }
@@ -282,6 +292,8 @@ fn read_position<R: Read>(
         (code_of (read.0 + 1 - next))) }
     ensures size { IfOk result (λ read. (read.1 ≡ length (code_of (read.0 + 1 - next)))
         × (read.1 ≤ limit)) }
+    ensures passed { IfOk result (λ read.
+        Passes (passed input.old) (passed input.new) (code_of (read.0 + 1 - next))) }
     ensures within { IfOk result (λ read. (next ≤ read.0) × (read.0 < span.1)) }
     ensures room { room marks.new ≡ room marks.old }
     ensures marked { IfOk result (λ read. (numbers : List ℕ) → HoldsNumbers marks.old numbers

@@ -11,7 +11,7 @@ use crate::input::Input;
 use crate::list::read_posting;
 use crate::term::read_term;
 use crate::token_counts::{table_of, token_total};
-use crate::{RunHead, RunTextError, Source};
+use crate::{RunHead, RunTextError};
 use ix_text::{TokenMarks, TokenTable};
 use std::alloc::Global;
 use std::io::Read;
@@ -46,6 +46,8 @@ pub struct RunReader<R> {
     term: String,
     // a term's bytes before they are known to be text
     scratch: Vec<u8>,
+    // lent to lists for the positions of one posting
+    positions: Vec<u32>,
     place: Place,
     // one above the last document given of the term at hand
     next: u32,
@@ -64,7 +66,7 @@ pub struct RunReader<R> {
 }
 
 impl<R: Read + Drop> RunReader<R> {
-    ghost use Rattle.std.specs.Prelude.{◌≡◌, ◌≢◌, ◌+◌, ◌<◌, ◌++◌, [], ◌∷◌, List, ℕ, Some, None, IfOk, OnOk, MatchBool, MatchResult, string_bytes};
+    ghost use Rattle.std.specs.Prelude.{◌≡◌, ◌≢◌, ◌+◌, ◌<◌, ◌++◌, [], ◌∷◌, List, ℕ, Some, None, Ok, Err, IsSome, IfErr, IfOk, IfSome, OnErr, OnOk, MatchBool, MatchOption, MatchResult, string_bytes};
     ghost use Rattle.std.specs.Io.KnownBytes.{Consumes};
     ghost use Rattle.ix_text.specs.Parts.{DictionaryEntry, Posting};
     ghost use Rattle.ix_text.specs.Collections.{Collection};
@@ -72,9 +74,11 @@ impl<R: Read + Drop> RunReader<R> {
     ghost use Rattle.ix_run.specs.RunReaders.{bytes_left, heading_read};
     ghost use Rattle.ix_run.specs.RunText.{IsRunText, heading_bytes, run_layout};
     ghost use Rattle.ix_run.specs.RunTextErrors.{IsRefusal};
-    ghost use Rattle.ix_run.specs.Reading.{BeginsFirst, Faces, HasRead, IsDrained, MayYield, Skips, heading_from};
+    ghost use Rattle.ix_run.specs.Reading.{BeginsFirst, Faces, GivesFirst, HasFailed, HasRead, IsDrained, MayYield, Skips, TookPosting, heading_from, postings_left, term_of};
     ghost use Rattle.ix_run.specs.declared.run_reader.Place.TheVariants.{AtTerm, Ended, Failed};
-    ghost use Rattle.ix_run.specs.Sources.{AreWhole, BeginsTerm, EndsTerms, GivesPosting, IsUnread};
+    ghost use Rattle.ix_run.specs.declared.run_text_error.RunTextError.TheVariants.{Failed as Refused};
+    ghost use Rattle.ix_run.specs.Sources.{AreWhole, BeginsTerm, EndsPostings, EndsTerms, GivesPosting, IsUnread, KeepsFaults};
+    ghost use Rattle.ix_run.specs.Faults.{MayFault};
 
     /// Reads the head of a run text: its magic, its first document number and number of documents, its stop terms and
     /// its documents.
@@ -122,6 +126,7 @@ impl<R: Read + Drop> RunReader<R> {
             marks,
             term: String::new(alloc),
             scratch: Vec::new(alloc),
+            positions: Vec::new(alloc),
             place: Place::Begun,
             next: 0,
             documents: 0,
@@ -154,6 +159,8 @@ impl<R: Read + Drop> RunReader<R> {
         ensures given { IfOk result (λ document.
             GivesPosting (MayYield R.remaining) HasRead self.old self.new
             (document, positions.new.items)) }
+        ensures taken { IfOk result (λ document.
+            TookPosting self.old self.new (document, positions.new.items)) }
         ensures accepted { (postings : List Posting) (entries : List DictionaryEntry)
             → Faces R.remaining self.old postings entries
             → MatchResult result (λ document. (rest : List Posting)
@@ -231,105 +238,9 @@ impl<R: Read + Drop> RunReader<R> {
         Ok(true)
     }
 
-    /// From now on each call is refused.
-    fn fail(&mut self)
-        ensures place { self.new.place ≡ Failed }
-        ensures term { self.new.term ≡ self.old.term }
-        ensures heading { heading_of self.new.head ≡ heading_of self.old.head }
-    {
-        self.place = Place::Failed;
-        self.documents = 0;
-        self.bytes = 0;
-    }
-}
-
-impl<R: Read + Drop> Source for RunReader<R> {
-    ghost use Rattle.std.specs.Prelude.{◌≡◌, ◌<◌, ◌∷◌, [], List, ℕ, Some, None, Ok, Err, false, IsSome, IfErr, IfOk, IfSome, OnErr, OnOk, MatchBool, MatchOption, MatchResult};
-    ghost use Rattle.ix_text.specs.Parts.{DictionaryEntry, Posting};
-    ghost use Rattle.ix_run.specs.Reading.{BeginsFirst, Faces, GivesFirst, HasFailed, HasRead, IsDrained, IsEnded, MayYield, postings_left, term_of};
-    ghost use Rattle.ix_run.specs.RunReaders.{heading_read};
-    ghost use Rattle.ix_run.specs.RunTextErrors.{IsRefusal};
-    ghost use Rattle.ix_run.specs.Sources.{BeginsTerm, EndsTerms, EndsPostings, GivesPosting, KeepsFaults};
-    ghost use Rattle.ix_run.specs.Faults.{MayFault};
-    ghost use Rattle.ix_run.specs.declared.run_text_error.RunTextError.TheVariants.{Failed};
-
-    type Error = RunTextError;
-
-    ghost heading = { heading_read };
-
-    ghost current = { term_of };
-
-    ghost yields = { MayYield R.remaining };
-
-    ghost gives = { HasRead };
-
-    ghost is_drained = { IsDrained };
-
-    ghost is_ended = { IsEnded };
-
-    ghost faults = { MayFault R.remaining };
-
-    fn head(&self) -> &RunHead {
-        &self.head
-    }
-
-    /// Goes on to the next term, over the postings of the one at hand that were not asked for. False: there is none,
-    /// now and at each later call.
-    ///
-    /// Of the postings gone over the errors of `next_posting`; of the term, in this order, `TermSize` above 255 bytes,
-    /// `Text`, `TermOrder` where it does not stand above the term before, `StopIndexed` where it is a stop term, and
-    /// `Zero` where it has no document; `Number` where a code is faulty or the input ends inside a number or the term;
-    /// `Extra` where a byte stands behind the end mark; `Read` where the reader refused, and `Memory`; after any
-    /// error `Failed`.
-    fn next_term(&mut self) -> Result<bool, RunTextError>
-        ensures heading { heading_read self.new ≡ heading_read self.old }
-        ensures begun { IfOk result (λ more. MatchBool more
-            ((term : List ℕ) × (term_of self.new ≡ Some term)
-            × BeginsTerm (MayYield R.remaining) HasRead IsDrained self.old self.new term)
-            ((term_of self.new ≡ None) × IsEnded self.new
-            × EndsTerms (MayYield R.remaining) HasRead IsDrained self.old self.new)) }
-        ensures ended { IsEnded self.old → (result ≡ Ok false) × IsEnded self.new }
-        ensures fault { IfErr result (MayFault R.remaining self.old) }
-        ensures no_more_faults { OnOk result
-            (KeepsFaults (MayFault R.remaining) self.old self.new) }
-
-        // Where a lawful dictionary lies ahead, its next entry is begun, unless a read or memory is refused.
-        ensures accepted { (postings : List Posting) (entries : List DictionaryEntry)
-            → Faces R.remaining self.old postings entries
-            → MatchResult result (λ more.
-            MatchBool more (BeginsFirst R.remaining self.new entries) (entries ≡ [])) IsRefusal }
-
-        // What a refusal leaves.
-        ensures refused { OnErr result (HasFailed self.new) }
-        ensures failed { HasFailed self.old → result ≡ Err Failed }
-    {
-        match self.place {
-            Place::Failed => Err(RunTextError::Failed),
-            Place::Ended => Ok(false),
-            Place::Begun | Place::AtTerm => match self.go_on() {
-                Ok(more) => Ok(more),
-                Err(error) => {
-                    self.fail();
-                    Err(error)
-                }
-            },
-        }
-    }
-
-    fn term(&self) -> &str {
-        self.term.as_str()
-    }
-
-    /// The document of the next posting of the term at hand, whose positions are put into `positions` in place of what
-    /// it held. None: there is no further one, now and at each later call for this term.
-    ///
-    /// In the order of the bytes: `Number` where a code is faulty or the input ends inside it; `ListLength` where the
-    /// list ends inside a posting, before its last one, or behind it; `Zero` where a gap or the number of positions is
-    /// 0; `DocRange` where the run has no such document; `PositionRange` where the document has no such position;
-    /// `Doubled` where another term has that position; `Read` where the reader refused, and `Memory`; after any error
-    /// `Failed`.
-    #[inline]
-    fn next_posting(&mut self, positions: &mut Vec<u32>) -> Result<Option<u32>, RunTextError>
+    /// `next_posting`, of which it is known too which bytes it took.
+    #[inline(always)]
+    fn next_of_list(&mut self, positions: &mut Vec<u32>) -> Result<Option<u32>, RunTextError>
         requires { IsSome (term_of self.old) }
         ensures heading { heading_read self.new ≡ heading_read self.old }
         ensures current { term_of self.new ≡ term_of self.old }
@@ -356,7 +267,11 @@ impl<R: Read + Drop> Source for RunReader<R> {
 
         // What a refusal leaves.
         ensures refused { OnErr result (HasFailed self.new) }
-        ensures failed { HasFailed self.old → result ≡ Err Failed }
+        ensures failed { HasFailed self.old → result ≡ Err Refused }
+
+        // What it took.
+        ensures taken { IfOk result (λ found. IfSome found (λ document.
+            TookPosting self.old self.new (document, positions.new.items))) }
     {
         if matches!(self.place, Place::Failed) {
             return Err(RunTextError::Failed);
@@ -373,15 +288,19 @@ impl<R: Read + Drop> Source for RunReader<R> {
         }
     }
 
-    ghost drained_without_term = { λ reader none some. absurd (some none) };
-
-    ghost given_lawfully = { λ reader finished at_hand read. read.lawful };
-
-    ghost given_of_term = { λ reader finished at_hand read. read.of_term };
-
-    ghost yielded_lawfully = { λ reader finished at_hand postings entries read may.
-        may.whole finished at_hand read };
+    /// From now on each call is refused.
+    fn fail(&mut self)
+        ensures place { self.new.place ≡ Failed }
+        ensures term { self.new.term ≡ self.old.term }
+        ensures heading { heading_of self.new.head ≡ heading_of self.old.head }
+    {
+        self.place = Place::Failed;
+        self.documents = 0;
+        self.bytes = 0;
+    }
 }
 
+mod listing;
+mod reading;
 #[cfg(test)]
 mod tests;

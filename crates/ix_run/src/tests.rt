@@ -1,3 +1,4 @@
+mod listing;
 mod reading;
 mod walking;
 

@@ -32,7 +32,7 @@ pub fn push_counted(out: &mut Vec<u8>, text: &[u8]) -> Result<(), AllocError>
 /// Appends the code of a number, and bytes behind it. Where memory is refused, which it is only where they find no
 /// room, nothing was appended.
 #[inline]
-pub(crate) fn push_code_and(out: &mut Vec<u8>, n: u32, bytes: &[u8]) -> Result<(), AllocError>
+pub fn push_code_and(out: &mut Vec<u8>, n: u32, bytes: &[u8]) -> Result<(), AllocError>
     ensures ok { OnOk result (out.new.items ≡ out.old.items ++ (code_of n ++ bytes.now)) }
     ensures err { OnErr result (out.new.items ≡ out.old.items) }
     ensures full { OnErr result

@@ -20,7 +20,7 @@ mod tests;
 #[cfg(test)]
 mod walking_tests;
 
-pub use appending::{push_counted, push_gaps, push_posting};
+pub use appending::{push_code_and, push_counted, push_gaps, push_posting};
 pub use decoding::{decode, first_number};
 pub use encoding::{Code, code_len, encode, push_code};
 pub use errors::VbError;

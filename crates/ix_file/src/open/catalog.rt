@@ -11,7 +11,7 @@ use crate::open::claims::Claims;
 use crate::open::dictionary::read_dictionary;
 use crate::open::documents::{Row, read_documents};
 use crate::open::frame::Frame;
-use crate::open::grams::{GramRow, read_grams};
+use crate::open::grams::{GramRow, read_grams, read_grams_beside};
 use crate::open::lists::{check_lists, check_lists_beside};
 use crate::open::stop::read_stop;
 use crate::open::tables::LongList;
@@ -124,6 +124,26 @@ impl Catalog {
             frame.now.documents frame.now.terms) }
     {
         let rows = read_grams(alloc, frame.sections.grams, &self.terms)?;
+        Ok(rows)
+    }
+
+    /// Reads GRAMS as `check_grams` does, in two threads where there may be two. It answers the same.
+    pub(crate) fn check_grams_beside<R: Threads>(
+        &self,
+        rt: &R,
+        alloc: Global,
+        frame: &Frame<'_>,
+    ) -> Result<Vec<GramRow>, OpenError>
+        requires few { frame.now.terms < 2 ^ 32 }
+        requires catalog { IsCatalogOf (version_in frame.now.version) (texts_in frame.now.sections)
+            self.now frame.now.documents frame.now.terms }
+        ensures found { IfOk result (λ rows.
+            AreGramRowsOf (texts_in frame.now.sections) self.now rows.items) }
+        ensures refused { IfErr result (λ error. (error ≡ Memory)
+            ⊎ AreNoSections (version_in frame.now.version) (texts_in frame.now.sections)
+            frame.now.documents frame.now.terms) }
+    {
+        let rows = read_grams_beside(rt, alloc, frame.sections.grams, &self.terms)?;
         Ok(rows)
     }
 }

@@ -1,22 +1,27 @@
 //! The terms are walked in order, and each gram of a term is to list it next: so each number under a gram is looked at
 //! once, where the numbers before it were read, and no term is looked for.
-ghost use Rattle.std.specs.Prelude.{◌≡◌, ℕ, ◌-◌, ◌^◌, ◌<◌, List, slice_get, Some, All, Contains, IsTrue, IfOk, IfSome, length};
-ghost use Rattle.ix_text.specs.Windows.{grams_of};
+ghost use Rattle.std.specs.Prelude.{◌≡◌, ℕ, ◌-◌, ◌^◌, ◌<◌, ◌≤◌, List, slice_get, Some, All, Contains, IsTrue, IsUtf8, IfOk, IfSome, length};
+ghost use Rattle.ix_file.specs.GramSides.{AreChars, IsKeyOf, gram_key};
 ghost use Rattle.ix_file.specs.GramTables.{text_of};
-ghost use Rattle.ix_file.specs.GramWalks.{AreAllListed, AreListedUpTo, HasRead, HaveRead, IsAtEnd, IsListed, IsListedNext, IsCursorOf};
+ghost use Rattle.ix_file.specs.GramWalks.{AreAllListed, AreListedOn, AreListedUpTo, HasRead, HaveRead, IsAtEnd, IsListed, IsListedNext, IsCursorOf};
 ghost use Rattle.ix_file.specs.Grams.{IsGramOfTerm};
-ghost use Rattle.ix_file.specs.OpenedGrams.{IsRightRow, LiesIn};
+ghost use Rattle.ix_file.specs.OpenedGrams.{IsRightRow, LiesIn, gram_in};
 ghost use Rattle.ix_file.specs.PlacedTerms.{terms_in};
+ghost use Rattle.ix_file.specs.TermWindows.{windows_of_term};
 ghost use Rattle.ix_file.specs.declared.open.grams.GramRow.{GramRow as SeenRow};
+ghost use Rattle.ix_file.specs.declared.open.sides.Side.TheVariants.{Below, From};
+ghost use Rattle.ix_file.specs.declared.windows.Gram.{Gram as SeenGram};
 
 use crate::open::front::read_number;
 use crate::open::grams::{GramRow, gram_bytes};
 use crate::open::pairs::pair_of;
+use crate::open::sides::{Side, key_of};
 use crate::open::terms::Terms;
 use crate::windows::{Gram, windows_of};
 use crate::{OpenError, Section};
 use std::alloc::{AllocError, Global};
 use std::str::from_utf8;
+use std::thread::{Threads, join};
 
 /// At how many places a gram is looked for before the rows are halved for it.
 const PROBES: usize = 8;
@@ -24,7 +29,8 @@ const PROBES: usize = 8;
 /// How far the numbers under a gram were read.
 #[derive(Clone, Copy)]
 pub(crate) struct Cursor<'a> {
-    pub(crate) gram: Gram,
+    /// Of the gram.
+    pub(crate) key: u64,
     /// One above the last number, or 0 where there was none.
     pub(crate) next: u32,
     /// How many numbers are left.
@@ -42,15 +48,109 @@ pub(crate) fn walk_terms(
     terms: &Terms,
 ) -> Result<(), OpenError>
     requires few { length terms.now < 2 ^ 32 }
+    requires texts { All IsUtf8 (terms_in terms.now) }
     requires lie { All (LiesIn section.now) rows.now }
     ensures right { IfOk result (λ _.
         All (IsRightRow (terms_in terms.now) section.now) rows.now) }
     ensures all { IfOk result (λ _. AreAllListed (terms_in terms.now) section.now rows.now) }
 {
+    walk_side(alloc, section, rows, terms, Side::From(0))
+}
+
+/// The same, in two threads where there may be two: about half of the numbers stand under grams that are below that of
+/// a row, the others under that gram and those above it, and each thread takes one of the two sides.
+///
+/// `listed` is how many numbers the rows say that there are.
+pub(crate) fn walk_terms_beside<R: Threads>(
+    rt: &R,
+    alloc: Global,
+    section: &[u8],
+    rows: &[GramRow],
+    listed: usize,
+    terms: &Terms,
+) -> Result<(), OpenError>
+    requires few { length terms.now < 2 ^ 32 }
+    requires texts { All IsUtf8 (terms_in terms.now) }
+    requires lie { All (LiesIn section.now) rows.now }
+    ensures right { IfOk result (λ _.
+        All (IsRightRow (terms_in terms.now) section.now) rows.now) }
+    ensures all { IfOk result (λ _. AreAllListed (terms_in terms.now) section.now rows.now) }
+{
+    let middle = first_behind(rows, listed / 2);
+    let Some(pivot) = pivot_of(section, rows, middle) else {
+        return walk_terms(alloc, section, rows, terms);
+    };
+    let (front, back) = rows.split_at(middle);
+    let walk_front = || -> Result<(), OpenError>
+        requires few { length terms.now < 2 ^ 32 }
+        requires lie { All (LiesIn section.now) front.now }
+        ensures right { IfOk result (λ _.
+            All (IsRightRow (terms_in terms.entry.now) section.entry.now) front.entry.now) }
+        ensures all { IfOk result (λ _. AreListedOn (Below pivot) (terms_in terms.entry.now)
+            section.entry.now front.entry.now) }
+    { walk_side(alloc, section, front, terms, Side::Below(pivot)) };
+    let walk_back = || -> Result<(), OpenError>
+        requires few { length terms.now < 2 ^ 32 }
+        requires lie { All (LiesIn section.now) back.now }
+        ensures right { IfOk result (λ _.
+            All (IsRightRow (terms_in terms.entry.now) section.entry.now) back.entry.now) }
+        ensures all { IfOk result (λ _. AreListedOn (From pivot) (terms_in terms.entry.now)
+            section.entry.now back.entry.now) }
+    { walk_side(alloc, section, back, terms, Side::From(pivot)) };
+    let (below, from) = join(rt, walk_front, walk_back);
+    below?;
+    from?;
+    Ok(())
+}
+
+/// The place of the first row before which so many numbers stand, or how many rows there are.
+fn first_behind(rows: &[GramRow], numbers: usize) -> usize
+    ensures { result ≤ length rows.now }
+{
+    let mut before = 0usize;
+    for (place, row) in rows.iter().enumerate() {
+        if before >= numbers {
+            return place;
+        }
+        before = before.saturating_add(row.count as usize);
+    }
+    rows.len()
+}
+
+/// The key of the gram of the row at a place: none where there is no such row, or it is not of a gram.
+fn pivot_of(section: &[u8], rows: &[GramRow], place: usize) -> Option<u64>
+    requires { All (LiesIn section.now) rows.now }
+{
+    let row = rows.get(place)?;
+    key_in(section, *row)
+}
+
+/// Whether the rows are of the grams of the terms on one side: each number of a row is that of a term that has its gram,
+/// and each gram of a term that is on the side has a row with its number. Where they are not, or memory is refused, it
+/// fails.
+fn walk_side(
+    alloc: Global,
+    section: &[u8],
+    rows: &[GramRow],
+    terms: &Terms,
+    side: Side,
+) -> Result<(), OpenError>
+    requires few { length terms.now < 2 ^ 32 }
+    requires lie { All (LiesIn section.now) rows.now }
+    ensures right { IfOk result (λ _.
+        All (IsRightRow (terms_in terms.now) section.now) rows.now) }
+    ensures all { IfOk result (λ _. AreListedOn side (terms_in terms.now) section.now rows.now) }
+{
     let mut cursors = cursors_of(alloc, section, rows)?;
     let slots = slots_of(alloc, &cursors)?;
     for number in 0..terms.len() {
-        if !take_term(&mut cursors, &slots, terms.text(number), number as u32) {
+        if !take_term(
+            &mut cursors,
+            &slots,
+            side,
+            terms.text(number),
+            number as u32,
+        ) {
             return Err(OpenError::Grams);
         }
     }
@@ -86,41 +186,50 @@ fn cursor_of(section: &[u8], row: GramRow) -> Option<Cursor<'_>>
     ensures { IfSome result (λ cursor. (terms : List (List ℕ)) →
         HasRead terms section.now row cursor) }
 {
-    let Ok(text) = from_utf8(gram_bytes(section, row)) else {
-        return None;
-    };
-    let pair = pair_of(text)?;
+    let key = key_in(section, row)?;
     if row.count == 0 {
         return None;
     }
     Some(Cursor {
-        gram: Gram {
-            first: pair.first,
-            second: pair.second,
-            third: pair.third,
-        },
+        key,
         next: 0,
         left: row.count,
         gaps: &section[row.numbers..row.numbers + row.numbers_size],
     })
 }
 
-/// Where the cursor of a gram may be found, by a number that its characters come to: one above its place, or 0. What
-/// does not stand there is not missed, only found later.
+/// The key of the gram of a row: none where the row is not of a gram.
+fn key_in(section: &[u8], row: GramRow) -> Option<u64>
+    requires { LiesIn section.now row }
+    ensures { IfSome result (IsKeyOf (gram_in section.now row).gram) }
+{
+    let Ok(text) = from_utf8(gram_bytes(section, row)) else {
+        return None;
+    };
+    let pair = pair_of(text)?;
+    Some(key_of(Gram {
+        first: pair.first,
+        second: pair.second,
+        third: pair.third,
+    }))
+}
+
+/// Where the cursor of a key may be found, by a number that the key comes to: one above its place, or 0. What does not
+/// stand there is not missed, only found later.
 fn slots_of(alloc: Global, cursors: &[Cursor<'_>]) -> Result<Vec<u32>, AllocError> {
     let mut slots = vec![in alloc; 0; cursors.len().saturating_mul(2)]?;
     for (place, cursor) in cursors.iter().enumerate() {
         let Ok(mark) = u32::try_from(place + 1) else {
             break;
         };
-        put(&mut slots, cursor.gram, mark);
+        put(&mut slots, cursor.key, mark);
     }
     Ok(slots)
 }
 
-/// Puts the mark where its gram is looked for, if there is room.
-fn put(slots: &mut [u32], gram: Gram, mark: u32) {
-    let start = slot_of(gram, slots.len());
+/// Puts the mark where its key is looked for, if there is room.
+fn put(slots: &mut [u32], key: u64, mark: u32) {
+    let start = slot_of(key, slots.len());
     for probe in 0..PROBES {
         let Some(slot) = slots.get_mut(start.wrapping_add(probe)) else {
             return;
@@ -132,42 +241,41 @@ fn put(slots: &mut [u32], gram: Gram, mark: u32) {
     }
 }
 
-/// Where among so many slots a gram is looked for first.
+/// Where among so many slots a key is looked for first.
 #[inline]
-fn slot_of(gram: Gram, slots: usize) -> usize {
-    let characters = (gram.first as u64)
-        ^ (gram.second as u64).wrapping_shl(21)
-        ^ (gram.third as u64).wrapping_shl(42);
-    let spread = characters.wrapping_mul(0x9e37_79b9_7f4a_7c15) >> 32;
+fn slot_of(key: u64, slots: usize) -> usize {
+    let spread = key.wrapping_mul(0x9e37_79b9_7f4a_7c15) >> 32;
     (spread.wrapping_mul(slots as u64) >> 32) as usize
 }
 
-/// Takes each gram of the next term, which has this number, from the cursor of its row. Whether each has one, whose
-/// next number it is.
-fn take_term(cursors: &mut [Cursor<'_>], slots: &[u32], term: &str, number: u32) -> bool
+/// Takes each gram on the side of the next term, which has this number, from the cursor of its row. Whether each has
+/// one, whose next number it is.
+fn take_term(cursors: &mut [Cursor<'_>], slots: &[u32], side: Side, term: &str, number: u32) -> bool
     requires { number < 2 ^ 32 - 1 }
     ensures { IsTrue result → (terms : List (List ℕ)) (section : List ℕ) (rows : List SeenRow) →
         slice_get terms number ≡ Some term.now → HaveRead terms section rows cursors.old →
-        AreListedUpTo terms section rows cursors.new (grams_of term.now) number }
+        AreListedUpTo terms section rows cursors.new side (windows_of_term term.now) number }
 {
     for gram in windows_of(term) {
-        if !take_gram(cursors, slots, gram, number) {
+        let key = key_of(gram);
+        if side.has(key) && !take_key(cursors, slots, key, number) {
             return false;
         }
     }
     true
 }
 
-/// Takes the number from the cursor of the gram's row. Whether there is one, whose next number it is, or whose last.
+/// Takes the number from the cursor of the key's gram. Whether there is one, whose next number it is, or whose last.
 #[inline]
-fn take_gram(cursors: &mut [Cursor<'_>], slots: &[u32], gram: Gram, number: u32) -> bool
+fn take_key(cursors: &mut [Cursor<'_>], slots: &[u32], key: u64, number: u32) -> bool
     requires { number < 2 ^ 32 - 1 }
-    ensures { IsTrue result → (terms : List (List ℕ)) (section : List ℕ) (rows : List SeenRow) →
+    ensures { IsTrue result → (terms : List (List ℕ)) (section : List ℕ) (rows : List SeenRow)
+        (gram : SeenGram) → AreChars gram → gram_key gram ≡ key →
         IsGramOfTerm terms (text_of gram) number → HaveRead terms section rows cursors.old →
         HaveRead terms section rows cursors.new × IsListed terms section rows (text_of gram)
         number }
 {
-    let Some(place) = find(cursors, slots, gram) else {
+    let Some(place) = find(cursors, slots, key) else {
         return false;
     };
     let Some(cursor) = take(cursors[place], number) else {
@@ -177,12 +285,12 @@ fn take_gram(cursors: &mut [Cursor<'_>], slots: &[u32], gram: Gram, number: u32)
     true
 }
 
-/// The place of the cursor of a gram.
+/// The place of the cursor of a key.
 #[inline]
-fn find(cursors: &[Cursor<'_>], slots: &[u32], gram: Gram) -> Option<usize>
-    ensures { IfSome result (IsCursorOf cursors.now gram) }
+fn find(cursors: &[Cursor<'_>], slots: &[u32], key: u64) -> Option<usize>
+    ensures { IfSome result (IsCursorOf cursors.now key) }
 {
-    let start = slot_of(gram, slots.len());
+    let start = slot_of(key, slots.len());
     for probe in 0..PROBES {
         let Some(&mark) = slots.get(start.wrapping_add(probe)) else {
             break;
@@ -191,33 +299,25 @@ fn find(cursors: &[Cursor<'_>], slots: &[u32], gram: Gram) -> Option<usize>
         let Some(cursor) = cursors.get(place) else {
             break;
         };
-        if is_same(cursor.gram, gram) {
+        if cursor.key == key {
             return Some(place);
         }
     }
-    search(cursors, gram)
+    search(cursors, key)
 }
 
 /// The same, found by halving.
 #[cold]
 #[inline(never)]
-fn search(cursors: &[Cursor<'_>], gram: Gram) -> Option<usize>
-    ensures { IfSome result (IsCursorOf cursors.now gram) }
+fn search(cursors: &[Cursor<'_>], key: u64) -> Option<usize>
+    ensures { IfSome result (IsCursorOf cursors.now key) }
 {
-    let place = cursors.partition_point(|cursor| cursor.gram < gram);
+    let place = cursors.partition_point(|cursor| cursor.key < key);
     let cursor = cursors.get(place)?;
-    if is_same(cursor.gram, gram) {
+    if cursor.key == key {
         return Some(place);
     }
     None
-}
-
-/// Whether two grams are one.
-#[inline]
-fn is_same(one: Gram, other: Gram) -> bool
-    ensures { IsTrue result → one ≡ other }
-{
-    one.first == other.first && one.second == other.second && one.third == other.third
 }
 
 /// The cursor behind the number, if that is its next, or was its last: then the gram stands twice in the term.
@@ -240,7 +340,7 @@ fn take(cursor: Cursor<'_>, number: u32) -> Option<Cursor<'_>>
         return None;
     }
     Some(Cursor {
-        gram: cursor.gram,
+        key: cursor.key,
         next,
         left: cursor.left - 1,
         gaps,

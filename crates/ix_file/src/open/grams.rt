@@ -6,6 +6,7 @@ ghost use Rattle.ix_text.specs.Parts.{GramEntry};
 ghost use Rattle.ix_file.specs.Grams.{AreGramsOfTerms, IsGramOfTerm};
 ghost use Rattle.ix_file.specs.WindowPairs.{gram_of};
 ghost use Rattle.ix_file.specs.GramPairs.{AreAllPairs};
+ghost use Rattle.ix_file.specs.GramWalks.{AreAllListed};
 ghost use Rattle.ix_file.specs.OpenedGrams.{AreCutRows, AreNumbersOf, AreRightRows, CutsEntry, FindsGram, IsGramRow, IsListedGram, IsRightRow, LiesIn, gap_codes, gram_in, grams_in, numbers_claimed, numbers_listed};
 ghost use Rattle.ix_file.specs.PlacedTerms.{terms_in};
 ghost use Rattle.ix_file.specs.OpenedGrams as opened;
@@ -13,7 +14,7 @@ ghost use Rattle.ix_file.specs.Sections.{grams_section};
 ghost use Rattle.ix_file.specs.declared.open_error.OpenError.TheVariants.{Memory};
 
 use crate::open::front::{read_number, read_text};
-use crate::open::gram_walk::walk_terms;
+use crate::open::gram_walk::{walk_terms, walk_terms_beside};
 use crate::open::pairs::{GramPair, count_pairs, has_gram, pair_of};
 use crate::open::terms::Terms;
 use crate::{OpenError, Section};
@@ -21,6 +22,7 @@ use ix_vbyte::skip_codes;
 use std::alloc::Global;
 use std::cmp::Ordering;
 use std::str::from_utf8;
+use std::thread::Threads;
 
 /// A gram: where it stands in GRAMS and how many bytes it has, how many terms have it, and where in GRAMS the gaps
 /// of their numbers stand and how many bytes these take.
@@ -52,10 +54,62 @@ pub(crate) fn read_grams(
         section.now ≢ grams_section grams)) }
 {
     let (rows, listed) = cut_rows(alloc, section)?;
-    match walk_terms(alloc, section, &rows, terms) {
+    let walked = walk_terms(alloc, section, &rows, terms);
+    take_walked(alloc, section, rows, listed, terms, walked)
+}
+
+/// Reads GRAMS as `read_grams` does, in two threads where there may be two. It answers the same.
+pub(crate) fn read_grams_beside<R: Threads>(
+    rt: &R,
+    alloc: Global,
+    section: &[u8],
+    terms: &Terms,
+) -> Result<Vec<GramRow>, OpenError>
+    requires few { length terms.now < 2 ^ 32 }
+    requires texts { All IsUtf8 (terms_in terms.now) }
+    ensures grams { IfOk result (λ rows. AreGramsOfTerms (terms_in terms.now)
+        (grams_in section.now rows.items) × (section.now ≡ grams_section
+        (grams_in section.now rows.items))) }
+    ensures rows { IfOk result (λ rows. All (IsGramRow section.now) rows.items) }
+    ensures refused { IfErr result (λ error. (error ≡ Memory)
+        ⊎ ((grams : List GramEntry) → AreGramsOfTerms (terms_in terms.now) grams →
+        section.now ≢ grams_section grams)) }
+{
+    let (rows, listed) = cut_rows(alloc, section)?;
+    let walked = walk_terms_beside(rt, alloc, section, &rows, listed, terms);
+    take_walked(alloc, section, rows, listed, terms, walked)
+}
+
+/// The rows, if the walk of the terms found them right. It promises nothing of what it refused: so that is looked at
+/// again, row by row.
+///
+/// `Grams` where they are not those of the terms, or `Memory`.
+fn take_walked(
+    alloc: Global,
+    section: &[u8],
+    rows: Vec<GramRow>,
+    listed: usize,
+    terms: &Terms,
+    walked: Result<(), OpenError>,
+) -> Result<Vec<GramRow>, OpenError>
+    requires few { length terms.now < 2 ^ 32 }
+    requires texts { All IsUtf8 (terms_in terms.now) }
+    requires cut { AreCutRows section.now rows.items }
+    requires claimed { listed ≡ numbers_claimed rows.items }
+    requires right { IfOk walked (λ _.
+        All (IsRightRow (terms_in terms.now) section.now) rows.items) }
+    requires all { IfOk walked (λ _. AreAllListed (terms_in terms.now) section.now rows.items) }
+    ensures grams { IfOk result (λ rows. AreGramsOfTerms (terms_in terms.now)
+        (grams_in section.now rows.items) × (section.now ≡ grams_section
+        (grams_in section.now rows.items))) }
+    ensures rows { IfOk result (λ rows. All (IsGramRow section.now) rows.items) }
+    ensures refused { IfErr result (λ error. (error ≡ Memory)
+        ⊎ ((grams : List GramEntry) → AreGramsOfTerms (terms_in terms.now) grams →
+        section.now ≢ grams_section grams)) }
+{
+    match walked {
         Ok(()) => Ok(rows),
         Err(OpenError::Memory) => Err(OpenError::Memory),
-        // the walk promises nothing of what it refuses
         Err(_) => check_rows(alloc, section, rows, listed, terms),
     }
 }

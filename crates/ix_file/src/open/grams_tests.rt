@@ -1,10 +1,11 @@
 //! Which sections are accepted as the grams of some terms, and which grams are found in them.
-use super::grams::{find_gram, read_grams};
+use super::grams::{GramRow, find_gram, read_grams, read_grams_beside};
 use super::terms::{ListPlace, Terms};
 use crate::OpenError;
 use std::alloc::{AllocError, Global};
 use std::process::Abort;
 use std::test::Fail;
+use std::thread::Threads;
 
 /// `$x$` of the first term, `$y$` of the second.
 const TWO: [u8; 12] = [
@@ -31,19 +32,27 @@ fn terms_of(alloc: Global, texts: &[&str]) -> Result<Terms, AllocError> {
     Ok(terms)
 }
 
-/// Whether the section is refused as no grams of the terms.
+/// Whether what was read is refused as no grams.
+fn is_no_grams(read: Result<Vec<GramRow>, OpenError>) -> Result<bool, OpenError> {
+    match read {
+        Ok(_) => Ok(false),
+        Err(OpenError::Grams) => Ok(true),
+        Err(error) => Err(error),
+    }
+}
+
+/// Whether the section is refused as no grams of the terms, by one thread and by two.
 fn is_refused(
-    rt: &impl Abort,
+    rt: &(impl Abort + Threads),
     alloc: Global,
     section: &[u8],
     terms: &Terms,
 ) -> Result<bool, OpenError> {
     assert!(rt; terms.len() < 1000);
-    match read_grams(alloc, section, terms) {
-        Ok(_) => Ok(false),
-        Err(OpenError::Grams) => Ok(true),
-        Err(error) => Err(error),
-    }
+    let alone = is_no_grams(read_grams(alloc, section, terms))?;
+    let beside = is_no_grams(read_grams_beside(rt, alloc, section, terms))?;
+    assert!(rt; alone == beside);
+    Ok(alone)
 }
 
 #[test]
@@ -57,6 +66,8 @@ fn grams_are_read_and_found(rt: HostRuntime) -> Result<(), Fail> {
     assert_eq!(rt; find_gram(&TWO, &grams, "$y$"), Some(1));
     assert_eq!(rt; find_gram(&TWO, &grams, "$a$"), None);
     assert_eq!(rt; find_gram(&TWO, &grams, "$z$"), None);
+    let beside = read_grams_beside(&rt, alloc, &TWO, &terms)?;
+    assert!(rt; beside == grams);
     let repeated = terms_of(alloc, &["aaaa"])?;
     assert!(rt; !is_refused(&rt, alloc, &REPEATED, &repeated)?);
     let none = terms_of(alloc, &[])?;

@@ -11,6 +11,7 @@ ghost use Rattle.ix_file.specs.declared.open.claims.Claims.{Claims};
 ghost use Rattle.ix_file.specs.declared.open_error.OpenError.TheVariants.{Memory};
 
 use crate::open::claims::Claims;
+use crate::open::positions::check_positions;
 use crate::{OpenError, Section};
 use ix_text::TokenTable;
 use ix_vbyte::cursor::Skip;
@@ -159,45 +160,13 @@ fn check_any_posting<'a>(
     Ok((document + 1, rest))
 }
 
-/// Checks the gaps of this many positions, of a document with this span (the number of its first token, and how many
-/// it has), and claims each. Answers what follows them.
-fn check_positions<'a>(
-    bytes: &'a [u8],
-    count: u32,
-    span: (u32, u32),
-    claims: &mut Claims,
-) -> Result<&'a [u8], OpenError>
-    requires small { span.0 + span.1 < 2 ^ 32 }
-    requires room { HasRoom claims.old (span.0 + span.1) }
-    ensures found { IfOk result (λ rest. (positions : List ℕ) × ArePositionsIn span.1 count
-        bytes.now positions rest.now × HaveClaimed claims.old claims.new
-        (map (λ position. span.0 + position) positions)) }
-    ensures room { (top : ℕ) → HasRoom claims.old top → HasRoom claims.new top }
-    ensures refused { IfErr result (λ error. (error ≡ Memory)
-        ⊎ ((positions rest : List ℕ) → ¬ (ArePositionsIn span.1 count bytes.now positions rest))) }
-{
-    let (first, tokens) = span;
-    let mut left = bytes;
-    let mut next = 0;
-    for _place in 0..count {
-        let (gap, rest) = gap_in_list(left)?;
-        if gap > tokens - next {
-            return Err(OpenError::PositionRange);
-        }
-        next += gap;
-        claims.claim(first + (next - 1))?;
-        left = rest;
-    }
-    Ok(left)
-}
-
 /// The number above 0 whose code the rest of a list begins with, and what follows the code.
 ///
 /// `ListLength` where the list ends within the code, and `Number` where it is faulty otherwise; `Zero` of 0.
 ///
 /// Almost all codes are short: those are read in the caller, without a call.
 #[inline(always)]
-fn gap_in_list(bytes: &[u8]) -> Result<(u32, &[u8]), OpenError>
+pub(crate) fn gap_in_list(bytes: &[u8]) -> Result<(u32, &[u8]), OpenError>
     ensures found { IfOk result (λ read. (0 < read.0)
         × (bytes.now ≡ code_of read.0 ++ read.1.now)) }
     ensures refused { OnErr result ((n : ℕ) (rest : List ℕ) → 0 < n → n < 2 ^ 32 →

@@ -8,6 +8,47 @@ const THREE_LISTS: &[u8] = b"\x81\x81\x81\x81\x81\x82\x81\x81\x83";
 
 const LIST_OF_THREE: &[u8] = b"\x81a\x81\x83";
 
+const TWO_LISTS: &[u8] = b"\x81\x81\x81\x81\x81\x82";
+
+const LISTS_OF_TWO: &[u8] = b"\x81a\x81\x83\x81b\x81\x83";
+
+/// The grams of two terms, which two threads share, and a wrong number under the first and under the second of them.
+const GRAMS_OF_TWO: [Case<'_>; 3] = [
+    (
+        [
+            TWO_LISTS,
+            b"",
+            b"\x81d\x82",
+            LISTS_OF_TWO,
+            b"\x83$a$\x81\x81\x83$b$\x81\x82",
+        ],
+        [1, 2],
+        "",
+    ),
+    (
+        [
+            TWO_LISTS,
+            b"",
+            b"\x81d\x82",
+            LISTS_OF_TWO,
+            b"\x83$a$\x81\x82\x83$b$\x81\x82",
+        ],
+        [1, 2],
+        "Grams",
+    ),
+    (
+        [
+            TWO_LISTS,
+            b"",
+            b"\x81d\x82",
+            LISTS_OF_TWO,
+            b"\x83$a$\x81\x81\x83$b$\x81\x81",
+        ],
+        [1, 2],
+        "Grams",
+    ),
+];
+
 /// Faults of terms and of GRAMS.
 const TERMS_AND_GRAMS: [Case<'_>; 6] = [
     (
@@ -112,6 +153,7 @@ const FRONT_FAULTS: [Case<'_>; 3] = [
 #[test]
 fn faults_of_terms_and_grams(rt: HostRuntime) -> Result<(), Fail> {
     assert!(rt; are_refused(&rt, rt.alloc(), b'1', &TERMS_AND_GRAMS)?);
+    assert!(rt; are_refused(&rt, rt.alloc(), b'1', &GRAMS_OF_TWO)?);
     assert!(rt; are_refused(&rt, rt.alloc(), b'2', &FRONT_FAULTS)?);
     Ok(())
 }

@@ -1,6 +1,7 @@
 //! Heads read and refused, and calls behind a refusal or an end.
 
 use super::*;
+use crate::Source;
 use ix_vbyte::VbError;
 use std::io;
 use std::test::Fail;

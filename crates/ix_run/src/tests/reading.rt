@@ -32,9 +32,9 @@ const HEAD: &[u8] = b"PIIXRUN1\0\0\0\0\x02\0\0\0\x80\x81a\x82\x81b\x81";
 
 /// A reader that gives one byte at a time, and refuses where so many reads were made.
 #[derive(Drop)]
-struct Slow<'a> {
-    bytes: &'a [u8],
-    left: usize,
+pub(super) struct Slow<'a> {
+    pub(super) bytes: &'a [u8],
+    pub(super) left: usize,
 }
 
 impl Read for Slow<'_> {
@@ -261,9 +261,9 @@ fn readers_stay_at_their_end(rt: HostRuntime) -> Result<(), Fail> {
 
 /// Bytes that are given or taken in pieces of changing sizes, now and then after an interruption, and never refused.
 #[derive(Drop)]
-struct Uneven<T> {
-    bytes: T,
-    calls: usize,
+pub(super) struct Uneven<T> {
+    pub(super) bytes: T,
+    pub(super) calls: usize,
 }
 
 impl<T> Uneven<T> {

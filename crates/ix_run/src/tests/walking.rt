@@ -92,7 +92,7 @@ fn postings_of_the_sample(rt: HostRuntime) -> Result<(), Fail> {
 }
 
 /// The list of the next term behind `next`, appended, and then asked for once more. None: there is no term.
-fn next_list<S: Source>(
+pub(super) fn next_list<S: Source>(
     source: &mut S,
     next: u32,
     out: &mut Vec<u8>,

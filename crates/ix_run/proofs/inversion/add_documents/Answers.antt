@@ -18,7 +18,7 @@ returns-in_err-tokens-clause-many c =
 pub loop-doc-preserved : goal.loop-doc-preserved
 loop-doc-preserved c =
     let doc = c.doc-item.result in
-    one_more_inverted c.args.stop.now _ _ c.loop-doc.dictionary.last c.add_text.new.self.last c.loop-doc.dictionary.links.items c.add_text.new.self.links.items c.loop-doc.dictionary.ends.items c.add_text.new.self.ends.items
+    one_more_inverted c.args.stop.now _ _ c.loop-doc.dictionary.numbers c.add_text.new.self.numbers c.loop-doc.dictionary.tokens.items c.add_text.new.self.tokens.items c.loop-doc.dictionary.ends.items c.add_text.new.self.ends.items
     c.loop-doc.rows.items c.push.new.self.items (document_of c.args.stop.now (named_text doc)) c.in_ok-make_row.field-0
     (documents_more c.args.stop.now named_text c.args.docs.now c.loop-doc.doc-index doc c.loop-doc-test.true c.doc-item.is)
     c.in_ok-push.ensures.items

@@ -7,4 +7,4 @@ use Rattle.ix_run.proofs.inversion.add_documents.Given as goal
 -- the documents before the next one are inverted
 abbrev pub invariant-loop-doc : goal.invariant-loop-doc
 invariant-loop-doc l =
-    IsInvertedBefore l.stop (documents_of l.stop (map named_text (take l.doc-index l.docs))) l.dictionary.last l.dictionary.links.items l.dictionary.ends.items l.rows.items
+    IsInvertedBefore l.stop (documents_of l.stop (map named_text (take l.doc-index l.docs))) l.dictionary.numbers l.dictionary.tokens.items l.dictionary.ends.items l.rows.items

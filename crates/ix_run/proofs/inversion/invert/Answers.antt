@@ -7,6 +7,8 @@ use Rattle.ix_run.specs.Inverted.{document_of, documents_of}
 use Rattle.ix_run.specs.Heads.{row_of_doc}
 use Rattle.ix_run.specs.declared.errors.RunError.TheVariants.{TooLarge}
 use Rattle.ix_run.proofs.Blocks.{block_run, block_fits, length-tokens_in, numbers_too_large, tokens_too_large}
+use Rattle.ix_run.proofs.Numbering.{length_held}
+use Rattle.ix_run.specs.Dictionaries.{tokens_in}
 use Rattle.ix_run.proofs.inversion.invert.Goals as goal
 use Rattle.ix_run.proofs.inversion.invert.Goals.{then-docs-most-via-then-docs-most, then-docs-most-via-else-docs-most+then-first-most}
 
@@ -38,7 +40,7 @@ code_terms-requires c =
       documents = documents;
       held = held;
       ended = c.in_ok-rows.ensures.ends;
-      few_tokens = omega (arith, held.count, tokens, few);
+      few_tokens = let count = length_held _ _ (tokens_in documents) held in omega (arith, count, tokens, few);
       few_documents = omega (arith, length-map c.args.docs.now named_text, length-map texts (document_of c.args.stop.now));
     }
 

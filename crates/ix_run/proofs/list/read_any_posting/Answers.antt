@@ -1,9 +1,10 @@
 -- A posting that stands first and may come next is the one that is read.
-use Rattle.std.proofs.Common.{◌≡◌, ◌≤◌, ◌^◌, ◌+◌, ◌-◌, ℕ, length, arith, subst}
+use Rattle.std.proofs.Common.{◌≡◌, ◌≤◌, ◌^◌, ◌+◌, ◌-◌, ℕ, length, arith, subst, sym}
 use Rattle.std.proofs.lemmas.Result.{err_from_is_err_and}
 use Rattle.ix_text.specs.TokenTables.{IsSpan}
-use Rattle.ix_run.specs.Inputs.{known_left}
+use Rattle.ix_run.specs.Inputs.{known_left, passed}
 use Rattle.ix_run.proofs.PostingLemmas.{behind_count, behind_gap, count_fits, count_short, document_within, few_documents, gap_fits, gap_short, gap_some, positions_next, positions_short, posting_fits, posting_parts, span_within}
+use Rattle.ix_run.proofs.Passing.{passes_posting}
 use Rattle.ix_run.proofs.list.read_any_posting.Goals as goal
 
 pub returns-in_err-gap-clause-accepted : goal.returns-in_err-gap-clause-accepted
@@ -93,3 +94,10 @@ returns-clause-accepted g c rows numbers posting rest has held fits free short e
     (positions_short gap c.args.limit posting short c.in_ok-gap.gap c.in_ok-gap.gap_bytes c.in_ok-count.count c.in_ok-count.count_bytes one.0 c.in_ok-gap.ensures.size.0 two.0 c.in_ok-count.ensures.size.0) two.1 in
     let three = c.in_ok-list_bytes.ensures.accepted numbers posting.1 rest stand in
     (same, three.0, three.1)
+
+pub returns-clause-passed : goal.returns-clause-passed
+returns-clause-passed g c =
+    let found = c.in-Some.ensures c.requires.ready.rows c.requires.ready.has in
+    passes_posting (passed c.args.input.now) (passed c.read_positive.new.input) (passed c.read_positive-2.new.input) (passed c.read_positions.new.input) c.in_ok-gap.gap c.in_ok-count.count (c.in-Some.document + 1 - c.args.next) (c.in-Some.document, c.read_positions.new.positions.items)
+    c.in_ok-gap.ensures.passed c.in_ok-count.ensures.passed c.in_ok-list_bytes.ensures.passed
+    (omega (arith, found.0, c.in_ok-gap.ensures.some)) (omega (arith, c.in_ok-list_bytes.ensures.all))

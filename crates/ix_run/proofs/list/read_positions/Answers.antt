@@ -1,8 +1,8 @@
 -- One position more, or why there is none.
 use Rattle.std.proofs.Common.{◌≡◌, ◌<◌, ◌≤◌, ◌+◌, ◌-◌, ℕ, ◌∷◌, ◌++◌, [], length, arith}
 use Rattle.std.proofs.lemmas.Result.{err_from_is_err_and}
-use Rattle.ix_run.specs.Inputs.{known_left}
-use Rattle.ix_run.proofs.PositionLemmas.{first_all, first_more, marked_more, position_refused, taken_more}
+use Rattle.ix_run.specs.Inputs.{known_left, passed}
+use Rattle.ix_run.proofs.PositionLemmas.{first_all, first_more, marked_more, passed_more, position_refused, taken_more}
 use Rattle.ix_run.proofs.list.read_positions.Goals as goal
 
 pub returns-in_err-position-clause-accepted : goal.returns-in_err-position-clause-accepted
@@ -32,6 +32,7 @@ loop-preserved g c =
     record {
       taken = rw (items, more) (taken_more (known_left g.R.Read.remaining c.args.input.now) (known_left g.R.Read.remaining loop.input) (known_left g.R.Read.remaining c.read_position.new.input)
           c.args.span.1 loop.next used c.args.limit read position c.in_ok-position.bytes loop.invariant.taken is.taken is.size.0 (omega (arith, is.size.1, loop.invariant.left)) is.within.0 is.within.1);
+      passed = rw items (passed_more (passed c.args.input.now) (passed loop.input) (passed c.read_position.new.input) read position loop.next loop.invariant.taken.next_is loop.invariant.passed is.passed);
       marked = rw items (marked_more c.args.span.0 c.args.marks.now loop.marks c.read_position.new.marks read position loop.invariant.marked is.room is.marked);
       first = rw items (first_more c.args.span.0 c.args.span.1 c.args.count c.args.limit c.args.marks.now loop.marks (known_left g.R.Read.remaining c.args.input.now) (known_left g.R.Read.remaining loop.input)
           loop.next used read loop.invariant.taken loop.invariant.marked loop.invariant.first few (known_left g.R.Read.remaining c.read_position.new.input) position

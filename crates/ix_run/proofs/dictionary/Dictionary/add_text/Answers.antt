@@ -2,13 +2,13 @@ use Rattle.std.proofs.Common.{List, ℕ, map, ap, refl, ◌∙◌, arith}
 use Rattle.ix_text.specs.Terms.{term_of_word}
 use Rattle.ix_text.specs.TokenLists.{entry_of_term, token_list}
 use Rattle.ix_text.proofs.LawfulLemmas.{lawful_token_list}
-use Rattle.ix_run.proofs.ChainLemmas.{nothing_added, one_more_added}
+use Rattle.ix_run.proofs.Numbering.{nothing_added, one_more_added}
 use Rattle.ix_run.proofs.dictionary.Dictionary.add_text.Goals as goal
 
 pub loop-word-init : goal.loop-word-init
 unfolding token_list
 loop-word-init c = record {
-  added = nothing_added c.args.self.now.last c.args.self.now.links.items _ _ (rw (c.into_iter-word-iterator.ensures.into_iter_gives, c.unicode_words-word-items.ensures.left));
+  added = nothing_added c.args.self.now.numbers c.args.self.now.tokens.items _ _ (rw (c.into_iter-word-iterator.ensures.into_iter_gives, c.unicode_words-word-items.ensures.left));
   few = c.requires;
   ends = refl;
 }
@@ -16,7 +16,7 @@ loop-word-init c = record {
 pub loop-word-preserved : goal.loop-word-preserved
 loop-word-preserved c = record {
   added =
-      one_more_added c.args.self.now.last c.args.self.now.links.items c.loop-word.self.last c.loop-word.self.links.items c.add_word.new.self.last c.add_word.new.self.links.items _ _ _ _
+      one_more_added c.args.self.now.numbers c.args.self.now.tokens.items c.loop-word.self.numbers c.loop-word.self.tokens.items c.add_word.new.self.numbers c.add_word.new.self.tokens.items _ _ _ _
       (ap (map (λ (word : List ℕ). entry_of_term c.args.stop.now (term_of_word word))) c.in-Some.ensures.steps) c.in_ok-add_word.ensures.held c.in_ok-add_word.ensures.longer c.loop-word.invariant.added;
   few = let longer = c.in_ok-add_word.ensures.longer in let few = c.loop-word.invariant.few in omega (arith, longer, few);
   ends = c.add_word.ensures.ends ∙ c.loop-word.invariant.ends;

@@ -1,19 +1,22 @@
-use Rattle.std.proofs.Common.{◌+◌, ◌∙◌, Some, None, ap, cond, string_bytes, sym, arith}
+use Rattle.std.proofs.Common.{◌∙◌, Some, None, ap, cond, refl, string_bytes, sym}
 use Rattle.ix_run.specs.declared.dictionary.Dictionary.{Dictionary}
-use Rattle.ix_run.proofs.ChainLemmas.{added_nothing, added_term}
+use Rattle.ix_run.specs.declared.dictionary.TheConstants.{NOTHING}
+use Rattle.ix_run.proofs.Numbering.{added, holds_known_more, holds_term_more}
 use Rattle.ix_run.proofs.dictionary.Dictionary.add_word.Goals as goal
-use Rattle.ix_run.proofs.dictionary.Dictionary.add_word.Goals.{then-branch+in_ok-before, else-branch}
+use Rattle.ix_run.proofs.dictionary.Dictionary.add_word.Goals.{then-branch+in_ok-number, else-branch}
 
 pub returns-clause-held : goal.returns-clause-held
-returns-clause-held c = λ tokens holds.
+returns-clause-held c = λ entries holds.
+    let old = c.args.self.now in
     elim c.if-branch.branch [
-      | then-branch+in_ok-before w ↦
-          added_term c.args.self.now.last w.replace_last.new.last c.if-branch.self.last c.args.self.now.links.items c.if-branch.self.links.items c.push.new.self.items w.deref.result.now _
-          w.in_ok-before.before c.if-branch.before (w.len.result + 1) tokens
-          (ap (λ (d : Dictionary). d.last) w.self-is) (ap (λ (d : Dictionary). d.links.items) w.self-is) c.in_ok-push.ensures.items w.before-is
-          (c.in_ok-write_token.ensures ∙ ap (λ kept. cond kept (Some (string_bytes c.write_token.new.term)) None) w.if-branch.true ∙ ap Some (sym w.deref.ensures)) (omega (arith, w.len.ensures)) w.in_ok-before.ensures.before w.in_ok-before.ensures.updated holds
+      | then-branch+in_ok-number w ↦
+          added c.if-branch.self.numbers w.number_of.new.numbers old.tokens.items c.if-branch.self.tokens.items c.push.new.self.items w.in_ok-number.number c.if-branch.number (Some w.deref.result.now) _ entries
+          (ap (λ (d : Dictionary). d.numbers) w.self-is) (ap (λ (d : Dictionary). d.tokens.items) w.self-is) w.number-is c.in_ok-push.ensures.items
+          (c.in_ok-write_token.ensures ∙ ap (λ kept. cond kept (Some (string_bytes c.write_token.new.term)) None) w.if-branch.true ∙ ap Some (sym w.deref.ensures))
+          (holds_term_more old.numbers w.number_of.new.numbers old.tokens.items entries w.deref.result.now w.in_ok-number.number w.in_ok-number.ensures holds)
       | else-branch w ↦
-          added_nothing c.args.self.now.last c.if-branch.self.last c.args.self.now.links.items c.if-branch.self.links.items c.push.new.self.items _ c.if-branch.before tokens
-          (ap (λ (d : Dictionary). d.last) w.self-is) (ap (λ (d : Dictionary). d.links.items) w.self-is) c.in_ok-push.ensures.items w.before-is
-          (c.in_ok-write_token.ensures ∙ ap (λ kept. cond kept (Some (string_bytes c.write_token.new.term)) None) w.if-branch.false) holds
+          added c.if-branch.self.numbers old.numbers old.tokens.items c.if-branch.self.tokens.items c.push.new.self.items NOTHING c.if-branch.number None _ entries
+          (ap (λ (d : Dictionary). d.numbers) w.self-is) (ap (λ (d : Dictionary). d.tokens.items) w.self-is) w.number-is c.in_ok-push.ensures.items
+          (c.in_ok-write_token.ensures ∙ ap (λ kept. cond kept (Some (string_bytes c.write_token.new.term)) None) w.if-branch.false)
+          (holds_known_more old.numbers old.tokens.items entries None NOTHING refl holds)
     ]

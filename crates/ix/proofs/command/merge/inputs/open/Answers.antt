@@ -2,7 +2,7 @@
 use Rattle.std.proofs.Common.{◌∙◌, Err, ap, inl, refl, subst, sym}
 use Rattle.ix_run.specs.declared.run_text_error.RunTextError.TheVariants.{Magic}
 use Rattle.ix.specs.MergedRuns.{RefusesInput, no_head, unread}
-use Rattle.ix.proofs.RunFileLemmas.{is_other_or_not, refused}
+use Rattle.ix.proofs.RunFileLemmas.{is_other_or_not, opened, refused}
 use Rattle.ix.proofs.command.merge.inputs.open.Goals as goal
 
 pub returns-in-Err-Refused-clause-refused : goal.returns-in-Err-Refused-clause-refused
@@ -10,6 +10,11 @@ returns-in-Err-Refused-clause-refused g c = inl (unread refl)
 
 pub returns-in-Err-Memory-clause-refused : goal.returns-in-Err-Memory-clause-refused
 returns-in-Err-Memory-clause-refused g c = inl (unread tt)
+
+pub returns-in-Ok-open-clause-opened : goal.returns-in-Ok-open-clause-opened
+returns-in-Ok-open-clause-opened g c =
+    opened _ g.F.Reader.Read.remaining (g.met.F.FileSource.untold c.args.files.now c.args.path.now) c.in-Ok.reader c.in-Ok.ensures
+    c.in-Ok-open.run' _ c.in-Ok-open.ensures.unread c.in-Ok-open.ensures.lawful c.in-Ok-open.ensures.taken c.in-Ok-open.ensures.yields
 
 pub open_volume-requires-after_bounds : goal.open_volume-requires-after_bounds
 open_volume-requires-after_bounds g c κs within =

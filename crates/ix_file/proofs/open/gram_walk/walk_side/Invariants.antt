@@ -1,0 +1,6 @@
+use Rattle.ix_file.specs.PlacedTerms.{terms_in}
+use Rattle.ix_file.proofs.GramWalking.{AreWalked}
+use Rattle.ix_file.proofs.open.gram_walk.walk_side.Given as goal
+
+abbrev pub invariant-loop-number : goal.invariant-loop-number
+invariant-loop-number l = AreWalked (terms_in l.terms) l.section l.rows l.cursors.items l.side l.number
