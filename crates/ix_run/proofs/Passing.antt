@@ -1,13 +1,11 @@
 -- What was taken of a buffer, from call to call.
 use Rattle.std.proofs.Common.{◌≡◌, ℕ, ◌+◌, ◌-◌, ◌<◌, ◌≤◌, List, [], ◌∷◌, ◌++◌, length, take, drop, Result, Ok, Err, OnOk, get_or, sym, ap, ap₂, ◌∙◌, subst, arith, append_assoc, append-nil}
-use Rattle.std.proofs.lemmas.List.{append_cancel_left, get_or_read, length-append, length-drop, length-take, nil_from_length, take-append-drop, take-take, take_more}
+use Rattle.std.proofs.lemmas.List.{get_or_read, length-append, length-drop, length-take, nil_from_length, take-take, take_more}
 use Rattle.std.proofs.Math.Seq.{drop-append_seam, take-add, take-append_seam}
-use Rattle.ix_vbyte.specs.Postings.{posting_bytes}
-use Rattle.ix_vbyte.specs.ShortPostings.{single_bytes}
 use Rattle.ix_text.specs.Parts.{Posting}
 use Rattle.ix_vbyte.specs.Code.{code_of}
 use Rattle.ix_vbyte.specs.Gaps.{gaps_of}
-use Rattle.ix_vbyte.specs.Postings.{codes_of}
+use Rattle.ix_vbyte.specs.Postings.{codes_of, posting_bytes}
 use Rattle.ix_run.specs.Inputs.{EndsWith, Passes}
 
 pub passes_none : (bytes : List ℕ) → Passes bytes bytes []
@@ -88,10 +86,6 @@ tail_passed before after last gap given posting passes ends len =
     record { gone = passes.gone; is = passes.is ∙ ap (λ (xs : List ℕ). before ++ xs) (append_assoc (code_of gap) count gaps) ∙ sym (append_assoc before (code_of gap) tail) } in
     let size : length last ≡ length tail = omega (arith, len, ap length (append_assoc (code_of gap) count gaps), length-append (code_of gap) tail) in
     ap (λ (xs : List ℕ). code_of given ++ xs) (last_passed (before ++ code_of gap) after tail last behind ends size) ∙ sym (append_assoc (code_of given) count gaps)
-
-pub gap_within : (gap : ℕ) (posting : Posting) → length (code_of gap) ≤ length (posting_bytes gap posting)
-gap_within gap posting =
-    omega (arith, length-append (code_of gap ++ code_of (length posting.1)) (codes_of (gaps_of posting.1)), length-append (code_of gap) (code_of (length posting.1)))
 
 -- what was appended, where it was, is the same bytes
 pub appended_same : {T E : Type 0} (result : Result T E) (new old more all : List ℕ) → OnOk result (new ≡ old ++ more) → more ≡ all → OnOk result (new ≡ old ++ all)

@@ -1,10 +1,9 @@
 -- A list of a reader that is taken posting by posting.
 use Rattle.std.proofs.Common.{◌≡◌, ℕ, ◌≤◌, List, Option, Some, Result, Ok, Err, IfOk, IfErr, OnOk}
 use Rattle.ix_text.specs.Parts.{DictionaryEntry, Posting}
-use Rattle.ix_run.specs.Reading.{HasRead, MayYield, term_of}
-use Rattle.ix_run.specs.RunReaders.{heading_read}
 use Rattle.ix_run.specs.Faults.{IsListFault, MayFault}
-use Rattle.ix_run.specs.Reading.{Faces, HasFailed, IsEnded}
+use Rattle.ix_run.specs.Reading.{Faces, HasFailed, HasRead, IsEnded, MayYield, term_of}
+use Rattle.ix_run.specs.RunReaders.{heading_read}
 use Rattle.ix_run.specs.Sources.{GivesList, GivesPosting, KeepsFaults}
 use Rattle.ix_run.specs.declared.listed.ListError.{ListError}
 use Rattle.ix_run.specs.declared.listed.ListError.TheVariants.{Memory, Source}

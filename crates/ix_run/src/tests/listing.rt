@@ -162,7 +162,7 @@ fn refused_lists_leave_nothing(rt: HostRuntime) -> Result<(), Fail> {
         assert!(rt; refuses_list(rt.alloc(), &mut reader, want)?);
         let slow = Slow {
             bytes: &text,
-            left: text.len() - 3,
+            left: HEAD.len() + 7,
         };
         let mut reader = RunReader::open(rt.alloc(), slow)?;
         assert!(rt; refuses_list(rt.alloc(), &mut reader, RunTextError::Read)?);

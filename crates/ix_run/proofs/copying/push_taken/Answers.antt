@@ -1,9 +1,9 @@
 -- The bytes that were taken last are the posting's, behind its gap.
-use Rattle.std.proofs.Common.{◌≡◌, ◌≤◌, ◌+◌, ◌-◌, length, ap₂, sym, ◌∙◌, arith, ℕ}
+use Rattle.std.proofs.Common.{◌≡◌, ◌+◌, ◌-◌, length, ap₂, ◌∙◌, ℕ}
 use Rattle.ix_vbyte.specs.Code.{code_of}
 use Rattle.ix_vbyte.specs.Postings.{posting_bytes}
 use Rattle.ix_run.specs.Inputs.{passed}
-use Rattle.ix_run.proofs.Passing.{appended_same, gap_within, tail_passed}
+use Rattle.ix_run.proofs.Passing.{appended_same, tail_passed}
 use Rattle.ix_run.proofs.copying.push_taken.Goals as goal
 
 pub returns-in-Some-clause-ok : goal.returns-in-Some-clause-ok

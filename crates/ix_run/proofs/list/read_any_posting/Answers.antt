@@ -1,5 +1,5 @@
 -- A posting that stands first and may come next is the one that is read.
-use Rattle.std.proofs.Common.{◌≡◌, ◌≤◌, ◌^◌, ◌+◌, ◌-◌, ℕ, length, arith, subst, sym}
+use Rattle.std.proofs.Common.{◌≡◌, ◌≤◌, ◌^◌, ◌+◌, ◌-◌, ℕ, length, arith, subst}
 use Rattle.std.proofs.lemmas.Result.{err_from_is_err_and}
 use Rattle.ix_text.specs.TokenTables.{IsSpan}
 use Rattle.ix_run.specs.Inputs.{known_left, passed}

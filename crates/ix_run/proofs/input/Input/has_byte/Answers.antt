@@ -1,5 +1,5 @@
 -- What is read on is held, and a read of no bytes is the end.
-use Rattle.std.proofs.Common.{◌≡◌, ◌<◌, length, arith, refl}
+use Rattle.std.proofs.Common.{◌≡◌, ◌<◌, length, arith}
 use Rattle.std.proofs.lemmas.List.{with_items_is}
 use Rattle.std.specs.Vec.{with_items}
 use Rattle.ix_run.specs.Inputs.{known_left, passed}

@@ -1,5 +1,5 @@
 -- The byte is the code of the number, and stands first.
-use Rattle.std.proofs.Common.{◌-◌, length, ap, arith, subst, sym, take, ◌+◌, List, ℕ}
+use Rattle.std.proofs.Common.{◌-◌, length, ap, arith, subst, sym, take, ◌+◌}
 use Rattle.ix_run.specs.Inputs.{known_left, passed, Passes}
 use Rattle.ix_vbyte.proofs.ShortPostings.{code_of-one}
 use Rattle.ix_run.proofs.ShortCodes.{code_taken-one}

@@ -1,5 +1,4 @@
 -- The room for positions says nothing of where a reader stands.
-use Rattle.std.proofs.Common.{List}
 use Rattle.ix_run.proofs.ReaderLists.{faults_lent, list_fault_lent, list_lent}
 use Rattle.ix_run.proofs.run_reader.reading.RunReaderSource.take_list.Goals as goal
 
