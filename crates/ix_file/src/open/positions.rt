@@ -61,7 +61,8 @@ fn pass_short<'a>(bytes: &'a [u8], count: u32, span: (u32, u32), claims: &mut Cl
     ensures within { result.count ≤ count }
     ensures read { HasReadPositions span.0 span.1 result.next result.count bytes.now
         result.left.now claims.old claims.new }
-    ensures goes_on { (positions rest : List ℕ) → ArePositionsIn span.1 count bytes.now positions rest
+    ensures goes_on { (positions rest : List ℕ)
+        → ArePositionsIn span.1 count bytes.now positions rest
         → PositionsGoOn span.1 result.next result.count count result.left.now rest }
     ensures room { (top : ℕ) → HasRoom claims.old top → HasRoom claims.new top }
 {
@@ -91,7 +92,8 @@ fn mark_short<'a>(
     ensures read { HasReadPositions span.0 span.1 result.next result.count bytes.now
         result.left.now (SeenClaims.Marked marks.old doubled.old)
         (SeenClaims.Marked marks.new doubled.new) }
-    ensures goes_on { (positions rest : List ℕ) → ArePositionsIn span.1 count bytes.now positions rest
+    ensures goes_on { (positions rest : List ℕ)
+        → ArePositionsIn span.1 count bytes.now positions rest
         → PositionsGoOn span.1 result.next result.count count result.left.now rest }
     ensures room { room marks.new ≡ room marks.old }
 {
