@@ -35,6 +35,7 @@ pub mod Sorting
 pub mod SpanLemmas
 pub mod SpelledLemmas
 pub mod StopTermLemmas
+pub mod StretchMarks
 pub mod TermLemmas
 pub mod TermRows
 pub mod TextLaws

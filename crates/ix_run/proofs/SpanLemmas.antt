@@ -1,11 +1,9 @@
 -- Which document has a token, and at which position; and so which postings the places of a term are.
-use Rattle.std.proofs.Common.{◌≡◌, ℕ, zero, suc, ◌+◌, ◌-◌, ◌<◌, ◌≤◌, leb, Bool, true, false, cond, bytes_eq, List, [], ◌∷◌, ◌++◌, length, get_or, Some, None, refl, sym, ap, ap₂, subst, ◌∙◌, ◌⊎◌, inl, inr, arith}
-use Rattle.std.proofs.lemmas.Bool.{cases_lt, le-ltb, leb-false, leb-true, lt-ltb}
+use Rattle.std.proofs.Common.{◌≡◌, ℕ, zero, suc, ◌+◌, ◌-◌, ◌<◌, ◌≤◌, Bool, true, false, cond, bytes_eq, List, [], ◌∷◌, ◌++◌, length, get_or, Some, None, refl, sym, ap, ap₂, subst, ◌∙◌, ◌⊎◌, inl, inr, arith}
+use Rattle.std.proofs.lemmas.Bool.{cases_lt, le-ltb, lt-ltb}
 use Rattle.std.proofs.lemmas.List.{append_assoc, append-nil, length-append}
-use Rattle.std.proofs.lemmas.List.Sorted.{IsNonDecreasingBy-from_default, IsPartitionedBy-leb}
 use Rattle.std.proofs.lemmas.List.Sums.{fold-append}
 use Rattle.std.specs.List.{fold}
-use Rattle.std.specs.List.Sorted.{IsPartitionPoint, IsPartitionedBy}
 use Rattle.ix_text.specs.Collections.{Document}
 use Rattle.ix_text.specs.Parts.{Posting}
 use Rattle.ix_text.specs.TokenLists.{Entry}
@@ -200,29 +198,24 @@ pub record IsFound (ends : List ℕ) (place document : ℕ) : Type 0 where
   pub from : start_at 0 ends document ≤ place
   pub to : place < get_or ends document 0
 
-ends_rise : (start : ℕ) (ends : List ℕ) → AreEnds start ends → (i j : ℕ) → i ≤ j → j < length ends → get_or ends i 0 ≤ get_or ends j 0
-ends_rise start ends are i j le within = before_start start ends i (suc j) are (omega (arith, le)) (omega (arith, within))
-
-pub ends_parted : (ends : List ℕ) (place : ℕ) → AreEnds 0 ends → IsPartitionedBy (λ end. leb end place) ends
-ends_parted ends place are = IsPartitionedBy-leb (λ end. end) ends place (IsNonDecreasingBy-from_default (λ end. end) ends 0 (ends_rise 0 ends are))
-
-pub is_found : (ends : List ℕ) (place document : ℕ) → place < last_end 0 ends → document ≤ length ends → IsPartitionPoint (λ end. leb end place ≡ true) (λ end. leb end place ≡ false) ends document → IsFound ends place document
-is_found ends place document within bound parted =
-    let low : (k : ℕ) → k < document → get_or ends k 0 ≤ place = λ k less. leb-true (get_or ends k 0) place (parted.0 k 0 (omega arith) less) in
-    let inside : document < length ends = by (cases_lt document (length ends)) low in
-    record {
-      within = inside;
-      from = started document low;
-      to = leb-false (get_or ends document 0) place (parted.1 document 0 (omega arith) inside);
-    }
+-- one that does not end at a place or earlier is there, where the last ends behind the place
+pub found_inside : (ends : List ℕ) (place document : ℕ) → place < last_end 0 ends → ((k : ℕ) → k < document → get_or ends k 0 ≤ place) → document ≤ length ends → document < length ends
+found_inside ends place document low before within = by (cases_lt document (length ends))
   where
-    by : (document < length ends) ⊎ (length ends ≤ document) → ((k : ℕ) → k < document → get_or ends k 0 ≤ place) → document < length ends
-    by (inl inside) low = inside
-    by (inr beyond) low = absurd (let most = last_end_le 0 ends place (omega arith) (λ k less. low k (omega (arith, less, beyond))) in omega (arith, most, within))
+    by : (document < length ends) ⊎ (length ends ≤ document) → document < length ends
+    by (inl inside) = inside
+    by (inr beyond) = absurd (let most = last_end_le 0 ends place (omega arith) (λ k less. before k (omega (arith, less, beyond))) in omega (arith, most, low))
 
+pub is_found : (ends : List ℕ) (place document : ℕ) → place < last_end 0 ends → ((k : ℕ) → k < document → get_or ends k 0 ≤ place) → document ≤ length ends → place < get_or ends document 0 → IsFound ends place document
+is_found ends place document low before within to = record {
+  within = found_inside ends place document low before within;
+  from = started document before;
+  to = to;
+}
+  where
     started : (d : ℕ) → ((k : ℕ) → k < d → get_or ends k 0 ≤ place) → start_at 0 ends d ≤ place
-    started zero low = omega arith
-    started (suc d) low = low d (omega arith)
+    started zero before = omega arith
+    started (suc d) before = before d (omega arith)
 
 -- the start as it is read
 pub start-first : (ends : List ℕ) (document : ℕ) → document ≡ 0 → start_at 0 ends document ≡ 0

@@ -1,5 +1,5 @@
 -- Where the documents of a block end among its tokens, and so which document has a token, and at which position.
-use Rattle.std.specs.Prelude.{◌≡◌, ℕ, ◌+◌, ◌-◌, ◌^◌, ◌<◌, ◌≤◌, nat_lt, List, [], ◌∷◌, length, fold, ⊤, if◌then◌else◌}
+use Rattle.std.specs.Prelude.{◌≡◌, ℕ, ◌+◌, ◌-◌, ◌*◌, ◌^◌, ◌<◌, ◌≤◌, nat_lt, List, [], ◌∷◌, length, get_or, fold, ⊤, if◌then◌else◌}
 use Rattle.ix_text.specs.Collections.{Document}
 use Rattle.ix_text.specs.Parts.{Posting}
 use Rattle.ix_run.specs.Inverted.{grown}
@@ -37,3 +37,8 @@ pub record AreSpans (ends : List ℕ) : Type 0 where
   pub ascending : AreEnds 0 ends
   pub few_tokens : last_end 0 ends ≤ 2 ^ 28
   pub few_documents : length ends ≤ 2 ^ 28
+
+-- Of each stretch of so many places a document before which each ends where the stretch begins, or earlier.
+pub record AreMarks (size : ℕ) (ends marks : List ℕ) : Type 0 where
+  pub within : (stretch : ℕ) → get_or marks stretch 0 ≤ length ends
+  pub before : (stretch document : ℕ) → document < get_or marks stretch 0 → get_or ends document 0 ≤ size * stretch

@@ -1,7 +1,13 @@
 //! Which document of a block has a token.
 
-ghost use Rattle.std.specs.Prelude.{◌≡◌, ◌^◌, ◌<◌, ◌≤◌, leb};
-ghost use Rattle.ix_run.specs.DocumentEnds.{AreSpans, IsSpan, last_end};
+ghost use Rattle.std.specs.Prelude.{◌≡◌, ◌/◌, ◌^◌, ◌<◌, ◌≤◌, IfOk, get_or, length};
+ghost use Rattle.ix_run.specs.DocumentEnds.{AreMarks, AreSpans, IsSpan, last_end};
+
+use ix_text::Memory;
+use std::alloc::Global;
+
+/// How many places a stretch has. Verses have as many words each; a search by halves would guess wrong ten times a token.
+const STRETCH: usize = 32;
 
 /// The tokens of a document among those of its block.
 #[derive(Clone, Copy)]
@@ -29,8 +35,9 @@ impl Span {
     /// That of the document which has the token at a place, where a document may have several of those that are asked
     /// for one after another: so this one is looked at first.
     #[inline]
-    pub(crate) fn of(self, ends: &[u32], place: u32) -> Span
+    pub(crate) fn of(self, ends: &[u32], marks: &[u32], place: u32) -> Span
         requires spans { AreSpans ends.now }
+        requires marks { AreMarks 32 ends.now marks.now }
         requires within { place < last_end 0 ends.now }
         requires behind { self.start ≤ place }
         requires low { self.document < 2 ^ 28 }
@@ -43,28 +50,54 @@ impl Span {
         if place < self.end {
             return self;
         }
-        find_span(ends, place)
+        find_span(ends, marks, place)
     }
 }
 
-/// The span of the document which has the token at a place.
-fn find_span(ends: &[u32], place: u32) -> Span
+/// The marks of documents that end there: of each stretch of 32 places, the first document that ends behind its beginning.
+pub(crate) fn mark_stretches(alloc: Global, ends: &[u32]) -> Result<Vec<u32>, Memory>
+    requires { length ends.now ≤ 2 ^ 28 }
+    ensures { IfOk result (λ marks. AreMarks 32 ends.now marks.items) }
+{
+    let places = ends.last().map_or(0, |end| *end as usize);
+    let mut marks = Vec::with_capacity(alloc, places.div_ceil(STRETCH))?;
+    for (document, end) in ends.iter().enumerate() {
+        let stretches = (*end as usize).div_ceil(STRETCH);
+        if marks.len() < stretches {
+            marks.resize(stretches, document as u32)?;
+        }
+    }
+    Ok(marks)
+}
+
+/// The span of the document which has the token at a place: from the mark of its stretch it is few documents.
+fn find_span(ends: &[u32], marks: &[u32], place: u32) -> Span
     requires spans { AreSpans ends.now }
+    requires marks { AreMarks 32 ends.now marks.now }
     requires within { place < last_end 0 ends.now }
     ensures from { result.start ≤ place }
     ensures to { place < result.end }
     ensures low { result.document < 2 ^ 28 }
     ensures span { IsSpan ends.now result.document result.start result.end }
 {
-    let document = ends.partition_point(
-        |end: &u32| -> bool
-            ensures { result ≡ leb end.now place }
-        { *end <= place },
-    );
+    let mut document = mark_of(marks, place);
+    while ends[document] <= place {
+        document += 1;
+    }
     let start = if document == 0 { 0 } else { ends[document - 1] };
     Span {
         document: document as u32,
         start,
         end: ends[document],
     }
+}
+
+/// The mark of the stretch that a place is in.
+#[inline]
+fn mark_of(marks: &[u32], place: u32) -> usize
+    ensures { result ≡ get_or marks.now (place / 32) 0 }
+{
+    marks
+        .get(place as usize / STRETCH)
+        .map_or(0, |mark| *mark as usize)
 }
