@@ -1,5 +1,5 @@
 -- The bytes of a term's list, a position or a posting at a time.
-use Rattle.std.proofs.Common.{◌≡◌, ℕ, ◌+◌, ◌-◌, ◌<◌, List, [], ◌∷◌, ◌++◌, length, refl, sym, ap, ap₂, ◌∙◌, arith, eq-eqb, Result, Ok, Err, if◌then◌else◌, IfOk, OnOk, ◌==◌, take, drop}
+use Rattle.std.proofs.Common.{◌≡◌, ℕ, ◌+◌, ◌-◌, ◌<◌, List, [], ◌∷◌, ◌++◌, length, refl, sym, ap, ap₂, ◌∙◌, arith, eq-eqb, Result, Ok, Err, if◌then◌else◌, OnOk, ◌==◌, take, drop}
 use Rattle.std.proofs.lemmas.Bool.{ne_eqb}
 use Rattle.std.proofs.lemmas.Grind.{flat_map-append}
 use Rattle.std.proofs.lemmas.List.{append_assoc, append-nil, drop_all, map-append, length_push, take-append-drop}
@@ -161,8 +161,3 @@ on_ok_then (Err e) holds shows = tt
 pub on_ok_two : {T E : Type 0} {P Q R : Type 0} (result : Result T E) → OnOk result P → OnOk result Q → (P → Q → R) → OnOk result R
 on_ok_two (Ok x) one other shows = shows one other
 on_ok_two (Err e) one other shows = tt
-
--- what a result that is well shows of another
-pub if_ok_then : {T E : Type 0} {P Q : T → Type 0} (result : Result T E) → IfOk result P → ((x : T) → P x → Q x) → IfOk result Q
-if_ok_then (Ok x) holds shows = shows x holds
-if_ok_then (Err e) holds shows = tt

@@ -31,6 +31,7 @@ pub mod RunSizes
 pub mod RunSources
 pub mod RunTold
 pub mod ShortCodes
+pub mod SeenLemmas
 pub mod Sorting
 pub mod SpanLemmas
 pub mod SpelledLemmas

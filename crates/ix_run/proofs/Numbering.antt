@@ -1,5 +1,5 @@
 -- The dictionary of a block: the places of a term are those of its number, and one more token.
-use Rattle.std.proofs.Common.{◌≡◌, ℕ, zero, suc, ◌+◌, ◌<◌, ◌==◌, ◌⊎◌, inl, inr, Bool, true, false, cond, bytes_eq, List, [], ◌∷◌, ◌++◌, length, Contains, Option, Some, None, MatchOption, String, refl, sym, ap, ap₂, subst, ◌∙◌, arith}
+use Rattle.std.proofs.Common.{◌≡◌, ℕ, zero, suc, ◌+◌, ◌<◌, ◌==◌, ◌⊎◌, inl, inr, Bool, true, false, cond, bytes_eq, List, [], ◌∷◌, ◌++◌, length, Contains, Option, Some, None, MatchOption, String, refl, sym, ap, subst, ◌∙◌, arith}
 use Rattle.std.proofs.lemmas.Bool.{eq-eqb, ne_eqb}
 use Rattle.std.proofs.lemmas.List.{append-nil, append_assoc, length_push}
 use Rattle.std.proofs.lemmas.List.Elements.{Contains-append_left, Contains-push}
@@ -9,6 +9,7 @@ use Rattle.std.specs.List.{AllZip}
 use Rattle.std.specs.Map.{update}
 use Rattle.ix_text.specs.TokenLists.{Entry}
 use Rattle.ix_run.specs.Dictionaries.{HoldsTokens, IsNumbered, IsNumberedAfter, places_of, places_with}
+use Rattle.ix_run.specs.SeenWords.{IsNumberedNow}
 use Rattle.ix_run.specs.declared.dictionary.TheConstants.{NOTHING}
 
 -- ---- the places of a term and of its number
@@ -81,7 +82,7 @@ pub length_held : {Y S : Type 0} (numbers : HashMap (String Y) ℕ S) (tokens : 
 length_held numbers tokens entries holds = length_numbered numbers entries tokens holds.numbered
 
 module _ {Y S : Type 0} (old new : HashMap (String Y) ℕ S) (kept : (term : List ℕ) (number : ℕ) → get_by_text old term ≡ Some number → get_by_text new term ≡ Some number) where
-  numbered_kept : (entry : Entry) (token : ℕ) → IsNumbered old entry token → IsNumbered new entry token
+  pub numbered_kept : (entry : Entry) (token : ℕ) → IsNumbered old entry token → IsNumbered new entry token
   numbered_kept None token is = is
   numbered_kept (Some term) token is = kept term token is
 
@@ -101,6 +102,22 @@ holds_known_more numbers tokens entries entry token is holds = record {
   few = let few = holds.few in omega (arith, length_push tokens token, few);
 }
 
+-- a term that is new changes the number of no other
+module _ {Y S : Type 0} (old new : HashMap (String Y) ℕ S) (term : List ℕ) (number : ℕ) (updates : (other : List ℕ) → get_by_text new other ≡ update bytes_eq (get_by_text old) term (Some number) other) where
+  kept_beside : get_by_text old term ≡ None → (other : List ℕ) (n : ℕ) → get_by_text old other ≡ Some n → get_by_text new other ≡ Some n
+  kept_beside absent other n found = updates other ∙ by (bytes_eq term other) refl
+    where
+      by : (b : Bool) → bytes_eq term other ≡ b → cond b (Some number) (get_by_text old other) ≡ Some n
+      by true same =
+          let equal = (bytes_eq-Decides term other).0 same in
+          let both : None ≡ Some n = sym absent ∙ ap (get_by_text old) equal ∙ found in absurd (cc)
+      by false differ = found
+
+  numbered_here : get_by_text new term ≡ Some number
+  numbered_here =
+      let same = (bytes_eq-Decides term term).1 refl in
+      updates term ∙ ap (λ b. cond b (Some number) (get_by_text old term)) same
+
 module _ {Y S : Type 0} (old new : HashMap (String Y) ℕ S) (tokens : List ℕ) (entries : List Entry) (term : List ℕ) (number : ℕ) (absent : get_by_text old term ≡ None) (next : number ≡ length old.entries)
     (longer : length new.entries ≡ length old.entries + 1) (updates : (other : List ℕ) → get_by_text new other ≡ update bytes_eq (get_by_text old) term (Some number) other) (holds : HoldsTokens old tokens entries) where
   -- a term has the number that it had, or it is the new one
@@ -111,23 +128,9 @@ module _ {Y S : Type 0} (old new : HashMap (String Y) ℕ S) (tokens : List ℕ)
       by true same is = inr ((bytes_eq-Decides term other).0 same, cc)
       by false differ is = inl is
 
-  kept : (other : List ℕ) (n : ℕ) → get_by_text old other ≡ Some n → get_by_text new other ≡ Some n
-  kept other n found = updates other ∙ by (bytes_eq term other) refl
-    where
-      by : (b : Bool) → bytes_eq term other ≡ b → cond b (Some number) (get_by_text old other) ≡ Some n
-      by true same =
-          let equal = (bytes_eq-Decides term other).0 same in
-          let both : None ≡ Some n = sym absent ∙ ap (get_by_text old) equal ∙ found in absurd (cc)
-      by false differ = found
-
-  here : get_by_text new term ≡ Some number
-  here =
-      let same = (bytes_eq-Decides term term).1 refl in
-      updates term ∙ ap (λ b. cond b (Some number) (get_by_text old term)) same
-
   pub holds_new_more : HoldsTokens new (tokens ++ number ∷ []) (entries ++ Some term ∷ [])
   holds_new_more = record {
-    numbered = numbered-push old new kept entries tokens (Some term) number holds.numbered here;
+    numbered = numbered-push old new (kept_beside old new term number updates absent) entries tokens (Some term) number holds.numbered (numbered_here old new term number updates);
     occurs = λ other n found.
         elim (had other n found) [
           | inl was ↦ Contains-append_left entries (Some term ∷ []) (Some other) (holds.occurs other n was)
@@ -167,14 +170,45 @@ holds_term_more old new tokens entries term number after holds = by (get_by_text
         subst (λ m. HoldsTokens m (tokens ++ number ∷ []) (entries ++ Some term ∷ [])) (sym is.1)
         (holds_known_more old tokens entries (Some term) number (found ∙ ap Some (sym is.0)) holds)
 
--- the same where the code has the parts
-pub added : {Y S : Type 0} (now new : HashMap (String Y) ℕ S) (tokens tokens' final : List ℕ) (number number' : ℕ) (entry entry' : Entry) (entries : List Entry) → now ≡ new → tokens' ≡ tokens → number' ≡ number → final ≡ tokens' ++ number' ∷ [] → entry' ≡ entry
-    → HoldsTokens new (tokens ++ number ∷ []) (entries ++ entry ∷ []) → HoldsTokens now final (entries ++ entry' ∷ [])
-added now new tokens tokens' final number number' entry entry' entries numbers_are tokens_are number_is final_is entry_is holds =
-    let same : tokens ++ number ∷ [] ≡ final = ap₂ (λ ts n. ts ++ n ∷ []) (sym tokens_are) (sym number_is) ∙ sym final_is in
-    subst (λ m. HoldsTokens m final (entries ++ entry' ∷ [])) (sym numbers_are)
-    (subst (λ ts. HoldsTokens new ts (entries ++ entry' ∷ [])) same
-    (subst (λ e. HoldsTokens new (tokens ++ number ∷ []) (entries ++ e ∷ [])) (sym entry_is) holds))
+-- ---- the number that a token has now
+
+module _ {Y S : Type 0} (old new : HashMap (String Y) ℕ S) where
+  -- no term that had a number has another
+  pub kept_now : (entry : Entry) (number : ℕ) → IsNumberedNow old new entry number → (other : List ℕ) (n : ℕ) → get_by_text old other ≡ Some n → get_by_text new other ≡ Some n
+  kept_now None number is other n found = ap (λ (m : HashMap (String Y) ℕ S). get_by_text m other) is.1 ∙ found
+  kept_now (Some term) number is other n found = by (get_by_text old term) refl is
+    where
+      by : (had : Option ℕ) → get_by_text old term ≡ had
+          → MatchOption had ((number ≡ length old.entries) × (length new.entries ≡ length old.entries + 1) × ((other : List ℕ) → get_by_text new other ≡ update bytes_eq (get_by_text old) term (Some number) other)) (λ before. (number ≡ before) × (new ≡ old))
+          → get_by_text new other ≡ Some n
+      by None absent is = kept_beside old new term number is.2 absent other n found
+      by (Some before) had is = ap (λ (m : HashMap (String Y) ℕ S). get_by_text m other) is.1 ∙ found
+
+  pub numbered_now : (entry : Entry) (number : ℕ) → IsNumberedNow old new entry number → IsNumbered new entry number
+  numbered_now None number is = is.0
+  numbered_now (Some term) number is = by (get_by_text old term) refl is
+    where
+      by : (had : Option ℕ) → get_by_text old term ≡ had
+          → MatchOption had ((number ≡ length old.entries) × (length new.entries ≡ length old.entries + 1) × ((other : List ℕ) → get_by_text new other ≡ update bytes_eq (get_by_text old) term (Some number) other)) (λ before. (number ≡ before) × (new ≡ old))
+          → get_by_text new term ≡ Some number
+      by None absent is = numbered_here old new term number is.2
+      by (Some before) had is = ap (λ (m : HashMap (String Y) ℕ S). get_by_text m term) is.1 ∙ had ∙ ap Some (sym is.0)
+
+  -- one more token
+  pub holds_one_more : (tokens tokens' : List ℕ) (entries : List Entry) (entry : Entry) (number : ℕ) → tokens' ≡ tokens ++ number ∷ [] → IsNumberedNow old new entry number → HoldsTokens old tokens entries → HoldsTokens new tokens' (entries ++ entry ∷ [])
+  holds_one_more tokens tokens' entries None number is now holds =
+      subst (λ ts. HoldsTokens new ts (entries ++ None ∷ [])) (sym is)
+      (subst (λ m. HoldsTokens m (tokens ++ number ∷ []) (entries ++ None ∷ [])) (sym now.1) (holds_known_more old tokens entries None number now.0 holds))
+  holds_one_more tokens tokens' entries (Some term) number is now holds =
+      subst (λ ts. HoldsTokens new ts (entries ++ Some term ∷ [])) (sym is) (holds_term_more old new tokens entries term number now holds)
+
+-- a number that is known already
+pub known_now : {Y S : Type 0} (numbers : HashMap (String Y) ℕ S) (entry : Entry) (number : ℕ) → IsNumbered numbers entry number → IsNumberedNow numbers numbers entry number
+known_now numbers None number is = (is, refl)
+known_now numbers (Some term) number found =
+    let P : Option ℕ → Type 0 = λ had.
+    MatchOption had ((number ≡ length numbers.entries) × (length numbers.entries ≡ length numbers.entries + 1) × ((other : List ℕ) → get_by_text numbers other ≡ update bytes_eq (get_by_text numbers) term (Some number) other)) (λ before. (number ≡ before) × (numbers ≡ numbers)) in
+    subst P (sym found) (refl, refl)
 
 -- these entries were added, and with those that are left they are all
 pub record HasAdded {Y S : Type 0} (old : HashMap (String Y) ℕ S) (tokens : List ℕ) (new : HashMap (String Y) ℕ S) (tokens' : List ℕ) (left all : List Entry) : Type 0 where

@@ -22,6 +22,7 @@ pub mod RunSources
 pub mod RunText
 pub mod RunTextErrors
 pub mod Runs
+pub mod SeenWords
 pub mod Sources
 pub mod TermLists
 pub mod Writing

@@ -15,6 +15,7 @@ use crate::dictionary::Dictionary;
 use crate::errors::RunError;
 use crate::head::{RunDoc, RunHead};
 use crate::run::Run;
+use crate::seen_words::no_words;
 use ix_text::{Doc, MAX_DOCUMENTS, Memory, StopList};
 use std::alloc::Global;
 
@@ -72,8 +73,10 @@ fn add_documents(
 {
     let mut rows = Vec::new(alloc);
     let mut term = String::new(alloc);
+    let mut places = no_words(alloc)?;
+    let words = places.as_mut_slice();
     for doc in docs {
-        let tokens = dictionary.add_text(alloc, &mut term, doc.text, stop)?;
+        let tokens = dictionary.add_text(alloc, &mut term, words, doc.text, stop)?;
         rows.push(make_row(alloc, doc, tokens)?)?;
     }
     Ok(rows)

@@ -24,6 +24,7 @@ mod run_reader;
 mod run_source;
 mod run_text;
 mod run_text_error;
+mod seen_words;
 mod source;
 mod span;
 mod stop_terms;

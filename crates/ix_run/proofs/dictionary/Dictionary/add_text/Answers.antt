@@ -9,8 +9,9 @@ pub loop-word-init : goal.loop-word-init
 unfolding token_list
 loop-word-init c = record {
   added = nothing_added c.args.self.now.numbers c.args.self.now.tokens.items _ _ (rw (c.into_iter-word-iterator.ensures.into_iter_gives, c.unicode_words-word-items.ensures.left));
-  few = c.requires;
+  few = c.requires.few;
   ends = refl;
+  seen = c.requires.seen;
 }
 
 pub loop-word-preserved : goal.loop-word-preserved
@@ -20,6 +21,7 @@ loop-word-preserved c = record {
       (ap (map (λ (word : List ℕ). entry_of_term c.args.stop.now (term_of_word word))) c.in-Some.ensures.steps) c.in_ok-add_word.ensures.held c.in_ok-add_word.ensures.longer c.loop-word.invariant.added;
   few = let longer = c.in_ok-add_word.ensures.longer in let few = c.loop-word.invariant.few in omega (arith, longer, few);
   ends = c.add_word.ensures.ends ∙ c.loop-word.invariant.ends;
+  seen = c.in_ok-add_word.ensures.seen;
 }
 
 pub returns-then-len-clause-lawful : goal.returns-then-len-clause-lawful
