@@ -130,7 +130,3 @@ match_low f entries pieces numbers are k d low =
 
 pub ascending_lists : (terms pieces lists : List (List ℕ)) → All (AreCandidates terms pieces) lists → All IsStrictlyIncreasing lists
 ascending_lists terms pieces lists all = All-weaker (AreCandidates terms pieces) IsStrictlyIncreasing (λ list are. are.ascending) lists all
-
-pub if_ok_weaker : {T E : Type 0} (P Q : T → Type 0) → ((v : T) → P v → Q v) → (r : Result T E) → IfOk r P → IfOk r Q
-if_ok_weaker P Q weaker (Ok v) holds = weaker v holds
-if_ok_weaker P Q weaker (Err e) holds = holds

@@ -2,6 +2,7 @@
 use Rattle.std.proofs.Common.{◌≡◌, ℕ, zero, suc, ◌+◌, ◌-◌, ◌^◌, ◌<◌, ◌≤◌, ◌↔◌, ◌⊎◌, inl, inr, List, [], ◌∷◌, ◌++◌, Some, Contains, Result, Ok, Err, length, get_or, slice_get, refl, sym, ap, ◌∙◌, subst, arith, length-append}
 use Rattle.std.proofs.lemmas.Bool.{cases_lt}
 use Rattle.std.proofs.lemmas.Option.{slice_get_within, slice_get_read, slice_get-get_or, get_or_from_slice_get}
+use Rattle.std.proofs.lemmas.Result.{IfOk-weaker}
 use Rattle.std.specs.Prelude.{All, IfOk}
 use Rattle.ix_text.proofs.AscendingLists.{contains_none}
 use Rattle.ix_text.proofs.CollectionTold.{has_collection}
@@ -223,10 +224,9 @@ numbers_found parts query there numbers found all = record {
 pub listed_found : (parts : Parts) (query : Tree) (there : ℕ → Type 0) (numbers : List ℕ) → AreNumbersOf parts query numbers → ((n : ℕ) → there n ↔ Contains numbers n) → AreFound parts query there
 listed_found parts query there numbers of_it same collection of n = (λ has. (of_it.exact collection of n).0 ((same n).0 has), λ at. (same n).1 ((of_it.exact collection of n).1 at))
 
--- what holds of what was made, where another fact holds of it
+-- what holds of what was made, where another fact holds of it: that fact first, so that it tells what it is of
 pub ok_more : {T E : Type 0} (r : Result T E) (P Q : T → Type 0) → IfOk r P → ((x : T) → P x → Q x) → IfOk r Q
-ok_more (Ok x) P Q is more = more x is
-ok_more (Err e) P Q is more = tt
+ok_more r P Q is more = IfOk-weaker r P Q more is
 
 -- where nothing satisfies the query, its numbers are none
 pub nothing_found : (parts : Parts) (query : Tree) → AnswersNothing parts query → AreNumbersOf parts query []

@@ -1,9 +1,10 @@
 use Rattle.std.proofs.Common.{◌<◌, ◌∷◌, ◌++◌, ℕ, Vec, Global, [], map, length}
+use Rattle.std.proofs.lemmas.Result.{IfOk-weaker}
 use Rattle.std.specs.Prelude.{All, string_bytes}
 use Rattle.ix_text.specs.Parts.{terms_of}
 use Rattle.ix_gram.specs.Candidates.{AreCandidates, HasNoMatch}
 use Rattle.ix_gram.specs.Expanding.{AreMatches}
-use Rattle.ix_gram.proofs.Found.{ascending_lists, if_ok_weaker, match_begins, match_low, no_matches}
+use Rattle.ix_gram.proofs.Found.{ascending_lists, match_begins, match_low, no_matches}
 use Rattle.ix_gram.proofs.expanding.expand.Goals as goal
 
 pub returns-in_default-clause-matches : goal.returns-in_default-clause-matches
@@ -20,8 +21,8 @@ matches_in-requires-clause-complete c number is =
 pub returns-then-is_short-clause-within : goal.returns-then-is_short-clause-within
 returns-then-is_short-clause-within c =
     let entries = c.args.index.now.parts.entries in
-    if_ok_weaker (λ (found : Vec ℕ Global). AreMatches (terms_of entries) c.args.pattern.now found.items) (λ (found : Vec ℕ Global). All (λ n. n < length entries) found.items)
-    (λ found are. match_low (λ entry. entry.term) entries c.args.pattern.now found.items are) c.matches_in.result c.matches_in.ensures
+    IfOk-weaker c.matches_in.result (λ (found : Vec ℕ Global). AreMatches (terms_of entries) c.args.pattern.now found.items) (λ (found : Vec ℕ Global). All (λ n. n < length entries) found.items)
+    (λ found are. match_low (λ entry. entry.term) entries c.args.pattern.now found.items are) c.matches_in.ensures
 
 pub common_numbers-requires-clause-ascending : goal.common_numbers-requires-clause-ascending
 common_numbers-requires-clause-ascending c =
@@ -36,5 +37,5 @@ matches_among-requires c =
 pub returns-clause-within : goal.returns-clause-within
 returns-clause-within c =
     let entries = c.args.index.now.parts.entries in
-    if_ok_weaker (λ (found : Vec ℕ Global). AreMatches (terms_of entries) c.args.pattern.now found.items) (λ (found : Vec ℕ Global). All (λ n. n < length entries) found.items)
-    (λ found are. match_low (λ entry. entry.term) entries c.args.pattern.now found.items are) c.matches_among.result c.matches_among.ensures
+    IfOk-weaker c.matches_among.result (λ (found : Vec ℕ Global). AreMatches (terms_of entries) c.args.pattern.now found.items) (λ (found : Vec ℕ Global). All (λ n. n < length entries) found.items)
+    (λ found are. match_low (λ entry. entry.term) entries c.args.pattern.now found.items are) c.matches_among.ensures
