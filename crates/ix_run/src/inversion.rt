@@ -73,7 +73,7 @@ fn add_documents(
 {
     let mut rows = Vec::new(alloc);
     let mut term = String::new(alloc);
-    let mut places = no_words(alloc)?;
+    let mut places = no_words(alloc, byte_total(docs))?;
     let words = places.as_mut_slice();
     for doc in docs {
         let tokens = dictionary.add_text(alloc, &mut term, words, doc.text, stop)?;

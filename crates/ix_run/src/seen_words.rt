@@ -7,8 +7,11 @@ ghost use Rattle.ix_run.specs.SeenWords.{AreHeldWith, AreNoWords, IsHeld, IsKeyO
 use ix_text::Memory;
 use std::alloc::Global;
 
-/// How many places there are for words. A word has one place, and there the last one that had it stands.
+/// How many places there are for words at most, and for how many bytes of text one: a short text is not worth many. A
+/// word has one place, and there the last one stands that had it.
 const PLACES: usize = 4096;
+
+const PLACE_BYTES: usize = 32;
 
 /// A word of more bytes has no key.
 const MOST_BYTES: usize = 16;
@@ -55,11 +58,11 @@ impl WordKey {
         })
     }
 
-    /// The place of its word.
+    /// The place of its word among so many.
     #[inline]
-    fn place(self) -> usize {
+    fn place(self, count: usize) -> usize {
         let mixed = (self.front ^ self.back).wrapping_mul(SPREAD);
-        (mixed >> 52) as usize
+        ((mixed >> 32).wrapping_mul(count as u64) >> 32) as usize
     }
 }
 
@@ -76,8 +79,8 @@ fn number_of_bytes(bytes: &[u8]) -> u64
     number
 }
 
-/// The places of words, of which none was seen yet.
-pub(crate) fn no_words(alloc: Global) -> Result<Vec<SeenWord>, Memory>
+/// The places of the words of texts that have so many bytes together, of which none was seen yet.
+pub(crate) fn no_words(alloc: Global, bytes: usize) -> Result<Vec<SeenWord>, Memory>
     ensures { IfOk result (λ words. AreNoWords words.items) }
 {
     let none = SeenWord {
@@ -88,8 +91,9 @@ pub(crate) fn no_words(alloc: Global) -> Result<Vec<SeenWord>, Memory>
         },
         number: 0,
     };
-    let mut words = Vec::with_capacity(alloc, PLACES)?;
-    for _ in 0..PLACES {
+    let places = PLACES.min(bytes / PLACE_BYTES);
+    let mut words = Vec::with_capacity(alloc, places)?;
+    for _ in 0..places {
         words.push(none)?;
     }
     Ok(words)
@@ -100,7 +104,7 @@ pub(crate) fn no_words(alloc: Global) -> Result<Vec<SeenWord>, Memory>
 pub(crate) fn seen_number(words: &[SeenWord], key: WordKey) -> Option<u32>
     ensures { IfSome result (λ number. IsHeld words.now (record { key = key; number = number })) }
 {
-    match words.get(key.place()) {
+    match words.get(key.place(words.len())) {
         Some(word) if word.key == key => Some(word.number),
         _ => None,
     }
@@ -110,7 +114,7 @@ pub(crate) fn seen_number(words: &[SeenWord], key: WordKey) -> Option<u32>
 pub(crate) fn note_number(words: &mut [SeenWord], key: WordKey, number: u32)
     ensures { AreHeldWith words.old words.new (record { key = key; number = number }) }
 {
-    let place = key.place();
+    let place = key.place(words.len());
     if place < words.len() {
         words[place] = SeenWord { key, number };
     }
