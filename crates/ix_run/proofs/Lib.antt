@@ -40,5 +40,6 @@ pub mod StretchMarks
 pub mod TermLemmas
 pub mod TermRows
 pub mod TextLaws
+pub mod Turning
 pub mod WholeLists
 pub mod Writing

@@ -208,11 +208,22 @@ fn close_posting(
     Ok(())
 }
 
-/// Moves so many bytes from `start` on behind all others.
+/// Moves so many bytes from `start` on behind all others: the others are a few, and each is turned to the front by itself.
 fn move_back(bytes: &mut [u8], start: usize, count: usize)
     requires { start + count ≤ length bytes.old }
     ensures { bytes.new ≡ (take start bytes.old ++ drop (start + count) bytes.old)
         ++ take count (drop start bytes.old) }
 {
-    bytes[start..].rotate_left(count);
+    turn_back(&mut bytes[start..], count);
+}
+
+/// Moves so many bytes from the front behind all others.
+fn turn_back(bytes: &mut [u8], count: usize)
+    requires { count ≤ length bytes.old }
+    ensures { bytes.new ≡ drop count bytes.old ++ take count bytes.old }
+{
+    let others = bytes.len() - count;
+    for _ in 0..others {
+        bytes.rotate_left(bytes.len() - 1);
+    }
 }
