@@ -201,12 +201,9 @@ fn do_line<
             plan,
             collection,
             index,
-        } => match build::run(
+        } => one_file(build::run(
             rt, alloc, files, runs, watch, stop, &plan, collection, index,
-        ) {
-            Ok(()) => Ok(ONE_FILE),
-            Err(refusal) => Err(refusal),
-        },
+        )),
         Line::Live {
             stop,
             plan,
@@ -218,18 +215,20 @@ fn do_line<
             first,
             collection,
             run,
-        } => match run_file::run(alloc, files, stop, first, collection, run) {
-            Ok(()) => Ok(ONE_FILE),
-            Err(refusal) => Err(refusal),
-        },
-        Line::Merge { index, inputs } => match merge::run(rt, alloc, files, index, &inputs) {
-            Ok(()) => Ok(ONE_FILE),
-            Err(refusal) => Err(refusal),
-        },
-        Line::Upgrade { old, new } => match upgrade::run(rt, alloc, files, old, new) {
-            Ok(()) => Ok(ONE_FILE),
-            Err(refusal) => Err(refusal),
-        },
+        } => one_file(run_file::run(alloc, files, stop, first, collection, run)),
+        Line::Merge { index, inputs } => one_file(merge::run(rt, alloc, files, index, &inputs)),
+        Line::Upgrade { old, new } => one_file(upgrade::run(rt, alloc, files, old, new)),
+    }
+}
+
+/// How much a command has done that writes one file, or its refusal.
+fn one_file<'a>(done: Result<(), Refusal<'a>>) -> Result<usize, Refusal<'a>>
+    ensures done { OnOk done.entry (result ≡ Ok 1) }
+    ensures refused { IfErr done.entry (λ refusal. result ≡ Err refusal) }
+{
+    match done {
+        Ok(()) => Ok(ONE_FILE),
+        Err(refusal) => Err(refusal),
     }
 }
 
