@@ -62,7 +62,7 @@ Usage: ix ask [--stop FILE] [--block N] [--bytes N] [--workers W] COLLECTION QUE
   COLLECTION     the file of documents; `-` is the standard input
   QUERY          the query, as one argument
   --stop FILE    a file of words to leave out, one a line
-  --block N      how many documents are inverted at a time,
+  --block N      at most how many documents are inverted at a time,
                  from 1 to 268435456; without it 1024
   --bytes N      in place of --block: documents are inverted at a time until their
                  texts have this many bytes, from 1 to 268435456
@@ -102,7 +102,7 @@ Usage: ix build [--stop FILE] [--block N] [--bytes N] [--workers W] [--runs FOLD
   COLLECTION     the file of documents; `-` is the standard input
   INDEX          the index file to be written; it is created once COLLECTION was read
   --stop FILE    a file of words to leave out, one a line
-  --block N      how many documents are inverted at a time,
+  --block N      at most how many documents are inverted at a time,
                  from 1 to 268435456; without it 1024
   --bytes N      in place of --block: documents are inverted at a time until their
                  texts have this many bytes, from 1 to 268435456
@@ -133,7 +133,7 @@ Usage: ix live [--stop FILE] [--block N] [--bytes N] [--workers W] [--searchers 
 
   SCRIPT         the file of the script; `-` is the standard input
   --stop FILE    a file of words to leave out, one a line
-  --block N      how many added documents are inverted at a time,
+  --block N      at most how many added documents are inverted at a time,
                  from 1 to 268435456; without it 1024
   --bytes N      in place of --block: added documents are inverted at a time until their
                  texts have this many bytes, from 1 to 268435456

@@ -1,5 +1,5 @@
 -- How a cut shares documents among blocks, one after another: a block ends with the document at which it becomes full.
-use Rattle.std.specs.Prelude.{◌≡◌, ℕ, ◌+◌, ◌<◌, ◌≤◌, List, [], ◌∷◌, ◌++◌, length, take, flat_map, All, Some, slice_get}
+use Rattle.std.specs.Prelude.{◌≡◌, ℕ, ◌+◌, ◌<◌, ◌≤◌, List, [], ◌∷◌, ◌++◌, length, take, flat_map, All, Some, slice_get, ⊥}
 use Rattle.ix_text.specs.Collections.{NamedText}
 use Rattle.ix_text.specs.Sizes.{text_bytes}
 use Rattle.ix_build.specs.declared.plan.Cut.{Cut}
@@ -9,6 +9,13 @@ use Rattle.ix_build.specs.declared.plan.Cut.TheVariants.{Docs, Bytes}
 abbrev pub cut_number : Cut → ℕ
 cut_number (Docs n) = n
 cut_number (Bytes n) = n
+
+-- The other cut is of the same kind, and no block of it is full with more.
+abbrev pub IsNoCoarser : Cut → Cut → Type 0
+IsNoCoarser (Docs n) (Docs m) = m ≤ n
+IsNoCoarser (Docs n) (Bytes m) = ⊥
+IsNoCoarser (Bytes n) (Docs m) = ⊥
+IsNoCoarser (Bytes n) (Bytes m) = m ≤ n
 
 -- what a document adds to its block: itself, or the bytes of its text
 abbrev pub weight_of : Cut → NamedText → ℕ

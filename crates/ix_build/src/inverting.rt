@@ -7,6 +7,7 @@ ghost use Rattle.ix_build.specs.BlockMakers.{IsMakerOf};
 ghost use Rattle.ix_build.specs.BuildErrors.{IsInvertRefusal};
 ghost use Rattle.ix_build.specs.RunPieces.{AreRunsOfTexts};
 
+use crate::balanced::balanced_cut;
 use crate::block_maker::BlockMaker;
 use crate::blocks::bounds_of;
 use crate::build_error::BuildError;
@@ -21,6 +22,7 @@ use std::sync::Wait;
 use std::thread::Threads;
 
 /// Inverts the blocks of a collection under a stop list, by the plan's workers, each in a thread of its own (IIR 4.3).
+/// A block of the plan is cut further where some of the workers would have too little to do.
 /// The runs are kept in memory, also where the plan has a folder for them, and hold nothing of the collection: it and
 /// its text may be let go before the runs are merged. Whoever watches is told of each block once it is inverted.
 ///
@@ -38,7 +40,8 @@ pub fn invert_all<R: Threads + Wait + Sync, V: Watch>(
     ensures refused { IfErr result (IsInvertRefusal plan.now.workers) }
 {
     let docs = collection.docs();
-    let Ok(bounds) = bounds_of(alloc, docs, plan.cut()) else {
+    let cut = balanced_cut(docs, plan.cut(), plan.workers());
+    let Ok(bounds) = bounds_of(alloc, docs, cut) else {
         return Err(BuildError::Memory);
     };
     let bounds = bounds.as_slice();

@@ -2,6 +2,7 @@
 //! own, take the blocks of a claim board until none is open, and the runs that they make are merged.
 #![tactic(auto)]
 
+mod balanced;
 mod block_maker;
 mod blocks;
 mod build_error;

@@ -25,6 +25,21 @@ const FIVE_DOCUMENTS_INDEX: &[u8] =
       \x13\0\0\0\0\0\0\0\0\0\0\0\0\0\0\0\x0f\0\0\0\0\0\0\0\x09\0\0\0\0\0\0\0\x0c\0\0\0\0\0\0\0\
       \x05\0\0\0\x02\0\0\0PIIXEND2";
 
+/// A collection text of eight documents, whose texts have 131,072 bytes each.
+pub(crate) fn eight_long_documents(alloc: Global) -> Result<Vec<u8>, AllocError> {
+    let mut text = Vec::new(alloc);
+    for name in *b"abcdefgh" {
+        text.push(name)?;
+        text.push(b'\t')?;
+        for _ in 0..2_048 {
+            text.extend_from_slice(&[b'x'; 61])?;
+            text.extend_from_slice(&[b' ', name, b' '])?;
+        }
+        text.push(b'\n')?;
+    }
+    Ok(text)
+}
+
 /// How often a maker looks at most, before it gives up waiting for the others.
 const TURNS: u64 = 1 << 30;
 

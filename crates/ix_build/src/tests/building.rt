@@ -1,13 +1,15 @@
 //! Collections built by plans: the worked samples, and refused writes.
 ghost use Rattle.std.specs.Prelude.{◌≡◌};
 
-use super::{FIVE_DOCUMENTS, FIVE_DOCUMENTS_INDEX};
-use crate::{BuildError, Cut, Plan, Runs, Unwatched, build, invert_all};
+use super::{FIVE_DOCUMENTS, FIVE_DOCUMENTS_INDEX, eight_long_documents};
+use crate::{BuildError, Cut, Plan, Runs, Unwatched, Watch, build, invert_all};
 use ix_text::{Collection, StopList};
 use std::alloc::Global;
 use std::io::{self, Write};
 use std::process::Abort;
 use std::sync::Wait;
+use std::sync::atomic::AtomicU64;
+use std::sync::atomic::Ordering::SeqCst;
 use std::test::Fail;
 use std::thread::Threads;
 
@@ -92,6 +94,37 @@ fn text_let_go_before_the_merge(rt: HostRuntime) -> Result<(), Fail> {
     let mut out = Vec::new(rt.alloc());
     blocks.merge_into(rt.alloc(), &mut out)?;
     assert_eq!(rt; out.as_slice(), FIVE_DOCUMENTS_INDEX);
+    Ok(())
+}
+
+/// Keeps of how many blocks in all it was told last.
+#[derive(Drop)]
+struct Blocks(AtomicU64);
+
+impl Watch for Blocks {
+    fn inverted(&self, blocks: usize) {
+        self.0.store(blocks as u64, SeqCst);
+    }
+}
+
+#[test]
+fn several_workers_cut_further(rt: HostRuntime) -> Result<(), Fail> {
+    let text = eight_long_documents(rt.alloc())?;
+    let collection = Collection::read(rt.alloc(), &text)?;
+    let stop = StopList::empty(rt.alloc());
+    let mut whole: Option<Vec<u8>> = None;
+    for (workers, want) in [(1, 1), (4, 2)] {
+        let plan = Plan::new(Cut::Docs(1024), workers, Runs::Memory).expect(&rt, "a plan");
+        let seen = Blocks(AtomicU64::new(0));
+        let blocks = invert_all(&rt, rt.alloc(), &collection, &stop, &plan, &seen)?;
+        assert_eq!(rt; seen.0.load(SeqCst), want);
+        let mut out = Vec::new(rt.alloc());
+        blocks.merge_into(rt.alloc(), &mut out)?;
+        if let Some(whole) = &whole {
+            assert!(rt; whole.as_slice() == out.as_slice());
+        }
+        whole = Some(out);
+    }
     Ok(())
 }
 
