@@ -1,5 +1,5 @@
 -- How a cut shares documents among blocks, one after another: a block ends with the document at which it becomes full.
-use Rattle.std.specs.Prelude.{◌≡◌, ℕ, ◌+◌, ◌<◌, ◌≤◌, List, [], ◌∷◌, ◌++◌, length, take, flat_map, All, Some, slice_get, ⊥}
+use Rattle.std.specs.Prelude.{◌≡◌, ℕ, ◌+◌, ◌<◌, ◌≤◌, List, [], ◌∷◌, ◌++◌, length, take, flat_map, All, Some, slice_get}
 use Rattle.ix_text.specs.Collections.{NamedText}
 use Rattle.ix_text.specs.Sizes.{text_bytes}
 use Rattle.ix_build.specs.declared.plan.Cut.{Cut}
