@@ -44,11 +44,15 @@ fn blocks_among(workers: usize, bytes: usize) -> usize {
     workers.saturating_mul(BLOCKS_EACH).min(bytes / LEAST_BYTES)
 }
 
-/// How many of so many a block has where they are shared out among this many blocks: one at least.
+/// How many of so many a block has where they are shared out among this many blocks: one at least, and where there are
+/// no two blocks to share them out among, as many as the cut allows.
 fn share(count: usize, blocks: usize) -> u32
     ensures { 0 < result }
 {
-    let each = (count.saturating_sub(1) / blocks.max(1)).saturating_add(1);
+    if blocks < 2 {
+        return u32::MAX;
+    }
+    let each = (count.saturating_sub(1) / blocks).saturating_add(1);
     u32::try_from(each).unwrap_or(u32::MAX)
 }
 
@@ -75,10 +79,10 @@ mod tests {
             (14_699, 16, 919),
             (16, 16, 1),
             (17, 16, 2),
-            (573, 1, 573),
-            (573, 0, 573),
             (0, 16, 1),
-            (usize::MAX, 0, u32::MAX),
+            (usize::MAX, 2, u32::MAX),
+            (573, 1, u32::MAX),
+            (573, 0, u32::MAX),
         ] {
             assert_eq!(rt; share(count, blocks), want);
         }
@@ -92,7 +96,7 @@ mod tests {
         let collection = Collection::read(rt.alloc(), &text)?;
         for (cut, workers, want) in [
             (Cut::Docs(1024), 4, Cut::Docs(4)),
-            (Cut::Docs(1024), 1, Cut::Docs(8)),
+            (Cut::Docs(1024), 1, Cut::Docs(1024)),
             (Cut::Docs(1), 4, Cut::Docs(1)),
             (Cut::Bytes(1 << 28), 4, Cut::Bytes(1 << 19)),
             (Cut::Bytes(7), 4, Cut::Bytes(7)),
