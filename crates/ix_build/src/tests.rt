@@ -215,22 +215,18 @@ fn lowest_refusal(rt: HostRuntime) -> Result<(), Fail> {
 }
 
 #[test]
-fn no_place(rt: HostRuntime) -> Result<(), Fail> {
-    let makers = testers(rt.alloc(), 3, Rule::Except(&[]))?;
-    assert!(rt; makers.len() == 3);
-    let Outcome { makers, result } = work_all(&rt, rt.alloc(), makers, 0);
-    assert_eq!(rt; result?.len(), 0);
-    assert!(rt; makers.iter().all(|maker| maker.asked().is_empty()));
-    Ok(())
-}
-
-#[test]
 fn more_workers_than_places(rt: HostRuntime) -> Result<(), Fail> {
-    let makers = testers(rt.alloc(), 64, Rule::Except(&[]))?;
-    assert!(rt; makers.len() == 64);
-    let Outcome { makers, result } = work_all(&rt, rt.alloc(), makers, 3);
-    assert_eq!(rt; result?.as_slice(), [0, 1, 2].as_slice());
-    assert_eq!(rt; makers.len(), 64);
+    for (workers, places) in [(3, 0), (64, 3)] {
+        let makers = testers(rt.alloc(), workers, Rule::Except(&[]))?;
+        assert!(rt; 0 < makers.len() && makers.len() <= 64);
+        let Outcome { makers, result } = work_all(&rt, rt.alloc(), makers, places);
+        let pieces = result?;
+        assert!(rt; pieces.len() == places && makers.len() == workers);
+        for (place, piece) in pieces.iter().enumerate() {
+            assert_eq!(rt; *piece, place);
+        }
+        assert!(rt; places > 0 || makers.iter().all(|maker| maker.asked().is_empty()));
+    }
     Ok(())
 }
 

@@ -172,6 +172,28 @@ fn what_is_published_is_found(rt: HostRuntime) -> Result<(), Fail> {
         lines_of(&rt, rt.alloc(), &removals)?.as_str(),
         "2\tfox\n1\n2\n1\tfox\n2\n1\tNOT red\n2\n1\tred\n1\n"
     );
+    let again = [
+        Ask("NOT fox"),
+        Add(RED),
+        Publish,
+        Ask("fox"),
+        Add(FOX),
+        Publish,
+        Ask("fox"),
+        Remove(0),
+        Remove(0),
+        Publish,
+        Ask("fox"),
+        Add(""),
+        Add(RED),
+        Publish,
+        Ask("fox"),
+        Refuse(3),
+    ];
+    assert_eq!(rt;
+        lines_of(&rt, rt.alloc(), &again)?.as_str(),
+        "0\tNOT fox\n1\tfox\n1\n2\tfox\n1\n2\n1\tfox\n2\n2\tfox\n2\n1\n"
+    );
     Ok(())
 }
 
@@ -186,8 +208,18 @@ fn generations(alloc: Global, indexer: &Indexer) -> Result<String, Fail> {
     Ok(text)
 }
 
-/// Adds documents one by one; each is published, and what is found is compared with one index of all so far. The answer
-/// is the generations after each.
+/// Texts of one document, and one of three.
+const TEXTS: [&str; 6] = [
+    RED,
+    FOX,
+    "3\tred\n",
+    "4\tfox red\n",
+    "5\t\n",
+    "6\tred fox red\n7\tfox\n8\t\n",
+];
+
+/// Adds texts one by one; each is published, and what is found is compared with one index of all so far. The answer is the
+/// generations after each.
 fn grow<R: Threads + Wait + Sync>(rt: &R, alloc: Global, pair: &mut Pair) -> Result<String, Fail> {
     let query = Query::parse(
         alloc,
@@ -197,7 +229,7 @@ fn grow<R: Threads + Wait + Sync>(rt: &R, alloc: Global, pair: &mut Pair) -> Res
     let mut all = String::new(alloc);
     let mut told = String::new(alloc);
     for round in 0..40u32 {
-        let text = [RED, FOX, "3\tred\n", "4\tfox red\n", "5\t\n"][(round % 5) as usize];
+        let text = TEXTS[(round % 6) as usize];
         all.push_str(text)?;
         add(rt, alloc, &mut pair.indexer, text)?;
         pair.publish(rt)?;
@@ -206,6 +238,8 @@ fn grow<R: Threads + Wait + Sync>(rt: &R, alloc: Global, pair: &mut Pair) -> Res
             return Err("an answer")?;
         }
         if round < 8 {
+            // No documents change nothing.
+            add(rt, alloc, &mut pair.indexer, "")?;
             told.push_str(&generations(alloc, &pair.indexer)?)?;
             told.push(';')?;
         }
@@ -217,11 +251,17 @@ fn grow<R: Threads + Wait + Sync>(rt: &R, alloc: Global, pair: &mut Pair) -> Res
 fn forty_additions(rt: HostRuntime) -> Result<(), Fail> {
     let mut pair = Pair::open(&rt, rt.alloc())?;
     let told = grow(&rt, rt.alloc(), &mut pair);
-    let last = pair.indexer.remove(40);
-    let named = pair.searcher.names(&[39, 40]);
+    let last = pair.indexer.remove(52);
+    let named = pair.searcher.names(&[51, 52]);
+    let names = pair.searcher.names(&[2, 0, 7]).map_err(|_| "names");
     pair.close(&rt);
     assert_eq!(rt; told?.as_str(), "0 ;1 ;1 0 ;2 ;2 0 ;2 1 ;2 1 0 ;3 ;");
-    assert_eq!(rt; last, Err(LiveError::Number(40)));
+    assert_eq!(rt; last, Err(LiveError::Number(52)));
     assert_eq!(rt; named.err(), Some(NameError::Number(1)));
+    let names = names?;
+    assert_eq!(rt; names.len(), 3);
+    for (name, want) in names.iter().zip(["3", "1", "8"].iter()) {
+        assert_eq!(rt; name.as_str(), *want);
+    }
     Ok(())
 }

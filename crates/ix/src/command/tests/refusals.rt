@@ -1,51 +1,80 @@
 //! What is refused: files, words and writes; and help, which the same words are read for.
-use super::indexes::FIVE_PLAIN;
+use super::disk::Disk;
 use super::runs::NoRuns;
-use super::{FIVE, Made, Row, expect};
+use super::session::{play, tell};
 use crate::command::command_over;
 use crate::help::{
-    HELP, HELP_ON_ASK, HELP_ON_BUILD, HELP_ON_LIVE, HELP_ON_RUN, HELP_ON_SEARCH, HELP_ON_TERMS,
-    HELP_ON_UPGRADE,
+    HELP, HELP_ON_ASK, HELP_ON_BUILD, HELP_ON_LIVE, HELP_ON_MERGE, HELP_ON_RUN, HELP_ON_SEARCH,
+    HELP_ON_TERMS, HELP_ON_UPGRADE,
 };
 use ix_build::Unwatched;
 use std::io;
 use std::io::{ErrorKind, Write};
 use std::test::Fail;
 
+const REFUSED: &str = "\
+$ ix ask bytes y
+! ix: collection 2: NotUtf8(2)
+[2]
+$ ix ask 'no tab' y
+! ix: collection 3: NoTab(1)
+[2]
+$ ix ask 'no name' y
+! ix: collection 4: Name(1)
+[2]
+$ ix ask 'no line end' y
+! ix: collection 5: NoLineEnd(1)
+[2]
+$ ix ask no/such/file y
+! ix: file 1: Read(no/such/file)
+[2]
+$ ix ask large y
+! ix: memory 1: Memory
+[2]
+$ ix ask five
+! ix: arguments refused
+[2]
+$ ix search five.ix
+! ix: arguments refused
+[2]
+$ ix terms five.ix
+! ix: arguments refused
+[2]
+$ ix search five.ix x y
+! ix: arguments refused
+[2]
+$ ix search --stop stop five.ix x
+! ix: arguments refused
+[2]
+$ ix
+! ix: arguments refused
+[2]
+$ ix help find
+! ix: arguments refused
+[2]
+";
+
 #[test]
-fn files_that_are_refused(rt: HostRuntime) -> Result<(), Fail> {
-    for (path, line) in [
-        ("bytes", "ix: collection 2: NotUtf8(2)\n"),
-        ("no tab", "ix: collection 3: NoTab(1)\n"),
-        ("no name", "ix: collection 4: Name(1)\n"),
-        ("no line end", "ix: collection 5: NoLineEnd(1)\n"),
-        ("no/such/file", "ix: file 1: Read(no/such/file)\n"),
-        ("large", "ix: memory 1: Memory\n"),
-        // A refusal is one line, whatever the path.
-        (
-            "a\nb\u{1b}[2J\u{9b}é",
-            "ix: file 1: Read(a\\x0ab\\x1b[2J\\x9bé)\n",
-        ),
-    ] {
-        expect(&rt, &["ask", path, "y"], &Row(2, "", line))?;
-    }
+fn files_and_words_that_are_refused(rt: HostRuntime) -> Result<(), Fail> {
+    play(&rt, REFUSED)
+}
+
+#[test]
+fn a_refusal_is_one_line_whatever_the_path(rt: HostRuntime) -> Result<(), Fail> {
+    let disk = Disk::with_texts(rt.alloc())?;
+    let mut told = String::new(rt.alloc());
+    let words = ["ask", "a\nb\u{1b}[2J\u{9b}é", "y"];
+    tell(&rt, &disk, &NoRuns, &words, &mut told)?;
+    assert_eq!(rt;
+        told.as_str(),
+        "! ix: file 1: Read(a\\x0ab\\x1b[2J\\x9bé)\n[2]\n"
+    );
     Ok(())
 }
 
 #[test]
-fn words_that_are_refused(rt: HostRuntime) -> Result<(), Fail> {
-    let row = Row(2, "", "ix: arguments refused\n");
-    expect(&rt, &["ask", "five"], &row)?;
-    expect(&rt, &["search", "five.ix"], &row)?;
-    expect(&rt, &["terms", "five.ix"], &row)?;
-    expect(&rt, &["search", "five.ix", "x", "y"], &row)?;
-    expect(&rt, &["search", "--stop", "stop", "five.ix", "x"], &row)?;
-    expect(&rt, &[], &row)?;
-    expect(&rt, &["help", "find"], &row)
-}
-
-#[test]
 fn help_of_the_program_and_of_each_command(rt: HostRuntime) -> Result<(), Fail> {
+    let disk = Disk::with_texts(rt.alloc())?;
     for (words, text) in [
         (["--help"].as_slice(), HELP),
         (["-h"].as_slice(), HELP),
@@ -60,10 +89,20 @@ fn help_of_the_program_and_of_each_command(rt: HostRuntime) -> Result<(), Fail> 
         (["build", "--help"].as_slice(), HELP_ON_BUILD),
         (["live", "--help"].as_slice(), HELP_ON_LIVE),
         (["run", "--help"].as_slice(), HELP_ON_RUN),
+        (["merge", "--help"].as_slice(), HELP_ON_MERGE),
+        (["merge", "-h"].as_slice(), HELP_ON_MERGE),
+        (["help", "merge"].as_slice(), HELP_ON_MERGE),
         (["help", "upgrade"].as_slice(), HELP_ON_UPGRADE),
     ] {
-        expect(&rt, words, &Row(0, text, ""))?;
+        let mut told = String::new(rt.alloc());
+        tell(&rt, &disk, &NoRuns, words, &mut told)?;
+        assert_eq!(rt; told.as_str(), text);
     }
+    Ok(())
+}
+
+#[test]
+fn help_shows_what_can_be_asked(rt: HostRuntime) -> Result<(), Fail> {
     for text in [HELP, HELP_ON_ASK, HELP_ON_SEARCH] {
         assert!(rt; text.contains("Usage: ix ") && text.ends_with("\n"));
         assert!(rt; text.contains("\n  a NEAR/3 b ") && text.contains("\n  inter*, re*ed "));
@@ -72,6 +111,7 @@ fn help_of_the_program_and_of_each_command(rt: HostRuntime) -> Result<(), Fail> 
     for text in [HELP, HELP_ON_ASK] {
         assert!(rt; text.contains("\nA collection is a text"));
     }
+    assert!(rt; HELP_ON_MERGE.contains("\nUsage: ix merge INDEX INPUT...\n"));
     Ok(())
 }
 
@@ -91,10 +131,7 @@ impl Write for Full {
 
 #[test]
 fn writes_that_are_refused(rt: HostRuntime) -> Result<(), Fail> {
-    let files = Made {
-        alloc: rt.alloc(),
-        files: &[("five", FIVE), ("five.ix", FIVE_PLAIN)],
-    };
+    let disk = Disk::with_texts(rt.alloc())?;
     for words in [
         ["ask", "five", "y"].as_slice(),
         ["search", "five.ix", "y"].as_slice(),
@@ -105,7 +142,7 @@ fn writes_that_are_refused(rt: HostRuntime) -> Result<(), Fail> {
         let status = command_over(
             &rt,
             rt.alloc(),
-            &files,
+            &disk,
             &NoRuns,
             &Unwatched,
             words,
@@ -118,7 +155,7 @@ fn writes_that_are_refused(rt: HostRuntime) -> Result<(), Fail> {
         let status = command_over(
             &rt,
             rt.alloc(),
-            &files,
+            &disk,
             &NoRuns,
             &Unwatched,
             words,

@@ -1,8 +1,7 @@
 //! `ix build --runs`, over folders of the system and over files that are refused.
 
-use super::building::disk_of_five;
-use super::indexes::FIVE_FRONT_CODED;
-use super::saving::{expect, expect_with, has};
+use super::disk::Disk;
+use super::session::{play, replay};
 use ix_build::{RunFiles, StoreError, SystemFiles};
 use std::test::Fail;
 use std::{env, fs, process};
@@ -39,60 +38,72 @@ impl RunFiles for NoRuns {
     ghost untold = { λ files path bytes writer none. tt };
 }
 
+/// A plan of `ix build --runs`, whose index is compared.
+const PLANS: [&str; 6] = [
+    "--block=2 --workers=3",
+    "--bytes=4 --workers=3",
+    "--block=1024 --workers=3",
+    "--block=2 --workers=1",
+    "--bytes=4 --workers=1",
+    "--block=1024 --workers=1",
+];
+
 #[test]
 fn a_folder_of_runs_changes_no_byte(rt: HostRuntime) -> Result<(), Fail> {
-    let disk = disk_of_five(&rt)?;
+    let alloc = rt.alloc();
+    let disk = Disk::with_texts(alloc)?;
     let runs = SystemFiles { rt: &rt };
     let above = env::temp_dir(&rt)?;
     let process = process::id(rt.process());
-    let folder = format!(in rt.alloc(); "{}/ix-runs-{process}", above.as_path().display())?;
+    let folder = format!(in alloc; "{}/ix-runs-{process}", above.as_path().display())?;
     let folder = folder.as_str();
     fs::create_dir(&rt, folder)?;
-    for cut in ["--block=2", "--bytes=4", "--block=1024"] {
-        for workers in ["--workers=3", "--workers=1"] {
-            let words = ["build", "--runs", folder, cut, workers, "five", "new"];
-            expect_with(&rt, &disk, &runs, &words, "")?;
-            assert!(rt; has(&disk, "new", FIVE_FRONT_CODED));
-        }
+    for plan in PLANS {
+        let session = format!(in alloc;
+            "$ ix build --runs {folder} {plan} five new\n$ cmp new five2.ix\n"
+        )?;
+        replay(&rt, &disk, &runs, &[], session.as_str())?;
     }
-    expect(&rt, &disk, &["build", "--stop=stop", "one", "stopped"], "")?;
-    let wanted = disk.get("stopped").map_err(|_| Fail::from("no file"))?;
-    let words = ["build", "--stop=stop", "one", "new", "--runs", folder];
-    expect_with(&rt, &disk, &runs, &words, "")?;
-    assert!(rt; has(&disk, "new", &wanted));
+    let session = format!(in alloc;
+        "$ ix build --stop=stop one stopped\n$ ix build --stop=stop one new --runs {folder}\n\
+         $ cmp new stopped\n"
+    )?;
+    replay(&rt, &disk, &runs, &[], session.as_str())?;
     // Only an empty folder is removed.
     fs::remove_dir(&rt, folder)?;
     Ok(())
 }
 
+/// The words are read before the collection, and the collection before a run is kept.
+const REFUSED: &str = "\
+$ ix build --runs=none five new
+! ix: build 2: Spill(0)
+[2]
+$ size new
+0
+$ ix build --runs - --block=2 --workers=3 five new
+! ix: build 2: Spill(0)
+[2]
+$ size new
+0
+$ ix build --runs=a --runs=a five new
+! ix: arguments refused
+[2]
+$ ix build five new --runs
+! ix: arguments refused
+[2]
+$ ix ask --runs=a five y
+! ix: arguments refused
+[2]
+$ ix run --runs=a five new
+! ix: arguments refused
+[2]
+$ ix build --runs=none 'no tab' new
+! ix: collection 3: NoTab(1)
+[2]
+";
+
 #[test]
 fn folders_that_are_refused(rt: HostRuntime) -> Result<(), Fail> {
-    let disk = disk_of_five(&rt)?;
-    for words in [
-        ["build", "--runs=none", "five", "new"].as_slice(),
-        [
-            "build",
-            "--runs",
-            "-",
-            "--block=2",
-            "--workers=3",
-            "five",
-            "new",
-        ]
-        .as_slice(),
-    ] {
-        expect(&rt, &disk, words, "ix: build 2: Spill(0)\n")?;
-        assert!(rt; has(&disk, "new", b""));
-    }
-    for words in [
-        ["build", "--runs=a", "--runs=a", "five", "new"].as_slice(),
-        ["build", "five", "new", "--runs"].as_slice(),
-        ["ask", "--runs=a", "five", "y"].as_slice(),
-        ["run", "--runs=a", "five", "new"].as_slice(),
-    ] {
-        expect(&rt, &disk, words, "ix: arguments refused\n")?;
-    }
-    // The words are read before the collection, and the collection before a run is kept.
-    let words = ["build", "--runs=none", "no tab", "new"];
-    expect(&rt, &disk, &words, "ix: collection 3: NoTab(1)\n")
+    play(&rt, REFUSED)
 }

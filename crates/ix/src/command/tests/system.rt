@@ -1,6 +1,6 @@
 //! The program over a file of the system.
 
-use super::FIVE;
+use super::disk::FIVE;
 use crate::command::command;
 use ix_build::{SystemFiles, Unwatched};
 use std::process::Abort;

@@ -1,0 +1,179 @@
+//! Files in memory.
+
+use super::indexes::{DOUBLED, EMPTY, FIVE_FRONT_CODED, FIVE_PLAIN, LONG_TEXT, ONE, RED, STOPPED};
+use crate::files::{FileSource, FileTarget, ReadFault, WriteFault};
+use std::alloc::Global;
+use std::cell::RefCell;
+use std::io;
+use std::io::{Cursor, ErrorKind, Write};
+use std::test::Fail;
+
+/// The five documents that most queries are asked of.
+pub const FIVE: &[u8] = b"a\tx y\nb\ty\nc\t\nd\ty x y\ne\tx\n";
+
+/// A file in memory.
+#[derive(Drop)]
+struct Entry {
+    path: String,
+    bytes: Vec<u8>,
+}
+
+/// Files in memory that can be read and written. The file `none` cannot be created, the file `full` takes nine bytes, and
+/// there is no memory to read the file `large`.
+#[derive(Drop)]
+pub struct Disk {
+    alloc: Global,
+    entries: RefCell<Vec<Entry>>,
+}
+
+impl Disk {
+    /// The texts and indexes of the tests.
+    pub fn with_texts(alloc: Global) -> Result<Disk, Fail> {
+        let disk = Disk {
+            alloc,
+            entries: RefCell::new(Vec::new(alloc)),
+        };
+        for (path, bytes) in [
+            ("five", FIVE),
+            ("ab", b"a\tx y\nb\ty\n".as_slice()),
+            ("cd", b"c\t\nd\ty x y\n".as_slice()),
+            ("e", b"e\tx\n".as_slice()),
+            ("empty", b"".as_slice()),
+            ("one", b"d\tflights to london\n".as_slice()),
+            ("stop", b"to\n".as_slice()),
+            ("to of", b"To\n\nof".as_slice()),
+            ("two words", b"to be\n".as_slice()),
+            ("bytes", b"a\t\xff\n".as_slice()),
+            ("no tab", b"x\n".as_slice()),
+            ("no name", b"\ty\n".as_slice()),
+            ("no line end", b"a\tb".as_slice()),
+            ("long text", LONG_TEXT),
+            ("zeros", [0; 64].as_slice()),
+            ("empty.ix", EMPTY),
+            ("one.ix", ONE),
+            ("five.ix", FIVE_PLAIN),
+            ("five2.ix", FIVE_FRONT_CODED),
+            ("stopped.ix", STOPPED),
+            ("red.ix", RED),
+            ("short.ix", &EMPTY[..63]),
+            ("cut.ix", &ONE[..80]),
+            ("doubled.ix", DOUBLED),
+        ] {
+            disk.put(path, bytes)?;
+        }
+        Ok(disk)
+    }
+
+    /// The file of this path has these bytes from now on.
+    pub fn put(&self, path: &str, bytes: &[u8]) -> Result<(), Fail> {
+        Ok(self.save(path, bytes).map_err(|_| "the disk is full")?)
+    }
+
+    fn save(&self, path: &str, bytes: &[u8]) -> Result<(), WriteFault> {
+        let Ok(mut entries) = self.entries.try_borrow_mut() else {
+            return Err(WriteFault::Refused);
+        };
+        let path = String::from_str(self.alloc, path)?;
+        let bytes = Vec::from_slice(self.alloc, bytes)?;
+        match entries.push(Entry { path, bytes }) {
+            Ok(()) => Ok(()),
+            Err(_) => Err(WriteFault::Memory),
+        }
+    }
+
+    /// The bytes of a file, as it was put last.
+    pub fn get(&self, path: &str) -> Result<Vec<u8>, ReadFault> {
+        let Ok(entries) = self.entries.try_borrow() else {
+            return Err(ReadFault::Refused);
+        };
+        if path == "large" {
+            return Err(ReadFault::Memory);
+        }
+        for entry in entries.iter().rev() {
+            if entry.path.as_str() == path {
+                return match Vec::from_slice(self.alloc, &entry.bytes) {
+                    Ok(bytes) => Ok(bytes),
+                    Err(_) => Err(ReadFault::Memory),
+                };
+            }
+        }
+        Err(ReadFault::Refused)
+    }
+
+    /// What is said of two files: nothing where they are the same.
+    pub fn compare(&self, one: &str, other: &str) -> &'static str {
+        match (self.get(one), self.get(other)) {
+            (Ok(one), Ok(other)) if one.as_slice() == other.as_slice() => "",
+            (Ok(_), Ok(_)) => "they differ\n",
+            _ => "no such file\n",
+        }
+    }
+}
+
+impl FileSource for Disk {
+    ghost use Rattle.ix.specs.Files.{AnyBytes};
+
+    type Reader = Cursor<Vec<u8>>;
+
+    ghost holds = { λ _. AnyBytes };
+
+    fn read(&self, path: &str, room: usize) -> Result<Vec<u8>, ReadFault> {
+        let mut bytes = self.get(path)?;
+        bytes.truncate(room);
+        Ok(bytes)
+    }
+
+    fn open(&self, path: &str) -> Result<Cursor<Vec<u8>>, ReadFault> {
+        Ok(Cursor::new(self.get(path)?))
+    }
+
+    ghost untold = { λ files path bytes reader none. tt };
+}
+
+/// A writer that takes so many bytes.
+#[derive(Drop)]
+pub struct Narrow {
+    taken: Vec<u8>,
+    room: usize,
+}
+
+impl Write for Narrow {
+    fn write(&mut self, bytes: &[u8]) -> io::Result<usize> {
+        let count = bytes.len().min(self.room);
+        if count == 0 && !bytes.is_empty() {
+            return Err(io::Error::from(ErrorKind::StorageFull));
+        }
+        self.taken.extend_from_slice(&bytes[..count])?;
+        self.room -= count;
+        Ok(count)
+    }
+
+    fn flush(&mut self) -> io::Result<()> {
+        Ok(())
+    }
+}
+
+impl FileTarget for Disk {
+    ghost use Rattle.ix.specs.Files.{AnyBytes};
+
+    type Writer = Narrow;
+
+    ghost saved = { λ _. AnyBytes };
+
+    fn create(&self, path: &str) -> Result<Narrow, WriteFault> {
+        if path == "none" {
+            return Err(WriteFault::Refused);
+        }
+        self.save(path, b"")?;
+        Ok(Narrow {
+            taken: Vec::new(self.alloc),
+            room: if path == "full" { 9 } else { usize::MAX },
+        })
+    }
+
+    fn close(&self, path: &str, writer: Narrow) -> Result<(), WriteFault> {
+        self.save(path, &writer.taken)
+    }
+
+    ghost untold = { λ files path bytes writer none. tt };
+}
