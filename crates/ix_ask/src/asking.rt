@@ -21,9 +21,6 @@ use std::sync::Wait;
 use std::thread::Threads;
 use thiserror::Error;
 
-#[cfg(test)]
-mod tests;
-
 /// Why a question was refused. What it wraps says which rule was broken.
 #[derive(Debug, Drop, PartialEq, Eq, Error)]
 pub enum AskError {

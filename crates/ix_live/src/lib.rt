@@ -37,6 +37,3 @@ pub use news::News;
 pub use opening::live;
 pub use searcher::Searcher;
 pub use version::Version;
-
-#[cfg(test)]
-mod tests;

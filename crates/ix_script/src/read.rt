@@ -151,6 +151,3 @@ fn read_number(alloc: Global, digits: &str) -> Result<Option<u32>, AllocError>
     }
     Ok(Some(number))
 }
-
-#[cfg(test)]
-mod tests;

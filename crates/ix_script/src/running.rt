@@ -228,6 +228,3 @@ fn publish<'e, R: Wait>(rt: &R, indexer: &mut Indexer, team: &mut Team) -> Resul
         Err(error) => Err(RunError::Live(error)),
     }
 }
-
-#[cfg(test)]
-mod tests;

@@ -123,6 +123,3 @@ impl Team {
         join_mut(rt, &mut asks, beside)
     }
 }
-
-#[cfg(test)]
-mod tests;

@@ -1,5 +1,4 @@
-use super::read_script;
-use crate::step::Step;
+use ix_script::{Step, read_script};
 use ix_text::StopList;
 use std::alloc::Global;
 use std::test::Fail;

@@ -2,8 +2,8 @@
 ghost use Rattle.std.specs.Prelude.{◌≡◌};
 
 use super::answer_of_one;
-use crate::{Indexer, LiveError, NameError, Searcher, live};
 use ix_build::{Cut, Plan, Runs};
+use ix_live::{Indexer, LiveError, NameError, Searcher, live};
 use ix_query::Query;
 use ix_text::{Collection, StopList};
 use std::alloc::Global;

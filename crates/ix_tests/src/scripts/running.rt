@@ -1,11 +1,8 @@
 //! What no clause says: the very lines that whole scripts write, over files that the test makes up.
 
-use super::run_steps;
-use crate::collection_files::{CollectionFiles, FileFault};
-use crate::read::read_script;
-use crate::run_error::RunError;
 use ix_build::{Cut, Plan, Runs};
 use ix_live::LiveError;
+use ix_script::{CollectionFiles, FileFault, RunError, read_script, run_steps};
 use ix_text::StopList;
 use std::alloc::Global;
 use std::io;

@@ -2,10 +2,10 @@
 ghost use Rattle.std.specs.Prelude.{◌≡◌, ◌<◌, All, IfOk, vec_len};
 ghost use Rattle.ix_script.specs.Teams.{IsOfIndex};
 
-use super::Team;
 use ix_build::{Cut, Plan, Runs};
 use ix_live::{Indexer, News, Searcher, live};
 use ix_query::Query;
+use ix_script::Team;
 use ix_text::{Collection, StopList};
 use std::alloc::Global;
 use std::snapshot::Snapshot;

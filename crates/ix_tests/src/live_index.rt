@@ -5,9 +5,9 @@ mod refusals;
 mod removing;
 mod searching;
 
-use crate::{LiveError, NameError};
 use ix_build::{BuildError, Cut, Plan, Runs, build};
 use ix_file::Volume;
+use ix_live::{LiveError, NameError};
 use ix_query::{Query, answer};
 use ix_text::{Collection, StopList};
 use std::alloc::Global;

@@ -1,6 +1,6 @@
 //! Each plan gives one answer; writes that are refused at each byte, and a flush that is.
 
-use super::{AskError, ask};
+use ix_ask::{AskError, ask};
 use ix_build::{Cut, Plan, Runs};
 use ix_text::StopList;
 use std::io;

@@ -1,6 +1,6 @@
 //! Searchers in threads of their own, beside an indexer that publishes.
 use super::searching::{FOX, RED, add};
-use crate::{Indexer, NameError, Searcher, live};
+use ix_live::{Indexer, NameError, Searcher, live};
 use ix_query::Query;
 use ix_text::StopList;
 use std::alloc::{AllocError, Global};

@@ -1,9 +1,9 @@
 //! Calls that are refused, and the same calls afterwards. Where something is refused to one of them from outside, the
 //! test makes the call again, and comes to the same end.
 use super::searching::{Act, FOX, RED, lines_of};
-use crate::{Indexer, Searcher, live};
 use Act::{Add, Ask, Publish, Refuse, Remove};
 use ix_build::{Cut, Plan, Runs};
+use ix_live::{Indexer, Searcher, live};
 use ix_query::Query;
 use ix_text::{Collection, StopList};
 use std::alloc::Global;
