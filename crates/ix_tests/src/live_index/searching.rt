@@ -12,13 +12,13 @@ use std::sync::Wait;
 use std::test::*;
 use std::thread::Threads;
 
-pub const RED: &str = "1\tred fox\n";
+pub(super) const RED: &str = "1\tred fox\n";
 
-pub const FOX: &str = "2\tfox\n";
+pub(super) const FOX: &str = "2\tfox\n";
 
 /// What is done to a live index.
 #[derive(Clone, Copy)]
-pub enum Act<'a> {
+pub(super) enum Act<'a> {
     Add(&'a str),
     Remove(u32),
     /// The removal of a number that no document has.
@@ -30,14 +30,14 @@ pub enum Act<'a> {
 use Act::{Add, Ask, Publish, Refuse, Remove};
 
 /// An indexer, and a searcher that learns what it publishes.
-pub struct Pair {
+pub(super) struct Pair {
     pub indexer: Indexer,
     pub searcher: Searcher,
     ghost one: { searcher.history.book ≡ indexer.book },
 }
 
 impl Pair {
-    pub fn open<R: Wait>(rt: &R, alloc: Global) -> Result<Pair, Fail> {
+    pub(super) fn open<R: Wait>(rt: &R, alloc: Global) -> Result<Pair, Fail> {
         let (indexer, mut searchers) = live(rt, alloc, StopList::empty(alloc), 1)?;
         let Some(searcher) = searchers.pop() else {
             unreachable!()
@@ -45,7 +45,7 @@ impl Pair {
         Ok(Pair { indexer, searcher })
     }
 
-    pub fn publish<R: Wait>(&mut self, rt: &R) -> Result<(), Fail> {
+    pub(super) fn publish<R: Wait>(&mut self, rt: &R) -> Result<(), Fail> {
         let news = self.indexer.publish(rt).map_err(|_| "publish")?;
         self.searcher.learn(&news);
         Ok(())
@@ -86,7 +86,7 @@ impl Pair {
         Ok(lines)
     }
 
-    pub fn close<R: Wait>(self, rt: &R) {
+    pub(super) fn close<R: Wait>(self, rt: &R) {
         let Pair {
             indexer,
             searcher: _searcher,
@@ -112,7 +112,7 @@ impl Pair {
 }
 
 /// Adds the documents of a collection text.
-pub fn add<R: Threads + Wait + Sync>(
+pub(super) fn add<R: Threads + Wait + Sync>(
     rt: &R,
     alloc: Global,
     indexer: &mut Indexer,
@@ -127,7 +127,7 @@ pub fn add<R: Threads + Wait + Sync>(
 }
 
 /// The lines that the asks among these print.
-pub fn lines_of<R: Threads + Wait + Sync>(
+pub(super) fn lines_of<R: Threads + Wait + Sync>(
     rt: &R,
     alloc: Global,
     acts: &[Act<'_>],

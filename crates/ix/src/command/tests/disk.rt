@@ -28,7 +28,7 @@ pub struct Disk {
 
 impl Disk {
     /// The texts and indexes of the tests.
-    pub fn with_texts(alloc: Global) -> Result<Disk, Fail> {
+    pub(super) fn with_texts(alloc: Global) -> Result<Disk, Fail> {
         let disk = Disk {
             alloc,
             entries: RefCell::new(Vec::new(alloc)),
@@ -65,7 +65,7 @@ impl Disk {
     }
 
     /// The file of this path has these bytes from now on.
-    pub fn put(&self, path: &str, bytes: &[u8]) -> Result<(), Fail> {
+    pub(super) fn put(&self, path: &str, bytes: &[u8]) -> Result<(), Fail> {
         Ok(self.save(path, bytes).map_err(|_| "the disk is full")?)
     }
 
@@ -82,7 +82,7 @@ impl Disk {
     }
 
     /// The bytes of a file, as it was put last.
-    pub fn get(&self, path: &str) -> Result<Vec<u8>, ReadFault> {
+    pub(super) fn get(&self, path: &str) -> Result<Vec<u8>, ReadFault> {
         let Ok(entries) = self.entries.try_borrow() else {
             return Err(ReadFault::Refused);
         };
@@ -101,7 +101,7 @@ impl Disk {
     }
 
     /// What is said of two files: nothing where they are the same.
-    pub fn compare(&self, one: &str, other: &str) -> &'static str {
+    pub(super) fn compare(&self, one: &str, other: &str) -> &'static str {
         match (self.get(one), self.get(other)) {
             (Ok(one), Ok(other)) if one.as_slice() == other.as_slice() => "",
             (Ok(_), Ok(_)) => "they differ\n",

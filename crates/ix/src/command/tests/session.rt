@@ -16,7 +16,7 @@ use std::test::Fail;
 use std::thread::Threads;
 
 /// Runs the program, and tells what it prints and its status.
-pub fn tell<R: AllocGlobal + Abort + Threads + Wait + Sync, S: RunFiles>(
+pub(super) fn tell<R: AllocGlobal + Abort + Threads + Wait + Sync, S: RunFiles>(
     rt: &R,
     disk: &Disk,
     runs: &S,
@@ -95,7 +95,7 @@ fn step<'x, R: AllocGlobal + Abort + Threads + Wait + Sync, S: RunFiles>(
 }
 
 /// Plays a session over a disk again, with these words before each that stands behind `? `, and with runs in these files.
-pub fn replay<'x, R: AllocGlobal + Abort + Threads + Wait + Sync, S: RunFiles>(
+pub(super) fn replay<'x, R: AllocGlobal + Abort + Threads + Wait + Sync, S: RunFiles>(
     rt: &R,
     disk: &Disk,
     runs: &S,
@@ -111,7 +111,7 @@ pub fn replay<'x, R: AllocGlobal + Abort + Threads + Wait + Sync, S: RunFiles>(
 }
 
 /// The same with words that have their last behind `? `.
-pub fn play_behind<'x, R: AllocGlobal + Abort + Threads + Wait + Sync>(
+pub(super) fn play_behind<'x, R: AllocGlobal + Abort + Threads + Wait + Sync>(
     rt: &R,
     disk: &Disk,
     before: &[&'x str],
@@ -121,7 +121,7 @@ pub fn play_behind<'x, R: AllocGlobal + Abort + Threads + Wait + Sync>(
 }
 
 /// The same over a disk as it is at first.
-pub fn play<R: AllocGlobal + Abort + Threads + Wait + Sync>(
+pub(super) fn play<R: AllocGlobal + Abort + Threads + Wait + Sync>(
     rt: &R,
     session: &str,
 ) -> Result<(), Fail> {
