@@ -102,10 +102,16 @@ impl Disk {
 
     /// What is said of two files: nothing where they are the same.
     pub(super) fn compare(&self, one: &str, other: &str) -> &'static str {
-        match (self.get(one), self.get(other)) {
-            (Ok(one), Ok(other)) if one.as_slice() == other.as_slice() => "",
-            (Ok(_), Ok(_)) => "they differ\n",
-            _ => "no such file\n",
+        let Ok(one) = self.get(one) else {
+            return "no such file\n";
+        };
+        let Ok(other) = self.get(other) else {
+            return "no such file\n";
+        };
+        if one.as_slice() == other.as_slice() {
+            ""
+        } else {
+            "they differ\n"
         }
     }
 }
