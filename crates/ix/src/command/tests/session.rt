@@ -65,12 +65,12 @@ fn words_of<'a>(alloc: Global, line: &'a str) -> Result<Vec<&'a str>, Fail> {
 }
 
 /// Does what one line says, and tells what comes of it. A line that says nothing is one that was printed.
-fn step<'x, R: AllocGlobal + Abort + Threads + Wait + Sync, S: RunFiles>(
+fn step<R: AllocGlobal + Abort + Threads + Wait + Sync, S: RunFiles>(
     rt: &R,
     disk: &Disk,
     runs: &S,
-    before: &[&'x str],
-    line: &'x str,
+    before: &[&str],
+    line: &str,
     told: &mut String,
 ) -> Result<(), Fail> {
     let alloc = rt.alloc();
@@ -81,7 +81,10 @@ fn step<'x, R: AllocGlobal + Abort + Threads + Wait + Sync, S: RunFiles>(
     if let Some(words) = line.strip_prefix("$ ix") {
         tell(rt, disk, runs, &words_of(alloc, words)?, told)?;
     } else if let Some(last) = line.strip_prefix("? ") {
-        let mut words = Vec::from_slice(alloc, before)?;
+        let mut words = Vec::new(alloc);
+        for word in before {
+            words.push(*word)?;
+        }
         words.push(last)?;
         tell(rt, disk, runs, &words, told)?;
     } else if let Some(paths) = line.strip_prefix("$ cmp ") {
@@ -95,12 +98,12 @@ fn step<'x, R: AllocGlobal + Abort + Threads + Wait + Sync, S: RunFiles>(
 }
 
 /// Plays a session over a disk again, with these words before each that stands behind `? `, and with runs in these files.
-pub(super) fn replay<'x, R: AllocGlobal + Abort + Threads + Wait + Sync, S: RunFiles>(
+pub(super) fn replay<R: AllocGlobal + Abort + Threads + Wait + Sync, S: RunFiles>(
     rt: &R,
     disk: &Disk,
     runs: &S,
-    before: &[&'x str],
-    session: &'x str,
+    before: &[&str],
+    session: &str,
 ) -> Result<(), Fail> {
     let mut told = String::new(rt.alloc());
     for line in session.lines() {
@@ -111,11 +114,11 @@ pub(super) fn replay<'x, R: AllocGlobal + Abort + Threads + Wait + Sync, S: RunF
 }
 
 /// The same with words that have their last behind `? `.
-pub(super) fn play_behind<'x, R: AllocGlobal + Abort + Threads + Wait + Sync>(
+pub(super) fn play_behind<R: AllocGlobal + Abort + Threads + Wait + Sync>(
     rt: &R,
     disk: &Disk,
-    before: &[&'x str],
-    rows: &'x str,
+    before: &[&str],
+    rows: &str,
 ) -> Result<(), Fail> {
     replay(rt, disk, &NoRuns, before, rows)
 }

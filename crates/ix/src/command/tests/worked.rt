@@ -25,11 +25,11 @@ fn disk_of<R: AllocGlobal + Abort + Threads + Wait + Sync>(
 }
 
 /// Asks the text and searches its index: both answer each query with its rows.
-fn answers<'x, R: AllocGlobal + Abort + Threads + Wait + Sync>(
+fn answers<R: AllocGlobal + Abort + Threads + Wait + Sync>(
     rt: &R,
     text: &[u8],
-    option: &'x str,
-    rows: &'x str,
+    option: &str,
+    rows: &str,
 ) -> Result<(), Fail> {
     let disk = disk_of(rt, text, option)?;
     play_behind(rt, &disk, &["search", "index"], rows)?;
