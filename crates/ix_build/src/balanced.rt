@@ -1,6 +1,6 @@
 //! The cut of a collection whose runs are kept in memory: fine enough that no worker waits long for the others.
 
-ghost use Rattle.std.specs.Prelude.{◌<◌};
+ghost use Rattle.std.specs.Prelude.{◌≡◌, ◌<◌};
 ghost use Rattle.ix_build.specs.Blocks.{IsNoCoarser, cut_number};
 
 use crate::plan::Cut;
@@ -13,12 +13,16 @@ const BLOCKS_EACH: usize = 8;
 /// But there are no more blocks than texts of this many bytes, since each run takes its part of the merge.
 const LEAST_BYTES: usize = 1 << 19;
 
-/// The cut into blocks, or a finer one where some of the workers would have too few of its blocks.
+/// The cut into blocks, or a finer one where some of several workers would have too few of its blocks.
 pub(crate) fn balanced_cut(docs: &[Doc<'_>], cut: Cut, workers: usize) -> Cut
     requires { 0 < cut_number cut }
     ensures some { 0 < cut_number result }
     ensures no_coarser { IsNoCoarser cut result }
+    ensures alone { workers < 2 → result ≡ cut }
 {
+    if workers < 2 {
+        return cut;
+    }
     let bytes = text_bytes(docs);
     let blocks = blocks_among(workers, bytes);
     match cut {
@@ -38,9 +42,6 @@ fn text_bytes(docs: &[Doc<'_>]) -> usize {
 
 /// How many blocks so many workers have at least of texts of so many bytes.
 fn blocks_among(workers: usize, bytes: usize) -> usize {
-    if workers < 2 {
-        return 1;
-    }
     workers.saturating_mul(BLOCKS_EACH).min(bytes / LEAST_BYTES)
 }
 
@@ -66,7 +67,6 @@ mod tests {
     #[test]
     fn several_workers_have_several_blocks_each(rt: HostRuntime) -> Result<(), Fail> {
         for (workers, bytes, want) in [
-            (1, 100_000_000, 1),
             (2, 100_000_000, 16),
             (4, 100_000_000, 32),
             (64, 100_000_000, 190),
@@ -97,6 +97,7 @@ mod tests {
         for (cut, workers, want) in [
             (Cut::Docs(1024), 4, Cut::Docs(4)),
             (Cut::Docs(1024), 1, Cut::Docs(1024)),
+            (Cut::Bytes(1 << 28), 1, Cut::Bytes(1 << 28)),
             (Cut::Docs(1), 4, Cut::Docs(1)),
             (Cut::Bytes(1 << 28), 4, Cut::Bytes(1 << 19)),
             (Cut::Bytes(7), 4, Cut::Bytes(7)),
