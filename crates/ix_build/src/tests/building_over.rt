@@ -151,10 +151,9 @@ fn times_saved(stores: &[Shelf<'_>], place: usize) -> usize {
 #[test]
 fn five_documents_over_stores(rt: HostRuntime) -> Result<(), Fail> {
     assert_eq!(rt; RUNS.map(|run| run.len()), [41, 39, 28]);
-    for workers in [1, 2, 3, 64] {
-        // As many stores are at work at once as there are blocks for.
+    // Stores that wait for none, and then two and three that wait for one another.
+    for (workers, meet) in [(1, 0), (2, 0), (3, 0), (64, 0), (2, 2), (3, 3)] {
         let begun = AtomicU64::new(0);
-        let meet = workers.min(3) as u64;
         let stores = shelves(rt.alloc(), workers, &RUNS, &[], &begun, meet)?;
         let (BuiltOver { stores, result }, out) = built(&rt, rt.alloc(), stores)?;
         assert_eq!(rt; result, Ok(()));

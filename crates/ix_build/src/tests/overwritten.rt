@@ -26,10 +26,11 @@ fn changed(alloc: Global, run: &[u8], at: usize, bits: u8) -> Result<Vec<u8>, Fa
     Ok(bytes)
 }
 
-/// What two stores come to that give back these bytes as the run of a place, and what was written.
+/// What so many stores come to that give back these bytes as the run of a place, and what was written.
 fn overwritten(
     rt: &(impl Abort + Threads + Wait + Sync),
     alloc: Global,
+    workers: usize,
     place: usize,
     bytes: &[u8],
 ) -> Result<(Option<BuildError>, Vec<u8>), Fail> {
@@ -40,7 +41,7 @@ fn overwritten(
         _ => [zero, one, bytes],
     };
     let begun = AtomicU64::new(0);
-    let stores = shelves(alloc, 2, &given, &[], &begun, 0)?;
+    let stores = shelves(alloc, workers, &given, &[], &begun, 0)?;
     let (BuiltOver { stores: _, result }, out) = built(rt, alloc, stores)?;
     Ok((result.err(), out))
 }
@@ -54,7 +55,7 @@ fn a_changed_run_spills(rt: HostRuntime) -> Result<(), Fail> {
             for bits in [128, 1] {
                 if at < *head || bits == 128 {
                     let bytes = changed(rt.alloc(), run, at, bits)?;
-                    let (error, out) = overwritten(&rt, rt.alloc(), place, &bytes)?;
+                    let (error, out) = overwritten(&rt, rt.alloc(), 2, place, &bytes)?;
                     assert_eq!(rt; error, Some(BuildError::Spill(place)), "{at} {bits}");
                     assert!(rt;
                         FIVE_DOCUMENTS_INDEX.starts_with(out.as_slice())
@@ -75,6 +76,7 @@ fn a_run_cut_short_spills(rt: HostRuntime) -> Result<(), Fail> {
         let (error, out) = overwritten(
             &rt,
             rt.alloc(),
+            3,
             place,
             &run[..run.len().saturating_sub(2)],
         )?;
