@@ -86,6 +86,12 @@ $ ix ask five '  '
 $ ix search five.ix ''
 ! ix: query 1: Empty
 [2]
+$ ix search five.ix '  '
+! ix: query 1: Empty
+[2]
+$ ix search five2.ix ''
+! ix: query 1: Empty
+[2]
 $ ix search five2.ix '  '
 ! ix: query 1: Empty
 [2]
@@ -231,7 +237,9 @@ fn files_that_are_no_index(rt: HostRuntime) -> Result<(), Fail> {
         ("large", "memory 1: Memory"),
     ] {
         // The index is looked at before the query, or before the pattern.
-        let rows = format!(in rt.alloc(); "? y\n! ix: {line}\n[2]\n? x y\n! ix: {line}\n[2]\n")?;
+        let refused = format!(in rt.alloc(); "! ix: {line}\n[2]\n")?;
+        let refused = refused.as_str();
+        let rows = format!(in rt.alloc(); "? y\n{refused}? y*\n{refused}? x y\n{refused}")?;
         play_behind(&rt, &disk, &["search", path], rows.as_str())?;
         play_behind(&rt, &disk, &["terms", path], rows.as_str())?;
     }

@@ -100,6 +100,17 @@ impl Disk {
         Err(ReadFault::Refused)
     }
 
+    /// Tells the first eight bytes of a file and the last eight, in a line.
+    pub(super) fn tell_marks(&self, path: &str, told: &mut String) -> Result<(), Fail> {
+        let bytes = self.get(path).map_err(|_| "no file")?;
+        let last = bytes.len().checked_sub(8).ok_or("a short file")?;
+        told.push_str(str::from_utf8(&bytes[..8]).map_err(|_| "a mark")?)?;
+        told.push(' ')?;
+        told.push_str(str::from_utf8(&bytes[last..]).map_err(|_| "a mark")?)?;
+        told.push('\n')?;
+        Ok(())
+    }
+
     /// What is said of two files: nothing where they are the same.
     pub(super) fn compare(&self, one: &str, other: &str) -> &'static str {
         let Ok(one) = self.get(one) else {

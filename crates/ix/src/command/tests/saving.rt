@@ -93,18 +93,26 @@ const UPGRADES: &str = "\
 $ ix upgrade empty.ix new
 $ size new
 64
+$ marks new
+PIIX0002 PIIXEND2
 $ ix upgrade new newer
 $ cmp new newer
 $ ix upgrade one.ix new
 $ size new
 81
+$ marks new
+PIIX0002 PIIXEND2
 $ ix upgrade new newer
 $ cmp new newer
 $ ix upgrade five2.ix new
 $ cmp new five2.ix
+$ size new
+119
 $ ix upgrade stopped.ix new
 $ size new
 174
+$ marks new
+PIIX0002 PIIXEND2
 $ ix upgrade new newer
 $ cmp new newer
 $ ix upgrade five.ix new

@@ -1,9 +1,9 @@
 //! Sessions: what is typed, and what is printed, as on a terminal.
 //!
 //! Behind `$ ix` stand the words of a command line, between spaces or in apostrophes; behind `? ` the last word alone,
-//! whatever is in it, where the others are those of the session. Then come the lines of the standard output, those of the
-//! error output behind `! `, and the status in brackets, where it is not 0. `$ cmp A B` says whether two files differ, and
-//! `$ size A` how many bytes a file has.
+//! whatever is in it, where the others are those of the session. Then comes the standard output as it is, the error
+//! output behind `! `, which is one line, and the status in brackets, where it is not 0. `$ cmp A B` says whether two files
+//! differ, `$ size A` how many bytes a file has, and `$ marks A` what its first and last eight are.
 
 use super::disk::Disk;
 use super::runs::NoRuns;
@@ -36,10 +36,9 @@ pub(super) fn tell<R: AllocGlobal + Abort + Threads + Wait + Sync, S: RunFiles>(
         &mut err,
     );
     told.push_str(str::from_utf8(&out).map_err(|_| "output")?)?;
-    for line in str::from_utf8(&err).map_err(|_| "error output")?.lines() {
+    if !err.is_empty() {
         told.push_str("! ")?;
-        told.push_str(line)?;
-        told.push('\n')?;
+        told.push_str(str::from_utf8(&err).map_err(|_| "error output")?)?;
     }
     if status != 0 {
         told.push_str(&format!(in rt.alloc(); "[{status}]\n")?)?;
@@ -93,6 +92,8 @@ fn step<R: AllocGlobal + Abort + Threads + Wait + Sync, S: RunFiles>(
     } else if let Some(path) = line.strip_prefix("$ size ") {
         let bytes = disk.get(path).map_err(|_| "no file")?;
         told.push_str(&format!(in alloc; "{}\n", bytes.len())?)?;
+    } else if let Some(path) = line.strip_prefix("$ marks ") {
+        disk.tell_marks(path, told)?;
     }
     Ok(())
 }

@@ -182,9 +182,26 @@ const REFUSED_QUERIES: &str = r#"? a b
 [2]
 "#;
 
+const EMPTY_QUERIES: &str = "\
+$ ix search index ''
+! ix: query 1: Empty
+[2]
+$ ix search index '  '
+! ix: query 1: Empty
+[2]
+$ ix ask --block=1 text ''
+! ix: query 1: Empty
+[2]
+$ ix ask --block=1 text '  '
+! ix: query 1: Empty
+[2]
+";
+
 #[test]
 fn queries_that_are_refused(rt: HostRuntime) -> Result<(), Fail> {
     answers(&rt, b"d\ta b\n", "--block=1", REFUSED_QUERIES)?;
+    let disk = disk_of(&rt, b"d\ta b\n", "--block=1")?;
+    play_behind(&rt, &disk, &[], EMPTY_QUERIES)?;
     let mut deep = String::new(rt.alloc());
     for _ in 0..64 {
         deep.push_str("NOT ")?;
