@@ -1,11 +1,11 @@
 -- Chains that build a command for `clap`.
 use Rattle.std.proofs.Common.{◌≡◌, ◌∙◌, ap, ap₂, ◌||◌}
 use Rattle.clap.specs.Built.{AddsArg, AddsSubcommand}
-use Rattle.clap.specs.Simple.{App, app_of, app_of_fields, with_rule, with_subcommand}
+use Rattle.std.specs.Prelude.{true}
+use Rattle.clap.specs.Simple.{App, app_of, app_of_fields, on_top, with_rule, with_subcommand}
 use Rattle.clap.specs.Walk.{Rule}
 use Rattle.clap.specs.declared.builder.arg.Arg.{Arg}
 use Rattle.clap.specs.declared.builder.command.Command.{Command}
-use Rattle.clap.specs.declared.builder.command.Command.TheOpen.{Command-F}
 use Rattle.clap.specs.declared.builder.command.Command.TheViews.{out-Command as fields_of}
 use Rattle.ix.specs.Building.{IsArgument, IsCommand}
 
@@ -20,7 +20,15 @@ adds_argument {rule} adds old argument = record {
 pub adds_subcommand : {old sub new : Command} {app : App} {below : App} → AddsSubcommand old sub new → app_of old ≡ app → IsCommand below sub → app_of new ≡ with_subcommand app below.top
 adds_subcommand adds old below = adds.shape below.local ∙ ap₂ with_subcommand old (ap (λ (a : App). a.top) below.app_is)
 
--- a setting does to what a parse reads what it does to the fields
-pub sets : (old new : Command) {app : App} (f : Command-F Command → Command-F Command) (g : App → App) → ((r : Command-F Command) → app_of_fields (f r) ≡ g (app_of_fields r))
-    → fields_of new ≡ f (fields_of old) → app_of old ≡ app → app_of new ≡ g app
-sets old new f g same changes was = ap app_of_fields changes ∙ (same (fields_of old) ∙ ap g was)
+-- a setting changes its own field alone, and a parse does not read the texts
+pub takes_no_name : (old new : Command) → fields_of new ≡ record (fields_of old) { no_binary_name = true }
+    → app_of new ≡ on_top (λ s. record s { no_binary_name = true }) (app_of old)
+takes_no_name old new changes = ap app_of_fields changes
+
+pub has_no_command_help : (old new : Command) → fields_of new ≡ record (fields_of old) { disable_help_subcommand = true }
+    → app_of new ≡ on_top (λ s. record s { disable_help_subcommand = true }) (app_of old)
+has_no_command_help old new changes = ap app_of_fields changes
+
+pub wants_a_command : (old new : Command) → fields_of new ≡ record (fields_of old) { subcommand_required = true }
+    → app_of new ≡ on_top (λ s. record s { subcommand_required = true }) (app_of old)
+wants_a_command old new changes = ap app_of_fields changes
