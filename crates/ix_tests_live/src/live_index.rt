@@ -4,6 +4,7 @@ mod beside;
 mod refusals;
 mod removing;
 mod searching;
+mod versions;
 
 use ix_build::{BuildError, Cut, Plan, Runs, build};
 use ix_file::Volume;
