@@ -11,8 +11,6 @@ mod memory;
 mod open;
 mod rule;
 mod step;
-#[cfg(test)]
-mod tests;
 mod tour;
 
 pub use board::Board;

@@ -30,8 +30,6 @@ mod span;
 mod stop_terms;
 mod term;
 mod term_list;
-#[cfg(test)]
-mod tests;
 mod token_counts;
 
 pub use errors::{RunError, WriteError};

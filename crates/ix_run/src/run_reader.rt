@@ -302,5 +302,3 @@ impl<R: Read + Drop> RunReader<R> {
 
 mod listing;
 mod reading;
-#[cfg(test)]
-mod tests;

@@ -129,38 +129,3 @@ impl From<AllocError> for RunTextError {
         RunTextError::Memory
     }
 }
-
-#[cfg(test)]
-mod tests {
-    use super::*;
-    use std::test::Fail;
-
-    #[test]
-    fn errors_have_numbers_and_names(rt: HostRuntime) -> Result<(), Fail> {
-        let cases = [
-            (RunTextError::Magic, 1, "Magic"),
-            (RunTextError::Number(VbError::Cut), 2, "Number(Cut)"),
-            (RunTextError::Text, 3, "Text"),
-            (RunTextError::Name, 4, "Name"),
-            (RunTextError::TermSize, 5, "TermSize"),
-            (RunTextError::TermOrder, 6, "TermOrder"),
-            (RunTextError::ListLength, 7, "ListLength"),
-            (RunTextError::DocRange, 8, "DocRange"),
-            (RunTextError::Zero, 9, "Zero"),
-            (RunTextError::PositionRange, 10, "PositionRange"),
-            (RunTextError::StopIndexed, 11, "StopIndexed"),
-            (RunTextError::StopOrder, 12, "StopOrder"),
-            (RunTextError::Extra, 13, "Extra"),
-            (RunTextError::TooLarge, 14, "TooLarge"),
-            (RunTextError::Read, 15, "Read"),
-            (RunTextError::Memory, 16, "Memory"),
-            (RunTextError::Doubled, 17, "Doubled"),
-            (RunTextError::Failed, 18, "Failed"),
-        ];
-        for (error, number, line) in cases {
-            assert_eq!(rt; error.number(), number);
-            assert_eq!(rt; error.to_string(rt.alloc())?.as_str(), line);
-        }
-        Ok(())
-    }
-}

@@ -54,24 +54,3 @@ impl TokenTable {
         Some((first, next - first))
     }
 }
-
-#[cfg(test)]
-mod tests {
-    use super::*;
-    use std::test::Fail;
-
-    #[test]
-    fn documents_follow_one_another(rt: HostRuntime) -> Result<(), Fail> {
-        let mut table = TokenTable::new(rt.alloc())?;
-        assert_eq!(rt; table.span(0), None);
-        table.push(3)?;
-        table.push(0)?;
-        table.push(5)?;
-        assert_eq!(rt; table.span(0), Some((0, 3)));
-        assert_eq!(rt; table.span(1), Some((3, 0)));
-        assert_eq!(rt; table.span(2), Some((3, 5)));
-        assert_eq!(rt; table.span(3), None);
-        assert_eq!(rt; table.span(u32::MAX), None);
-        Ok(())
-    }
-}

@@ -63,29 +63,3 @@ fn first_window(text: &str) -> Option<(&str, &str)>
     let window = &text[..text.len() - chars.as_str().len()];
     Some((window, next))
 }
-
-#[cfg(test)]
-mod tests {
-    use super::*;
-    use std::test::Fail;
-
-    #[test]
-    fn windows_are_slices_in_order(rt: HostRuntime) -> Result<(), Fail> {
-        let cases = [
-            ("$castle$", "$ca cas ast stl tle le$ "),
-            ("$a$", "$a$ "),
-            ("$é語😀$", "$é語 é語😀 語😀$ "),
-            ("ab", ""),
-            ("", ""),
-        ];
-        for (text, want) in cases {
-            let mut line = String::new(rt.alloc());
-            for gram in trigrams(text) {
-                line.push_str(gram)?;
-                line.push(' ')?;
-            }
-            assert_eq!(rt; line.as_str(), want);
-        }
-        Ok(())
-    }
-}

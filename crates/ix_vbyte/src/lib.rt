@@ -15,10 +15,6 @@ mod short_postings;
 mod singles;
 mod skipping;
 mod skips;
-#[cfg(test)]
-mod tests;
-#[cfg(test)]
-mod walking_tests;
 
 pub use appending::{push_code_and, push_counted, push_gaps, push_posting};
 pub use decoding::{decode, first_number};
