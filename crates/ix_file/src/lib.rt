@@ -11,8 +11,6 @@ mod open_error;
 mod put_error;
 mod row;
 mod sections;
-#[cfg(test)]
-mod tests;
 mod volume;
 mod windows;
 mod writer;

@@ -11,15 +11,11 @@ ghost use Rattle.ix_file.specs.declared.open_error.OpenError.TheVariants.{Memory
 pub(crate) mod catalog;
 pub(crate) mod claims;
 pub(crate) mod dictionary;
-#[cfg(test)]
-mod dictionary_tests;
 pub(crate) mod documents;
 pub(crate) mod frame;
 mod front;
 mod gram_walk;
 pub(crate) mod grams;
-#[cfg(test)]
-mod grams_tests;
 pub(crate) mod list;
 pub(crate) mod lists;
 mod pairs;

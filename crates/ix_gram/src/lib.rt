@@ -9,8 +9,6 @@ mod grams;
 mod laws;
 mod pattern;
 mod range;
-#[cfg(test)]
-mod tests;
 
 pub use error::PatternError;
 pub use expanding::expand;

@@ -24,8 +24,6 @@ mod phrase;
 mod reader;
 mod start;
 mod terms;
-#[cfg(test)]
-mod tests;
 mod word;
 
 use crate::query::Query;

@@ -103,34 +103,3 @@ impl<T: Drop> From<AllocFailed<T>> for QueryError {
         QueryError::Memory
     }
 }
-
-#[cfg(test)]
-mod tests {
-    use super::QueryError;
-    use std::test::Fail;
-
-    #[test]
-    fn errors_are_numbered_and_named(rt: HostRuntime) -> Result<(), Fail> {
-        let alloc = rt.alloc();
-        for (error, number, name) in [
-            (QueryError::Empty, 1, "Empty"),
-            (QueryError::Unexpected(2), 2, "Unexpected(2)"),
-            (QueryError::End, 3, "End"),
-            (QueryError::OpenQuote, 4, "OpenQuote"),
-            (QueryError::BadNear, 5, "BadNear"),
-            (QueryError::NoWord, 6, "NoWord"),
-            (QueryError::OnlyStopWords, 7, "OnlyStopWords"),
-            (QueryError::BareStar, 8, "BareStar"),
-            (QueryError::StarInPhrase, 9, "StarInPhrase"),
-            (QueryError::NearWord, 10, "NearWord"),
-            (QueryError::LongTerm, 11, "LongTerm"),
-            (QueryError::Deep, 12, "Deep"),
-            (QueryError::Memory, 13, "Memory"),
-        ] {
-            assert_eq!(rt; error.number(), number, "{name}");
-            let printed = format!(in alloc; "{error}")?;
-            assert_eq!(rt; printed.as_str(), name);
-        }
-        Ok(())
-    }
-}

@@ -1,0 +1,267 @@
+//! A collection of a real size: a hundred thousand postings and one of more positions than that, terms of 255 bytes,
+//! and a gram of ten thousand terms. It is told to sinks of many sizes, opened and walked.
+use super::opening::{documents_of, entries_in, push_number, rows_in, terms_of};
+use super::sample::Entry;
+use super::sinks::{Sink, Slow};
+use super::telling::tell_under;
+use super::written::check_same;
+use ix_file::{DocRow, Index, PutError, Volume};
+use std::alloc::Global;
+use std::io::{self, ErrorKind, Write};
+use std::process::Abort;
+use std::test::Fail;
+use std::thread::Threads;
+
+/// How many terms there are, but for the last. Each stands in ten documents.
+const TERMS: u32 = 10_000;
+
+/// How many documents there are, but for the last. Each has a hundred of the terms.
+const DOCUMENTS: u32 = 1000;
+
+/// How many tokens the last document has: each of them the last term.
+const TOKENS: u32 = 120_000;
+
+/// The term of a number: `xx` and four digits, and behind one of a hundred as many letters as make 255 bytes.
+fn term_of(alloc: Global, number: u32) -> Result<String, Fail> {
+    let mut term = format!(in alloc; "xx{number:04}")?;
+    if number % 100 == 0 {
+        for _ in 0..249 {
+            term.push('z')?;
+        }
+    }
+    Ok(term)
+}
+
+/// The documents of the term of a number, in each of which it stands once, at one position.
+fn postings_of(alloc: Global, number: u32) -> Result<Vec<(u32, Vec<u32>)>, Fail> {
+    let mut postings = Vec::new(alloc);
+    for tenth in 0u32..10 {
+        let mut positions = Vec::new(alloc);
+        positions.push(number / 100)?;
+        postings.push((number % 100 + 100 * tenth, positions))?;
+    }
+    Ok(postings)
+}
+
+/// The terms with their postings.
+fn entries(alloc: Global) -> Result<Vec<Entry>, Fail> {
+    let mut entries = Vec::new(alloc);
+    for number in 0..TERMS {
+        let term = term_of(alloc, number)?;
+        let postings = postings_of(alloc, number)?;
+        entries.push(Entry { term, postings })?;
+    }
+    entries.push(last_entry(alloc)?)?;
+    Ok(entries)
+}
+
+/// The last term, which is each token of the last document.
+fn last_entry(alloc: Global) -> Result<Entry, Fail> {
+    let mut positions = Vec::new(alloc);
+    for position in 0..TOKENS {
+        positions.push(position)?;
+    }
+    let mut postings = Vec::new(alloc);
+    postings.push((DOCUMENTS, positions))?;
+    let term = String::from_str(alloc, "y")?;
+    Ok(Entry { term, postings })
+}
+
+/// The names of the documents.
+fn names(alloc: Global) -> Result<Vec<String>, Fail> {
+    let mut names = Vec::new(alloc);
+    for number in 0..DOCUMENTS + 1 {
+        names.push(format!(in alloc; "n{number}")?)?;
+    }
+    Ok(names)
+}
+
+/// The rows of the documents of these names.
+fn rows_of(alloc: Global, names: &[String]) -> Result<Vec<DocRow<'_>>, Fail> {
+    let mut rows = Vec::new(alloc);
+    for (number, name) in names.iter().enumerate() {
+        let tokens = if number < DOCUMENTS as usize {
+            100
+        } else {
+            TOKENS
+        };
+        rows.push(DocRow { name, tokens })?;
+    }
+    Ok(rows)
+}
+
+/// Tells the collection to a writer over the sink, and gives the writer's answer.
+fn tell_to<W: Write>(
+    rt: &impl Abort,
+    alloc: Global,
+    sink: &mut W,
+    entries: &[Entry],
+) -> Result<Result<(), PutError>, Fail> {
+    let names = names(alloc)?;
+    let rows = rows_of(alloc, &names)?;
+    tell_under(rt, alloc, sink, "to", &rows, entries)
+}
+
+/// A sink that takes pieces of changing sizes, and now and then interrupts a call.
+#[derive(Drop)]
+struct Uneven {
+    sink: Sink,
+    calls: usize,
+}
+
+impl Write for Uneven {
+    fn write(&mut self, bytes: &[u8]) -> io::Result<usize> {
+        self.calls = self.calls.wrapping_add(1);
+        if self.calls % 3 == 0 {
+            return Err(ErrorKind::Interrupted.into());
+        }
+        let size = self.calls % 97 * 787 + 1;
+        self.sink.write(&bytes[..size.min(bytes.len())])
+    }
+
+    fn flush(&mut self) -> io::Result<()> {
+        self.sink.flush()
+    }
+}
+
+/// The names of documents with the numbers of their tokens.
+fn printed(alloc: Global, rows: &[DocRow<'_>]) -> Result<String, Fail> {
+    let mut lines = String::new(alloc);
+    for row in rows {
+        let line = format!(in alloc; "{} {}\n", row.name, row.tokens)?;
+        lines.push_str(&line)?;
+    }
+    Ok(lines)
+}
+
+/// The numbers below this one.
+fn numbers_below(alloc: Global, end: u32) -> Result<String, Fail> {
+    let mut numbers = String::new(alloc);
+    for number in 0..end {
+        push_number(alloc, &mut numbers, number)?;
+    }
+    Ok(numbers)
+}
+
+fn told_rows(alloc: Global, index: &Index<'_>) -> Result<String, Fail> {
+    printed(alloc, &rows_in(alloc, index)?)
+}
+
+fn wanted_rows(alloc: Global) -> Result<String, Fail> {
+    let names = names(alloc)?;
+    printed(alloc, &rows_of(alloc, &names)?)
+}
+
+/// What an index finds: a term, a gram of all terms but the last, and one of it.
+fn found(alloc: Global, index: &Index<'_>) -> Result<String, Fail> {
+    let mut lines = documents_of(alloc, index, &term_of(alloc, 9900)?)?;
+    lines.push('\n')?;
+    lines.push_str(&terms_of(alloc, index, "$xx")?)?;
+    lines.push('\n')?;
+    lines.push_str(&terms_of(alloc, index, "$y$")?)?;
+    Ok(lines)
+}
+
+fn wanted_found(alloc: Global) -> Result<String, Fail> {
+    let documents = "0 100 200 300 400 500 600 700 800 900";
+    let all = numbers_below(alloc, TERMS)?;
+    Ok(format!(in alloc; "{documents}\n{all}\n10000")?)
+}
+
+/// Whether an index tells these entries.
+fn tells(alloc: Global, index: &Index<'_>, entries: &[Entry]) -> Result<bool, Fail> {
+    Ok(entries_in(alloc, index)?.as_slice() == entries)
+}
+
+/// Checks that an index tells the collection, and finds what is in it.
+fn check(rt: &impl Abort, alloc: Global, index: &Index<'_>, entries: &[Entry]) -> Result<(), Fail> {
+    check_same(rt, &told_rows(alloc, index)?, &wanted_rows(alloc)?);
+    assert!(rt; tells(alloc, index, entries)?);
+    check_same(rt, &found(alloc, index)?, &wanted_found(alloc)?);
+    Ok(())
+}
+
+/// Checks an index of the text.
+fn check_index(rt: &impl Abort, alloc: Global, text: &[u8], entries: &[Entry]) -> Result<(), Fail> {
+    let index = Index::open(alloc, text)?;
+    check(rt, alloc, &index, entries)
+}
+
+/// Checks a volume of the text.
+fn check_volume(
+    rt: &impl Abort,
+    alloc: Global,
+    text: Vec<u8>,
+    entries: &[Entry],
+) -> Result<(), Fail> {
+    let volume = Volume::open(alloc, text)?;
+    check(rt, alloc, &volume.index(), entries)
+}
+
+/// Checks a volume of the text that was checked in threads side by side.
+fn check_volume_beside(
+    rt: &(impl Abort + Threads + Sync),
+    alloc: Global,
+    text: Vec<u8>,
+    entries: &[Entry],
+) -> Result<(), Fail> {
+    let volume = Volume::open_beside(rt, alloc, text)?;
+    check(rt, alloc, &volume.index(), entries)
+}
+
+/// Checks what a sink has that had room for so many bytes, and what the writer answered.
+fn check_sink(
+    rt: &impl Abort,
+    sink: &Sink,
+    answer: Result<(), PutError>,
+    text: &[u8],
+    room: usize,
+) {
+    let is_whole = room >= text.len();
+    assert_eq!(rt; answer.is_ok(), is_whole, "{room}");
+    assert!(rt; is_whole || answer == Err(PutError::Write), "{room}");
+    assert!(rt;
+        sink.bytes.as_slice() == &text[..room.min(text.len())],
+        "{room}"
+    );
+    assert_eq!(rt; sink.was_refused, !is_whole);
+}
+
+/// Tells the collection to sinks with room for so many bytes: one that takes what it is given, and one that does not.
+fn check_room(
+    rt: &impl Abort,
+    alloc: Global,
+    text: &[u8],
+    entries: &[Entry],
+    room: usize,
+) -> Result<(), Fail> {
+    let mut sink = Sink::new(alloc, room, true);
+    let answer = tell_to(rt, alloc, &mut sink, entries)?;
+    check_sink(rt, &sink, answer, text, room);
+    let sink = Sink::new(alloc, room, true);
+    let mut uneven = Uneven { sink, calls: 0 };
+    let answer = tell_to(rt, alloc, &mut uneven, entries)?;
+    check_sink(rt, &uneven.sink, answer, text, room);
+    Ok(())
+}
+
+#[test]
+fn a_hundred_thousand_postings(rt: HostRuntime) -> Result<(), Fail> {
+    let alloc = rt.alloc();
+    assert_eq!(rt; term_of(alloc, 9900)?.len(), 255);
+    let entries = entries(alloc)?;
+    let mut text = Vec::new(alloc);
+    assert_eq!(rt; tell_to(&rt, alloc, &mut text, &entries)?, Ok(()));
+    assert_eq!(rt; text.len(), 588_571);
+    check_index(&rt, alloc, &text, &entries)?;
+    // room for a front of the text, for all of it, and for a byte more
+    for room in [8, 65_536, 65_537, 588_570, 588_571, 588_572] {
+        check_room(&rt, alloc, &text, &entries, room)?;
+    }
+    // more than a hundred thousand calls for each piece that the writer writes
+    let mut slow = Slow::new(alloc);
+    assert_eq!(rt; tell_to(&rt, alloc, &mut slow, &entries)?, Ok(()));
+    assert!(rt; slow.bytes == text);
+    check_volume_beside(&rt, alloc, text.clone()?, &entries)?;
+    check_volume(&rt, alloc, text, &entries)
+}
