@@ -11,8 +11,6 @@ mod merge_error;
 mod overview;
 mod standing;
 mod terms;
-#[cfg(test)]
-mod tests;
 mod tournament;
 mod turn;
 

@@ -2,9 +2,9 @@ use Rattle.std.proofs.lemmas.Result.{IfOk-weaker}
 use Rattle.ix_run.specs.RunSources.{IsAtEndOfTerm}
 use Rattle.ix_merge.specs.AnySources.{SourceIsDrained}
 use Rattle.ix_merge.proofs.Enclosed.{encloses_posting}
-use Rattle.ix_merge.specs.contracts.tests.mixed.MixedSource.TheImpl.{yields-value, gives-value}
-use Rattle.ix_merge.specs.declared.tests.mixed.Mixed.TheVariants.{Held, Other}
-use Rattle.ix_merge.proofs.tests.mixed.MixedSource.next_posting.Goals as goal
+use Rattle.ix_tests_merge.specs.contracts.merging.mixed.MixedSource.TheImpl.{yields-value, gives-value}
+use Rattle.ix_tests_merge.specs.declared.merging.mixed.Mixed.TheVariants.{Held, Other}
+use Rattle.ix_tests_merge.proofs.merging.mixed.MixedSource.next_posting.Goals as goal
 
 pub returns-in-Ok-clause-given : goal.returns-in-Ok-clause-given
 returns-in-Ok-clause-given c =

@@ -3,9 +3,9 @@ ghost use Rattle.std.specs.Prelude.{All, IfOk};
 ghost use Rattle.ix_run.specs.RunSources.{HasGiven};
 ghost use Rattle.ix_run.specs.Sources.{IsUnread};
 
-use super::{Block, INDEX, merged, run_of, sample_block, text_of};
-use crate::{AnySource, IndexSource, merge};
+use super::{merge_told, sample_index, sample_runs, sample_text, text_of};
 use ix_file::{Index, OpenError};
+use ix_merge::{AnySource, IndexSource};
 use ix_run::{ListError, Listed, Run, RunHead, RunReader, RunSource, RunTextError, Source};
 use ix_text::Memory;
 use std::alloc::Global;
@@ -28,7 +28,7 @@ impl<'a, 'b> Source for Mixed<'a, 'b> {
     ghost use Rattle.ix_merge.specs.AnySources.{SourceHasGiven, SourceIsDrained, SourceIsEnded, SourceMayFault, SourceMayYield};
     ghost use Rattle.ix_merge.specs.AnySources.{source_drained_without_term, source_given_lawfully};
     ghost use Rattle.ix_merge.specs.AnySources.{source_given_of_term, source_yielded_lawfully};
-    ghost use Rattle.ix_merge.specs.declared.tests.mixed.Mixed.TheVariants.{Held, Other};
+    ghost use Rattle.ix_tests_merge.specs.declared.merging.mixed.Mixed.TheVariants.{Held, Other};
 
     type Error = RunTextError;
 
@@ -112,32 +112,52 @@ struct Forms {
     index: Vec<u8>,
 }
 
+/// The run of a block of the five documents.
+fn sample_run(alloc: Global, block: &str) -> Result<Run, Fail> {
+    let Some(run) = sample_runs(alloc, block)?.pop() else {
+        return Err("no run")?;
+    };
+    Ok(run)
+}
+
+/// The three forms of a block of the five documents, which is told once from its first number on and once from 0.
+fn forms_of(
+    rt: &impl Abort,
+    alloc: Global,
+    first: u32,
+    block: &str,
+    counted: &str,
+) -> Result<Forms, Fail> {
+    let run = sample_run(alloc, block)?;
+    let text = text_of(alloc, &run)?;
+    let index = sample_index(rt, alloc, counted)?;
+    Ok(Forms {
+        first,
+        run,
+        text,
+        index,
+    })
+}
+
 /// The documents of the sample in three blocks, in another order than that of their numbers.
 fn blocks_of(rt: &impl Abort, alloc: Global) -> Result<Vec<Forms>, Fail> {
     let mut blocks = Vec::new(alloc);
-    for (from, to) in [(4, 5), (0, 2), (2, 4)] {
-        let block = sample_block(from, to);
-        let run = run_of(alloc, block)?;
-        let text = text_of(alloc, &run)?;
-        let alone = [run_of(alloc, Block { first: 0, ..block })?];
-        let (index, refusal) = merged(rt, alloc, &alone)?;
-        assert_eq!(rt; refusal.as_str(), "");
-        let first = from;
-        blocks.push(Forms {
-            first,
-            run,
-            text,
-            index,
-        })?;
-    }
+    blocks.push(forms_of(rt, alloc, 4, "4-5", "4-5@0")?)?;
+    blocks.push(forms_of(rt, alloc, 0, "0-2", "0-2@0")?)?;
+    blocks.push(forms_of(rt, alloc, 2, "2-4", "2-4@0")?)?;
     Ok(blocks)
+}
+
+/// The index of an index text.
+fn index_in(alloc: Global, text: &[u8]) -> Result<Index<'_>, OpenError> {
+    Index::open(alloc, text)
 }
 
 /// The indexes of the blocks.
 fn indexes_of(alloc: Global, blocks: &[Forms]) -> Result<Vec<Index<'_>>, OpenError> {
     let mut indexes = Vec::new(alloc);
     for block in blocks {
-        indexes.push(Index::open(alloc, block.index.as_slice())?)?;
+        indexes.push(index_in(alloc, block.index.as_slice())?)?;
     }
     Ok(indexes)
 }
@@ -179,8 +199,8 @@ fn indexes_are_merged(rt: HostRuntime) -> Result<(), Fail> {
     let indexes = indexes_of(alloc, &blocks)?;
     let sources = index_sources(&rt, alloc, &indexes, [4, 0, 2])?;
     let mut out = Vec::new(alloc);
-    assert!(rt; merge(alloc, sources, &mut out) == Ok(()));
-    assert_eq!(rt; out.as_slice(), INDEX);
+    assert_eq!(rt; merge_told(alloc, sources, &mut out)?.as_str(), "Ok");
+    assert_eq!(rt; out.as_slice(), sample_text());
     Ok(())
 }
 
@@ -232,8 +252,8 @@ fn forms_side_by_side(rt: HostRuntime) -> Result<(), Fail> {
     for form in 0..3 {
         let sources = mixed_sources(&rt, alloc, form, &blocks, &indexes)?;
         let mut out = Vec::new(alloc);
-        assert!(rt; merge(alloc, sources, &mut out) == Ok(()));
-        assert_eq!(rt; out.as_slice(), INDEX, "{form}");
+        assert_eq!(rt; merge_told(alloc, sources, &mut out)?.as_str(), "Ok");
+        assert_eq!(rt; out.as_slice(), sample_text(), "{form}");
     }
     Ok(())
 }

@@ -2,7 +2,7 @@ use Rattle.std.proofs.Common.{All, List, sym, subst}
 use Rattle.std.proofs.lemmas.List.Elements.{All-push}
 use Rattle.ix_run.specs.RunSources.{HasGiven, SourceValue}
 use Rattle.ix_run.specs.Sources.{IsUnread}
-use Rattle.ix_merge.proofs.tests.mixed.index_sources.Goals as goal
+use Rattle.ix_tests_merge.proofs.merging.mixed.index_sources.Goals as goal
 
 pub loop-index-preserved : goal.loop-index-preserved
 loop-index-preserved g c =

@@ -3,9 +3,9 @@ use Rattle.std.proofs.lemmas.Result.{IfOk-weaker}
 use Rattle.ix_run.specs.RunSources.{IsAtEnd}
 use Rattle.ix_merge.specs.AnySources.{SourceIsEnded, term_of_source}
 use Rattle.ix_merge.proofs.Enclosed.{encloses_term}
-use Rattle.ix_merge.specs.contracts.tests.mixed.MixedSource.TheImpl.{yields-value, gives-value, is_drained-value}
-use Rattle.ix_merge.specs.declared.tests.mixed.Mixed.TheVariants.{Held, Other}
-use Rattle.ix_merge.proofs.tests.mixed.MixedSource.next_term.Goals as goal
+use Rattle.ix_tests_merge.specs.contracts.merging.mixed.MixedSource.TheImpl.{yields-value, gives-value, is_drained-value}
+use Rattle.ix_tests_merge.specs.declared.merging.mixed.Mixed.TheVariants.{Held, Other}
+use Rattle.ix_tests_merge.proofs.merging.mixed.MixedSource.next_term.Goals as goal
 
 pub returns-in-Ok-clause-begun : goal.returns-in-Ok-clause-begun
 returns-in-Ok-clause-begun c =
