@@ -13,7 +13,8 @@
 RT := $(shell command -v rt 2> /dev/null)
 PREFIX ?= /usr/local
 DATA = $(DESTDIR)$(PREFIX)/share
-# How many checks of the gate run side by side: one a processor, where there are 5 GB for each (the largest takes 5.3).
+# How many checks of the gate run side by side: one a processor, where there are 5 GB for each (the largest takes 6, the four
+# largest together 21).
 # By itself rt ci guesses from a crate's lines what its check takes, 10 GB of the largest, and runs two on 24 GB.
 LANES = $(shell awk '/MemAvailable/ { lanes = int($$2 / 5000000) } \
     END { "nproc" | getline most; print lanes < 1 ? 1 : lanes < most ? lanes : most }' /proc/meminfo)
