@@ -1,3 +1,4 @@
+pub mod BalancedRows
 pub mod BlockLemmas
 pub mod BlockMaking
 pub mod BlockPieces

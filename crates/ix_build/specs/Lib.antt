@@ -1,5 +1,6 @@
 pub mod AlikeFronts
 pub mod Askings
+pub mod Balanced
 pub mod BlockMakers
 pub mod BlockRunLaws
 pub mod BlockRuns

@@ -138,39 +138,3 @@ impl<'a, V: Watch> Maker for BlockMaker<'a, V> {
         self.asked.as_slice()
     }
 }
-
-#[cfg(test)]
-mod tests {
-    use super::*;
-    use crate::blocks::bounds_of;
-    use crate::plan::Cut;
-    use crate::watch::Unwatched;
-    use ix_text::Collection;
-    use std::test::Fail;
-
-    #[test]
-    fn runs_of_blocks_of_two(rt: HostRuntime) -> Result<(), Fail> {
-        let text = "a\tx y\nb\ty\nc\t\nd\ty x y\ne\tx\n";
-        let runs: [&[u8]; 3] = [
-            b"PIIXRUN1\0\0\0\0\x02\0\0\0\x80\x81a\x82\x81b\x81\x81x\x81\x83\x81\x81\x81\x81y\x82\x86\x81\x81\x82\x81\x81\x81\x80",
-            b"PIIXRUN1\x02\0\0\0\x02\0\0\0\x80\x81c\x80\x81d\x83\x81x\x81\x83\x82\x81\x82\x81y\x81\x84\x82\x82\x81\x82\x80",
-            b"PIIXRUN1\x04\0\0\0\x01\0\0\0\x80\x81e\x81\x81x\x81\x83\x81\x81\x81\x80",
-        ];
-        let collection = Collection::read(rt.alloc(), text.as_bytes())?;
-        let docs = collection.docs();
-        let stop = StopList::empty(rt.alloc());
-        let bounds = bounds_of(rt.alloc(), docs, Cut::Docs(2))?;
-        let mut maker = BlockMaker::new(rt.alloc(), docs, &stop, bounds.as_slice(), &Unwatched);
-        for (place, want) in runs.iter().enumerate() {
-            maker.reserve(1)?;
-            let run = maker.make(place)?;
-            let mut out = Vec::new(rt.alloc());
-            run.write_to(&mut out)?;
-            assert_eq!(rt; out.as_slice(), *want);
-        }
-        maker.reserve(1)?;
-        assert_eq!(rt; maker.make(3).err(), Some(MakeError::Refused));
-        assert_eq!(rt; maker.asked().len(), 4);
-        Ok(())
-    }
-}

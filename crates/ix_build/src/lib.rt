@@ -32,8 +32,6 @@ mod shared_work;
 mod store;
 mod system_files;
 mod team;
-#[cfg(test)]
-mod tests;
 mod watch;
 mod watched_files;
 mod worker;

@@ -97,33 +97,3 @@ impl Plan {
         }
     }
 }
-
-#[cfg(test)]
-mod tests {
-    use super::*;
-    use std::test::Fail;
-
-    #[test]
-    fn plans_are_in_range(rt: HostRuntime) -> Result<(), Fail> {
-        for (workers, lawful) in [(0, false), (1, true), (64, true), (65, false)] {
-            assert_eq!(rt;
-                Plan::new(Cut::Docs(2), workers, Runs::Memory).is_some(),
-                lawful
-            );
-            assert_eq!(rt;
-                Plan::new(Cut::Bytes(1), workers, Runs::Memory).is_some(),
-                lawful
-            );
-        }
-        assert!(rt; Plan::new(Cut::Docs(0), 1, Runs::Memory).is_none());
-        assert!(rt; Plan::new(Cut::Bytes(0), 1, Runs::Memory).is_none());
-        let plan = Plan::new(Cut::Bytes(7), 3, Runs::Memory).ok_or("none")?;
-        assert_eq!(rt; plan.cut(), Cut::Bytes(7));
-        assert_eq!(rt; plan.workers(), 3);
-        assert_eq!(rt; plan.folder(), None);
-        let folder = Runs::Folder(String::from_str(rt.alloc(), "runs")?);
-        let plan = Plan::new(Cut::Docs(1), 64, folder).ok_or("none")?;
-        assert_eq!(rt; plan.folder(), Some("runs"));
-        Ok(())
-    }
-}

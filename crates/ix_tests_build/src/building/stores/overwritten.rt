@@ -1,29 +1,39 @@
 //! Runs that are overwritten between their saving and their loading: the place of the first such run is told.
 ghost use Rattle.std.specs.Prelude.{◌≡◌};
 
-use super::FIVE_DOCUMENTS_INDEX;
-use super::building_over::{RUNS, built, shelves};
-use super::folders::{built_in, new_path};
-use crate::{BuildError, BuiltOver, Cut, RunFiles, StoreError, SystemFiles};
-use std::alloc::Global;
+use super::super::five_documents_index;
+use super::folders::{new_folder, spills_in};
+use super::{RUNS, built, front_of, runs, shelves};
+use ix_build::{BuildError, BuiltOver, Cut, RunFiles, StoreError, SystemFiles};
+use std::alloc::{AllocError, Global};
+use std::fs;
 use std::io::Write;
 use std::process::Abort;
 use std::sync::Wait;
 use std::sync::atomic::AtomicU64;
 use std::test::Fail;
 use std::thread::Threads;
-use std::{fs, process};
 
 /// How many bytes stand before the terms of each run.
 const HEADS: [usize; 3] = [23, 23, 20];
 
 /// The bytes of a run, but for bits that change in the byte at a place.
-fn changed(alloc: Global, run: &[u8], at: usize, bits: u8) -> Result<Vec<u8>, Fail> {
+fn changed(alloc: Global, run: &[u8], at: usize, bits: u8) -> Result<Vec<u8>, AllocError> {
     let mut bytes = Vec::from_slice(alloc, run)?;
     if let Some(byte) = bytes.get_mut(at) {
         *byte ^= bits;
     }
     Ok(bytes)
+}
+
+/// The runs, but for these bytes at a place.
+fn runs_with<'a>(place: usize, bytes: &'a [u8]) -> [&'a [u8]; 3] {
+    let [zero, one, two] = RUNS;
+    match place {
+        0 => [bytes, one, two],
+        1 => [zero, bytes, two],
+        _ => [zero, one, bytes],
+    }
 }
 
 /// What so many stores come to that give back these bytes as the run of a place, and what was written.
@@ -34,35 +44,40 @@ fn overwritten(
     place: usize,
     bytes: &[u8],
 ) -> Result<(Option<BuildError>, Vec<u8>), Fail> {
-    let [zero, one, two] = RUNS;
-    let given = match place {
-        0 => [bytes, one, two],
-        1 => [zero, bytes, two],
-        _ => [zero, one, bytes],
-    };
+    let given = runs_with(place, bytes);
     let begun = AtomicU64::new(0);
     let stores = shelves(alloc, workers, &given, &[], &begun, 0)?;
     let (BuiltOver { stores: _, result }, out) = built(rt, alloc, stores)?;
     Ok((result.err(), out))
 }
 
+/// Checks that a run spills where a byte has changed. A front of the index text is written, of a changed head nothing.
+fn spills_where_changed(
+    rt: &(impl Abort + Threads + Wait + Sync),
+    alloc: Global,
+    place: usize,
+    run: &[u8],
+    head: usize,
+    at: usize,
+    bits: u8,
+) -> Result<(), Fail> {
+    let bytes = changed(alloc, run, at, bits)?;
+    let (error, out) = overwritten(rt, alloc, 2, place, &bytes)?;
+    assert_eq!(rt; error, Some(BuildError::Spill(place)), "{at} {bits}");
+    assert!(rt; five_documents_index().starts_with(&out), "{at} {bits}");
+    assert!(rt; out.is_empty() || head <= at, "{at} {bits}");
+    Ok(())
+}
+
 /// Each byte of the terms ends a number, which goes on once its first bit is 0, or is a letter, which is none once its
 /// first bit is 1. In a head, any bit matters, and nothing is written.
 #[test]
 fn a_changed_run_spills(rt: HostRuntime) -> Result<(), Fail> {
-    for (place, (run, head)) in RUNS.iter().zip(HEADS.iter()).enumerate() {
+    for (place, (run, head)) in runs().iter().zip(HEADS.iter()).enumerate() {
         for at in 0..run.len() {
-            for bits in [128, 1] {
-                if at < *head || bits == 128 {
-                    let bytes = changed(rt.alloc(), run, at, bits)?;
-                    let (error, out) = overwritten(&rt, rt.alloc(), 2, place, &bytes)?;
-                    assert_eq!(rt; error, Some(BuildError::Spill(place)), "{at} {bits}");
-                    assert!(rt;
-                        FIVE_DOCUMENTS_INDEX.starts_with(out.as_slice())
-                            && (out.is_empty() || *head <= at),
-                        "{at} {bits}"
-                    );
-                }
+            spills_where_changed(&rt, rt.alloc(), place, run, *head, at, 128)?;
+            if at < *head {
+                spills_where_changed(&rt, rt.alloc(), place, run, *head, at, 1)?;
             }
         }
     }
@@ -72,16 +87,11 @@ fn a_changed_run_spills(rt: HostRuntime) -> Result<(), Fail> {
 /// Behind the head of each run its first term is cut off.
 #[test]
 fn a_run_cut_short_spills(rt: HostRuntime) -> Result<(), Fail> {
-    for (place, run) in RUNS.iter().enumerate() {
-        let (error, out) = overwritten(
-            &rt,
-            rt.alloc(),
-            3,
-            place,
-            &run[..run.len().saturating_sub(2)],
-        )?;
+    for (place, run) in runs().iter().enumerate() {
+        let front = front_of(run, run.len().saturating_sub(2));
+        let (error, out) = overwritten(&rt, rt.alloc(), 3, place, front)?;
         assert_eq!(rt; error, Some(BuildError::Spill(place)));
-        assert!(rt; FIVE_DOCUMENTS_INDEX.starts_with(out.as_slice()));
+        assert!(rt; five_documents_index().starts_with(&out));
     }
     Ok(())
 }
@@ -130,43 +140,23 @@ impl<'a, F: RunFiles> RunFiles for Overwriter<'a, F> {
     ghost untold = { λ files path bytes writer none. tt };
 }
 
-/// What two workers come to whose files are overwritten in this way, and nothing is written.
-fn refused_with<F: RunFiles, R: AllocGlobal + Abort + Threads + Wait + Sync>(
-    rt: &R,
-    files: &F,
-    folder: &str,
-    path: &str,
-    bytes: &[u8],
-) -> Result<Option<BuildError>, Fail> {
-    let files = Overwriter { files, path, bytes };
-    let mut out = Vec::new(rt.alloc());
-    let refused = built_in(rt, &files, folder, Cut::Docs(2), 2, &mut out)?;
-    assert!(rt; out.is_empty());
-    Ok(refused)
-}
-
 #[test]
 fn an_overwritten_file_spills(rt: HostRuntime) -> Result<(), Fail> {
     let alloc = rt.alloc();
-    let files = SystemFiles { rt: &rt };
-    let folder = new_path(&rt, process::id(rt.process()), "overwritten")?;
-    fs::create_dir(&rt, folder.as_str())?;
-    let path = format!(in alloc; "{}/run-0000000001", folder.as_str())?;
-    let (folder, path) = (folder.as_str(), path.as_str());
-    let spilled = Some(BuildError::Spill(1));
-    let other_head = changed(alloc, RUNS[1], 8, 1)?;
-    assert_eq!(rt;
-        refused_with(&rt, &files, folder, path, &other_head)?,
-        spilled
-    );
-    assert_eq!(rt;
-        refused_with(&rt, &files, folder, path, &RUNS[1][..30])?,
-        spilled
-    );
-    assert_eq!(rt; refused_with(&rt, &files, folder, path, RUNS[0])?, spilled);
-    assert_eq!(rt; refused_with(&rt, &files, folder, path, RUNS[2])?, spilled);
-    assert_eq!(rt; refused_with(&rt, &files, folder, path, b"")?, spilled);
+    let system = SystemFiles { rt: &rt };
+    let folder = new_folder(&rt, "overwritten")?;
+    let path = format!(in alloc; "{folder}/run-0000000001")?;
+    let [zero, one, two] = *runs();
+    let other_head = changed(alloc, one, 8, 1)?;
+    for bytes in [other_head.as_slice(), front_of(one, 30), zero, two, b""] {
+        let files = Overwriter {
+            files: &system,
+            path: &path,
+            bytes,
+        };
+        spills_in(&rt, alloc, &files, &folder, Cut::Docs(2), 2, 1)?;
+    }
     // Only an empty folder is removed.
-    fs::remove_dir(&rt, folder)?;
+    fs::remove_dir(&rt, folder.as_str())?;
     Ok(())
 }

@@ -2,9 +2,8 @@
 ghost use Rattle.std.specs.Prelude.{◌≡◌, vec_len};
 ghost use Rattle.std.specs.Vec.{vec_capacity};
 
-use super::{FIVE_DOCUMENTS, FIVE_DOCUMENTS_INDEX, have_begun};
-use crate::{Asked, Built, ByError, MakeError, Maker, build_by};
-use ix_merge::MergeError;
+use super::{five_documents, five_documents_index, have_begun};
+use ix_build::{Asked, Built, MakeError, Maker, build_by};
 use ix_run::{Run, invert};
 use ix_text::{Collection, Doc, Memory, StopList};
 use std::alloc::{AllocError, Global};
@@ -28,21 +27,26 @@ struct Inverter<'a> {
     asked: Vec<Asked>,
 }
 
+/// The run of a block of documents.
+fn run_of(alloc: Global, docs: &[Doc<'_>], from: u32, to: u32) -> Result<Run, MakeError> {
+    let Some(block) = docs.get(from as usize..to as usize) else {
+        return Err(MakeError::Refused);
+    };
+    match invert(alloc, block, &StopList::empty(alloc), from) {
+        Ok(run) => Ok(run),
+        Err(_) => Err(MakeError::Memory),
+    }
+}
+
 impl<'a> Inverter<'a> {
-    fn run_of(&self, place: usize) -> Result<Run, MakeError> {
+    fn run_at(&self, place: usize) -> Result<Run, MakeError> {
         self.begun.fetch_add(1, SeqCst);
         if !have_begun(self.begun, self.wanted) {
             return Err(MakeError::Refused);
         }
-        let Some((from, to)) = self.blocks.get(place) else {
-            return Err(MakeError::Refused);
-        };
-        let Some(docs) = self.docs.get(*from as usize..*to as usize) else {
-            return Err(MakeError::Refused);
-        };
-        match invert(self.alloc, docs, &StopList::empty(self.alloc), *from) {
-            Ok(run) => Ok(run),
-            Err(_) => Err(MakeError::Memory),
+        match self.blocks.get(place) {
+            Some((from, to)) => run_of(self.alloc, self.docs, *from, *to),
+            None => Err(MakeError::Refused),
         }
     }
 }
@@ -74,7 +78,7 @@ impl<'a> Maker for Inverter<'a> {
     }
 
     fn make(&mut self, place: usize) -> Result<Run, MakeError> {
-        match self.run_of(place) {
+        match self.run_at(place) {
             Ok(run) => {
                 self.asked.push_reserved(Asked { place, error: None });
                 Ok(run)
@@ -116,99 +120,103 @@ fn inverters<'a>(
     Ok(inverters)
 }
 
-#[test]
-fn meets(rt: HostRuntime) -> Result<(), Fail> {
-    let collection = Collection::read(rt.alloc(), FIVE_DOCUMENTS)?;
-    let halves = [(0, 2), (2, 5)];
-    let documents = [(0, 1), (1, 2), (2, 3), (3, 4), (4, 5)];
-    let cuts: [&[(u32, u32)]; 2] = [&halves, &documents];
-    for blocks in cuts {
-        let begun = AtomicU64::new(0);
-        let count = blocks.len();
-        let makers = inverters(
-            rt.alloc(),
-            count,
-            collection.docs(),
-            blocks,
-            &begun,
-            count as u64,
-        )?;
-        assert!(rt; 0 < makers.len() && makers.len() <= 64);
-        let mut out = Vec::new(rt.alloc());
-        let Built { makers, result } = build_by(&rt, rt.alloc(), makers, count, &mut out);
-        assert_eq!(rt; result, Ok(()));
-        assert_eq!(rt; out.as_slice(), FIVE_DOCUMENTS_INDEX);
-        for (w, maker) in makers.iter().enumerate() {
-            assert_eq!(rt; maker.asked().len(), 1);
-            assert!(rt; maker.asked().first().is_some_and(|first| first.place == w));
+/// What makers come to that share so many places: `Ok` or the name of the error, and behind it the places that each maker
+/// was asked for, with a semicolon behind those of a maker.
+fn told<'a>(
+    rt: &(impl Abort + Threads + Wait + Sync),
+    alloc: Global,
+    makers: Vec<Inverter<'a>>,
+    count: usize,
+    out: &mut Vec<u8>,
+) -> Result<String, AllocError> {
+    assert!(rt; 0 < makers.len() && makers.len() <= 64);
+    let Built { makers, result } = build_by(rt, alloc, makers, count, out);
+    let mut told = match result {
+        Ok(()) => String::from_str(alloc, "Ok")?,
+        Err(error) => error.to_string(alloc)?,
+    };
+    told.push(':')?;
+    tell_askings(alloc, &makers, &mut told)?;
+    Ok(told)
+}
+
+/// Tells the places that each maker was asked for.
+fn tell_askings(
+    alloc: Global,
+    makers: &[Inverter<'_>],
+    told: &mut String,
+) -> Result<(), AllocError> {
+    for maker in makers {
+        for asked in &maker.asked {
+            told.push(' ')?;
+            told.push_str(asked.place.to_string(alloc)?.as_str())?;
         }
+        told.push(';')?;
     }
     Ok(())
 }
 
-/// What two makers of the blocks come to. Nothing is written.
+#[test]
+fn makers_meet(rt: HostRuntime) -> Result<(), Fail> {
+    let collection = Collection::read(rt.alloc(), five_documents())?;
+    let cases: [(&[(u32, u32)], &str); 2] = [
+        (&[(0, 2), (2, 5)], "Ok: 0; 1;"),
+        (
+            &[(0, 1), (1, 2), (2, 3), (3, 4), (4, 5)],
+            "Ok: 0; 1; 2; 3; 4;",
+        ),
+    ];
+    for (blocks, want) in cases {
+        let begun = AtomicU64::new(0);
+        let count = blocks.len();
+        let docs = collection.docs();
+        let makers = inverters(rt.alloc(), count, docs, blocks, &begun, count as u64)?;
+        let mut out = Vec::new(rt.alloc());
+        let found = told(&rt, rt.alloc(), makers, count, &mut out)?;
+        assert_eq!(rt; found.as_str(), want);
+        assert_eq!(rt; out.as_slice(), five_documents_index());
+    }
+    Ok(())
+}
+
+/// Checks that two makers of the blocks are refused so many places with this error. Both come back, and nothing is written.
 fn refused(
     rt: &(impl Abort + Threads + Wait + Sync),
     alloc: Global,
     blocks: &[(u32, u32)],
     count: usize,
-) -> Result<Option<ByError>, Fail> {
-    let collection = Collection::read(alloc, FIVE_DOCUMENTS)?;
+    want: &str,
+) -> Result<(), Fail> {
+    let collection = Collection::read(alloc, five_documents())?;
     let begun = AtomicU64::new(0);
     let makers = inverters(alloc, 2, collection.docs(), blocks, &begun, 0)?;
-    assert!(rt; makers.len() == 2);
     let mut out = Vec::new(alloc);
-    let Built { makers, result } = build_by(rt, alloc, makers, count, &mut out);
-    assert_eq!(rt; makers.len(), 2);
+    let found = told(rt, alloc, makers, count, &mut out)?;
+    let (error, askings) = found.split_once(':').ok_or("no error")?;
+    assert_eq!(rt; error, want);
+    assert_eq!(rt; askings.matches(';').count(), 2);
     assert!(rt; out.is_empty());
-    Ok(result.err())
+    Ok(())
 }
 
 #[test]
 fn refusals_write_nothing(rt: HostRuntime) -> Result<(), Fail> {
     let gap = [(0, 2), (4, 5)];
     let twice = [(0, 2), (2, 4), (4, 5), (0, 2)];
-    assert_eq!(rt;
-        refused(&rt, rt.alloc(), &gap, 2)?,
-        Some(ByError::Merge(MergeError::Gap(2)))
-    );
-    assert_eq!(rt;
-        refused(&rt, rt.alloc(), &twice, 4)?,
-        Some(ByError::Merge(MergeError::Overlap(0)))
-    );
-    assert_eq!(rt;
-        refused(&rt, rt.alloc(), &gap, 4)?,
-        Some(ByError::Make(2, MakeError::Refused))
-    );
-    Ok(())
+    refused(&rt, rt.alloc(), &gap, 2, "Merge(Gap(2))")?;
+    refused(&rt, rt.alloc(), &twice, 4, "Merge(Overlap(0))")?;
+    refused(&rt, rt.alloc(), &gap, 4, "Make(2, Refused)")
 }
 
 #[test]
 fn no_runs_are_the_empty_collection(rt: HostRuntime) -> Result<(), Fail> {
     let begun = AtomicU64::new(0);
     let makers = inverters(rt.alloc(), 3, &[], &[], &begun, 0)?;
-    assert!(rt; makers.len() == 3);
     let mut out = Vec::new(rt.alloc());
-    let Built { makers, result } = build_by(&rt, rt.alloc(), makers, 0, &mut out);
-    assert_eq!(rt; result, Ok(()));
-    assert_eq!(rt; makers.len(), 3);
+    let found = told(&rt, rt.alloc(), makers, 0, &mut out)?;
+    assert_eq!(rt; found.as_str(), "Ok:;;;");
     assert_eq!(rt; out.len(), 64);
-    assert!(rt; out.as_slice().starts_with(b"PIIX0002"));
-    assert!(rt; out.as_slice().ends_with(b"PIIXEND2"));
-    Ok(())
-}
-
-#[test]
-fn errors_have_numbers_and_names(rt: HostRuntime) -> Result<(), Fail> {
-    let cases = [
-        (ByError::Thread(5), 1, "Thread(5)"),
-        (ByError::Make(2, MakeError::Refused), 2, "Make(2, Refused)"),
-        (ByError::Merge(MergeError::Gap(4)), 3, "Merge(Gap(4))"),
-        (ByError::Memory, 4, "Memory"),
-    ];
-    for (error, number, line) in cases {
-        assert_eq!(rt; error.number(), number);
-        assert_eq!(rt; format!(in rt.alloc(); "{error}")?.as_str(), line);
-    }
+    assert!(rt; out.starts_with(b"PIIX0002"));
+    assert!(rt; out.ends_with(b"PIIXEND2"));
     Ok(())
 }

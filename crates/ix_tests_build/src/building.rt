@@ -1,0 +1,46 @@
+//! What no clause says of building: that the calls answer, in the worked cases, and that workers run side by side.
+
+mod by_makers;
+mod cuts;
+mod errors;
+mod plans;
+mod stores;
+mod working;
+
+use std::sync::atomic::AtomicU64;
+use std::sync::atomic::Ordering::SeqCst;
+
+/// Five documents, whose texts have 3, 1, 0, 5 and 1 bytes.
+const FIVE_DOCUMENTS: &[u8] = b"a\tx y\nb\ty\nc\t\nd\ty x y\ne\tx\n";
+
+/// The index text of the five documents, of version 2.
+const FIVE_DOCUMENTS_INDEX: &[u8] =
+    b"PIIX0002\x81\x81\x81\x83\x81\x82\x81\x81\x81\x81\x81\x82\x81\x81\x81\x82\x82\x81\x82\
+      \x81a\x82\x81b\x81\x81c\x80\x81d\x83\x81e\x81\
+      \x81x\x83\x89\x80\x81y\x83\x8a\
+      \x83$x$\x81\x81\x83$y$\x81\x82\
+      \x13\0\0\0\0\0\0\0\0\0\0\0\0\0\0\0\x0f\0\0\0\0\0\0\0\x09\0\0\0\0\0\0\0\x0c\0\0\0\0\0\0\0\
+      \x05\0\0\0\x02\0\0\0PIIXEND2";
+
+/// The five documents. It tells no proof which bytes these are, and so costs none.
+fn five_documents() -> &'static [u8] {
+    FIVE_DOCUMENTS
+}
+
+/// The index text of the five documents, likewise.
+fn five_documents_index() -> &'static [u8] {
+    FIVE_DOCUMENTS_INDEX
+}
+
+/// How often one looks at most, before it gives up waiting for the others.
+const TURNS: u64 = 1 << 30;
+
+/// Waits until so many calls were begun, or for all turns.
+fn have_begun(begun: &AtomicU64, wanted: u64) -> bool {
+    for _ in 0..TURNS {
+        if begun.load(SeqCst) >= wanted {
+            return true;
+        }
+    }
+    false
+}
