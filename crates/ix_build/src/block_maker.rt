@@ -85,8 +85,9 @@ pub(crate) fn block_at(bounds: &[usize], place: usize) -> Option<(usize, usize)>
 }
 
 impl<'a, V: Watch> Maker for BlockMaker<'a, V> {
-    ghost use Rattle.std.specs.Prelude.{◌-◌, vec_len};
+    ghost use Rattle.std.specs.Prelude.{◌-◌, ◌<◌, ◌↔◌, ◌∷◌, ◌++◌, ℕ, Err, IfErr, IfOk, None, vec_len};
     ghost use Rattle.std.specs.Vec.{vec_capacity};
+    ghost use Rattle.ix_build.specs.Askings.{asking};
     ghost use Rattle.ix_build.specs.BlockRuns.{GivesRun, StaysMakerOf};
     ghost use Rattle.ix_build.specs.BlockRunLaws.{stays_itself, stays_on};
 
@@ -112,7 +113,26 @@ impl<'a, V: Watch> Maker for BlockMaker<'a, V> {
         self.asked.capacity() - self.asked.len()
     }
 
-    fn make(&mut self, place: usize) -> Result<Run, MakeError> {
+    /// Inverts the block of a place. `Refused` where the place has no block, and `Memory` where memory is refused; the room
+    /// is used up by one.
+    fn make(&mut self, place: usize) -> Result<Run, MakeError>
+        requires { 0 < vec_capacity self.old.asked - vec_len self.old.asked }
+        ensures asked { IfOk result (λ piece. self.new.asked.items ≡ self.old.asked.items
+            ++ asking place None ∷ []) }
+        ensures refused { IfErr result (λ error. self.new.asked.items ≡ self.old.asked.items
+            ++ asking place (Some error) ∷ []) }
+        ensures piece { IfOk result (λ piece. GivesRun self.old place piece) }
+        ensures room { vec_capacity self.new.asked - vec_len self.new.asked + 1
+            ≡ vec_capacity self.old.asked - vec_len self.old.asked }
+        ensures gives { (other : ℕ) (piece : Run) →
+            GivesRun self.new other piece ↔ GivesRun self.old other piece }
+        ensures follows { StaysMakerOf self.old self.new }
+
+        // A place behind the last block is refused as such, and no other is.
+        ensures behind { length self.old.bounds.now ≤ place + 1 → result ≡ Err MakeError.Refused }
+        ensures within { place + 1 < length self.old.bounds.now →
+            IfErr result (λ error. error ≡ MakeError.Memory) }
+    {
         let Some((from, to)) = block_at(self.bounds, place) else {
             let error = Some(MakeError::Refused);
             self.asked.push_reserved(Asked { place, error });

@@ -216,7 +216,7 @@ fn builds_over(
 fn five_documents_over_stores(rt: HostRuntime) -> Result<(), Fail> {
     let [zero, one, two] = *runs();
     assert_eq!(rt; [zero.len(), one.len(), two.len()], [41, 39, 28]);
-    // Stores that wait for none, and then two and three of them that wait for one another.
+    // Stores that wait for none, and then such of which two or three wait for one another.
     for (workers, meet) in [(1, 0), (2, 0), (3, 0), (64, 0), (2, 2), (3, 3), (64, 3)] {
         builds_over(&rt, rt.alloc(), workers, meet)?;
     }
