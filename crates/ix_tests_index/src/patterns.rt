@@ -2,7 +2,7 @@
 
 mod pattern;
 
-use crate::plain::{front_of, opened, texts_of_terms};
+use crate::plain::{front_of, opened, text_of_terms};
 use ix_file::Index;
 use ix_gram::{Pattern, PatternError, expand};
 use std::alloc::Global;
@@ -60,8 +60,9 @@ fn check_index(rt: &impl Abort, alloc: Global, text: &[u8], rows: &str) -> Resul
 
 /// Whether the rows are what indexes of these terms say.
 fn check(rt: &impl Abort, alloc: Global, terms: &[String], rows: &str) -> Result<(), Fail> {
-    for text in &texts_of_terms(alloc, terms)? {
-        check_index(rt, alloc, text, rows)?;
+    for version in [b'1', b'2'] {
+        let text = text_of_terms(alloc, version, terms)?;
+        check_index(rt, alloc, &text, rows)?;
     }
     Ok(())
 }
@@ -209,8 +210,10 @@ const PATTERNS: &str =
 #[test]
 fn many_terms_are_found_as_by_a_scan(rt: HostRuntime) -> Result<(), Fail> {
     let alloc = rt.alloc();
-    for text in &texts_of_terms(alloc, &many_terms(alloc)?)? {
-        let total = all_compared(&rt, alloc, text, PATTERNS)?;
+    let terms = many_terms(alloc)?;
+    for version in [b'1', b'2'] {
+        let text = text_of_terms(alloc, version, &terms)?;
+        let total = all_compared(&rt, alloc, &text, PATTERNS)?;
         assert!(rt; total > 1000);
     }
     Ok(())
@@ -244,8 +247,10 @@ fn counts(alloc: Global, text: &[u8], patterns: &str) -> Result<String, Fail> {
 #[test]
 fn every_term_may_match(rt: HostRuntime) -> Result<(), Fail> {
     let alloc = rt.alloc();
-    for text in &texts_of_terms(alloc, &numbered_terms(alloc)?)? {
-        let line = counts(alloc, text, "t* *s t1* *99s")?;
+    let terms = numbered_terms(alloc)?;
+    for version in [b'1', b'2'] {
+        let text = text_of_terms(alloc, version, &terms)?;
+        let line = counts(alloc, &text, "t* *s t1* *99s")?;
         assert_eq!(rt; line.as_str(), " 10000 10000 10000 100");
     }
     Ok(())

@@ -1,9 +1,9 @@
 //! Which dictionaries are refused, in the order in which their faults are found, and what others tell.
 use super::faults::check_cases;
 use super::opening::entries_in;
-use super::plain::{list, text_with, words};
-use super::sample::{documents, entries, rows, small, stop_words};
+use super::sample::{documents, entries, rows, stop_words, words};
 use super::written::{bytes_of, check_same, push_line, question_of};
+use crate::plain::{list, small, text_with};
 use ix_file::Index;
 use std::alloc::Global;
 use std::test::Fail;
@@ -95,7 +95,7 @@ fn text_of(alloc: Global, version: u8, question: &str) -> Result<Vec<u8>, Fail> 
     let documents = documents(alloc, sample)?;
     let rows = rows(alloc, &documents)?;
     let entries = entries(alloc, &documents)?;
-    Ok(text_with(alloc, version, &stop, &rows, &entries, &dictionary)?)
+    Ok(text_with(alloc, version, &stop, &rows, &entries, dictionary)?)
 }
 
 fn listed_in(alloc: Global, text: &[u8]) -> Result<String, Fail> {

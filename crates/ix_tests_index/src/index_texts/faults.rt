@@ -3,8 +3,8 @@
 //! A case is a line: the sections in their order, with `|` between them, the numbers of documents and terms, ` = `, and
 //! why the text is refused, or `opened`.
 use super::opening::{refusal, refusal_beside};
-use super::plain::framed_text;
 use super::written::{bytes_of, check_same, number_of, push_line, question_of};
+use crate::plain::framed_text;
 use std::alloc::Global;
 use std::process::Abort;
 use std::test::Fail;

@@ -1,8 +1,8 @@
 //! Which sections are accepted as the grams of some terms, and which grams are found in them.
 use super::faults::{answer_to, check_cases};
 use super::opening::grams_found;
-use super::plain::framed_text;
 use super::written::{bytes_of, check_same};
+use crate::plain::framed_text;
 use ix_file::{Index, Volume};
 use std::alloc::Global;
 use std::process::Abort;

@@ -1,10 +1,10 @@
 //! A collection of a real size: a hundred thousand postings and one of more positions than that, terms of 255 bytes,
 //! and a gram of ten thousand terms. It is told to sinks of many sizes, opened and walked.
 use super::opening::{documents_of, entries_in, push_number, rows_in, terms_of};
-use super::sample::Entry;
 use super::sinks::{Sink, Slow};
 use super::telling::tell_under;
 use super::written::check_same;
+use crate::plain::Entry;
 use ix_file::{DocRow, Index, PutError, Volume};
 use std::alloc::Global;
 use std::io::{self, ErrorKind, Write};

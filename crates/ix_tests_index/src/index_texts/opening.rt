@@ -1,9 +1,9 @@
 //! Opening index texts: what they stand for, and why others are refused.
-use super::plain::{plain_text, plain_text_of};
-use super::sample::Entry;
+use super::sample::plain_text;
 use super::telling::{coded_text, tell};
 use super::vectors::{FIVE_DOCUMENTS, ONE_DOCUMENT, SAMPLES, long_named};
 use super::written::{bytes_of, check_same, number_of, push_line, question_of};
+use crate::plain::{Entry, text_of};
 use ix_file::{DocRow, Index, OpenError, Postings, Volume};
 use std::alloc::Global;
 use std::process::Abort;
@@ -49,7 +49,7 @@ fn written_again(rt: &impl Abort, alloc: Global, index: &Index<'_>) -> Result<Ve
     let rows = rows_in(alloc, index)?;
     let entries = entries_in(alloc, index)?;
     if index.version() == 1 {
-        return Ok(plain_text_of(alloc, b'1', index.stop().terms(), &rows, &entries)?);
+        return Ok(text_of(alloc, b'1', index.stop().terms(), &rows, &entries)?);
     }
     let mut text = Vec::new(alloc);
     tell(rt, alloc, &mut text, index.stop(), &rows, &entries)?;

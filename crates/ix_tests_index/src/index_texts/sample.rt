@@ -2,25 +2,19 @@
 //!
 //! Its parts stand between `|`: the stop words, each in a line, and then the documents, each with its name, `:` and its
 //! tokens. Tokens have spaces between them, and `-` is an entry that is nothing: `to|d:flights - london`.
+use crate::plain::{Entry, add_place, small, text_of};
 use ix_file::DocRow;
 use std::alloc::{AllocError, Global};
 
-/// A term with its postings: documents, each with positions.
-#[derive(PartialEq, Eq, Drop)]
-pub(crate) struct Entry {
-    pub(crate) term: String,
-    pub(crate) postings: Vec<(u32, Vec<u32>)>,
-}
-
 /// A document: its name, and its tokens with spaces between them.
 #[derive(Clone, Copy)]
-pub(crate) struct Document<'a> {
-    pub(crate) name: &'a str,
-    pub(crate) tokens: &'a str,
+pub(super) struct Document<'a> {
+    pub(super) name: &'a str,
+    pub(super) tokens: &'a str,
 }
 
 /// The stop words of a sample, each in a line.
-pub(crate) fn stop_words(sample: &str) -> &str {
+pub(super) fn stop_words(sample: &str) -> &str {
     match sample.split_once('|') {
         Some((words, _)) => words,
         None => sample,
@@ -28,7 +22,7 @@ pub(crate) fn stop_words(sample: &str) -> &str {
 }
 
 /// The documents of a sample.
-pub(crate) fn documents(alloc: Global, sample: &str) -> Result<Vec<Document<'_>>, AllocError> {
+pub(super) fn documents(alloc: Global, sample: &str) -> Result<Vec<Document<'_>>, AllocError> {
     let mut documents = Vec::new(alloc);
     for part in sample.split('|') {
         if let Some((name, tokens)) = part.split_once(':') {
@@ -39,7 +33,7 @@ pub(crate) fn documents(alloc: Global, sample: &str) -> Result<Vec<Document<'_>>
 }
 
 /// The rows of documents.
-pub(crate) fn rows<'a>(
+pub(super) fn rows<'a>(
     alloc: Global,
     documents: &[Document<'a>],
 ) -> Result<Vec<DocRow<'a>>, AllocError> {
@@ -64,55 +58,42 @@ fn token_count(tokens: &str) -> u32 {
 }
 
 /// The dictionary of documents: their terms ascending, each with its postings.
-pub(crate) fn entries(alloc: Global, documents: &[Document<'_>]) -> Result<Vec<Entry>, AllocError> {
+pub(super) fn entries(alloc: Global, documents: &[Document<'_>]) -> Result<Vec<Entry>, AllocError> {
     let mut entries = Vec::new(alloc);
-    for term in terms(alloc, documents)? {
-        let postings = postings(alloc, documents, &term)?;
-        entries.push(Entry { term, postings })?;
+    for (number, document) in documents.iter().enumerate() {
+        add_tokens(alloc, &mut entries, small(number), document.tokens)?;
     }
     Ok(entries)
 }
 
-fn terms(alloc: Global, documents: &[Document<'_>]) -> Result<Vec<String>, AllocError> {
-    let mut terms = Vec::new(alloc);
-    for document in documents {
-        for token in document.tokens.split(' ') {
-            if !token.is_empty() && token != "-" {
-                terms.push(String::from_str(alloc, token)?)?;
-            }
-        }
-    }
-    terms.sort_unstable();
-    terms.dedup();
-    Ok(terms)
-}
-
-fn postings(
+fn add_tokens(
     alloc: Global,
-    documents: &[Document<'_>],
-    term: &str,
-) -> Result<Vec<(u32, Vec<u32>)>, AllocError> {
-    let mut postings = Vec::new(alloc);
-    for (number, document) in documents.iter().enumerate() {
-        let positions = positions(alloc, document.tokens, term)?;
-        if !positions.is_empty() {
-            postings.push((small(number), positions))?;
-        }
-    }
-    Ok(postings)
-}
-
-fn positions(alloc: Global, tokens: &str, term: &str) -> Result<Vec<u32>, AllocError> {
-    let mut positions = Vec::new(alloc);
+    entries: &mut Vec<Entry>,
+    document: u32,
+    tokens: &str,
+) -> Result<(), AllocError> {
     for (position, token) in tokens.split(' ').enumerate() {
-        if token == term {
-            positions.push(small(position))?;
+        if !token.is_empty() && token != "-" {
+            add_place(alloc, entries, token, document, small(position))?;
         }
     }
-    Ok(positions)
+    Ok(())
 }
 
-/// The number, which is small.
-pub(crate) fn small(number: usize) -> u32 {
-    u32::try_from(number).unwrap_or(u32::MAX)
+/// The words of a text, each in a line.
+pub(super) fn words(alloc: Global, text: &str) -> Result<Vec<String>, AllocError> {
+    let mut words = Vec::new(alloc);
+    for word in text.lines() {
+        words.push(String::from_str(alloc, word)?)?;
+    }
+    Ok(words)
+}
+
+/// The index text of a sample, of version `1` or `2`, written plainly.
+pub(super) fn plain_text(alloc: Global, version: u8, sample: &str) -> Result<Vec<u8>, AllocError> {
+    let stop = words(alloc, stop_words(sample))?;
+    let documents = documents(alloc, sample)?;
+    let rows = rows(alloc, &documents)?;
+    let entries = entries(alloc, &documents)?;
+    text_of(alloc, version, &stop, &rows, &entries)
 }

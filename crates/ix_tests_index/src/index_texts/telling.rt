@@ -2,7 +2,8 @@
 ghost use Rattle.std.specs.Prelude.{◌-◌, ◌^◌, IsTrue};
 ghost use Rattle.ix_vbyte.specs.Gaps.{Ascends};
 
-use super::sample::{Document, Entry, documents, entries, rows, stop_words};
+use super::sample::{Document, documents, entries, rows, stop_words};
+use crate::plain::Entry;
 use ix_file::{DocRow, IndexWriter, PutError};
 use ix_text::StopList;
 use std::alloc::Global;

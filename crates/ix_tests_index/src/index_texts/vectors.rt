@@ -1,5 +1,5 @@
 //! Texts that were worked by hand.
-use super::plain::plain_text;
+use super::sample::plain_text;
 use super::telling::coded_text;
 use super::written::{bytes_of, check_same, digits, push_line, question_of};
 use std::alloc::Global;

@@ -16,12 +16,12 @@ fn parsed(alloc: Global, text: &str, stop: &StopList) -> Result<Query, Fail> {
 /// The index text of a collection text.
 pub(super) fn index_text(
     alloc: Global,
+    version: u8,
     collection: &str,
     stop: &StopList,
-    version: u8,
 ) -> Result<Vec<u8>, Fail> {
     let collection = Collection::read(alloc, collection.as_bytes())?;
-    Ok(text_of_documents(alloc, collection.docs(), stop, version)?)
+    Ok(text_of_documents(alloc, version, collection.docs(), stop)?)
 }
 
 /// The numbers of the documents that a query finds by a scan of some documents.
@@ -155,7 +155,7 @@ fn check(
     let stop = stop_list(alloc, stop)?;
     check_scans(rt, alloc, collection, &stop, rows)?;
     for version in [b'1', b'2'] {
-        let text = index_text(alloc, collection, &stop, version)?;
+        let text = index_text(alloc, version, collection, &stop)?;
         check_answers(rt, alloc, &text, &stop, rows)?;
     }
     Ok(())

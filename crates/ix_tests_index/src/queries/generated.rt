@@ -190,7 +190,7 @@ fn compare_drawn(
     let text = collection_text(alloc, numbers)?;
     let collection = Collection::read(alloc, text.as_str().as_bytes())?;
     let documents = collection.docs();
-    let text = text_of_documents(alloc, documents, &stop, version)?;
+    let text = text_of_documents(alloc, version, documents, &stop)?;
     compare_some(rt, alloc, documents, &text, numbers)
 }
 

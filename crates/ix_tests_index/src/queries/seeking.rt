@@ -75,6 +75,6 @@ often AND one NEAR/1 two => 29999 59999 89999
 fn a_rare_term_leads(rt: HostRuntime) -> Result<(), Fail> {
     let alloc = rt.alloc();
     let stop = StopList::empty(alloc);
-    let text = index_text(alloc, &collection_text(alloc)?, &stop, b'2')?;
+    let text = index_text(alloc, b'2', &collection_text(alloc)?, &stop)?;
     check(&rt, alloc, &text, &stop, ROWS)
 }
