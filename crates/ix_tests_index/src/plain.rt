@@ -5,6 +5,7 @@
 use ix_file::{DocRow, Index};
 use ix_text::{Doc, StopList, tokens, trigrams};
 use std::alloc::{AllocError, Global};
+use std::process::Abort;
 use std::test::Fail;
 
 /// A term with its postings: documents, each with positions.
@@ -328,6 +329,16 @@ pub(super) fn front_of(row: &str) -> Result<&str, Fail> {
         Some((front, _)) => Ok(front),
         None => Err("a row")?,
     }
+}
+
+/// Checks that what was got is what was wanted.
+pub(super) fn check_same(rt: &impl Abort, got: &str, want: &str) {
+    assert_eq!(rt; got, want);
+}
+
+/// Checks that the numbers that a question was answered are those that were wanted.
+pub(super) fn check_numbers(rt: &impl Abort, question: &str, got: &[u32], want: &[u32]) {
+    assert_eq!(rt; got, want, "{question}");
 }
 
 /// The number, which is small.

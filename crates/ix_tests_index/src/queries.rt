@@ -8,7 +8,7 @@ mod lexeme;
 mod query;
 mod seeking;
 
-use crate::plain::front_of;
+use crate::plain::{check_same, front_of};
 use ix_query::{Query, Term, Tree};
 use ix_text::StopList;
 use std::alloc::Global;
@@ -59,7 +59,7 @@ fn check(rt: &impl Abort, alloc: Global, rows: &str) -> Result<(), Fail> {
         let text = front_of(row)?;
         let told = told(alloc, text)?;
         let line = format!(in alloc; "{text} =>{told}")?;
-        assert_eq!(rt; line.as_str(), row);
+        check_same(rt, &line, row);
     }
     Ok(())
 }

@@ -1,8 +1,8 @@
 //! Positions whose gaps have codes of one, two and three bytes, in a document whose tokens are claimed by marks.
 use super::faults::answer_to;
 use super::opening::entries_in;
-use super::written::{check_same, number_of, push_line, question_of};
-use crate::plain::{Entry, text_of};
+use super::written::{number_of, push_line, question_of};
+use crate::plain::{Entry, check_same, text_of};
 use ix_file::{DocRow, Index};
 use std::alloc::{AllocError, Global};
 use std::test::Fail;
@@ -76,7 +76,7 @@ fn positions_far_apart(rt: HostRuntime) -> Result<(), Fail> {
     for line in POSITIONS.lines() {
         let positions = question_of(line)?;
         let answer = answer(&rt, alloc, positions)?;
-        push_line(alloc, &mut lines, positions, &answer)?;
+        push_line(&mut lines, positions, &answer)?;
     }
     check_same(&rt, &lines, POSITIONS);
     Ok(())

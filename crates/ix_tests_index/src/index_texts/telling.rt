@@ -54,13 +54,26 @@ pub(super) fn tell_under<W: Write>(
     Ok(tell(rt, alloc, sink, &stop, rows, entries))
 }
 
+/// The text of version 2 that the writer writes of rows and entries.
+pub(super) fn told(
+    rt: &impl Abort,
+    alloc: Global,
+    stop: &StopList,
+    rows: &[DocRow<'_>],
+    entries: &[Entry],
+) -> Result<Vec<u8>, Fail> {
+    let mut text = Vec::new(alloc);
+    tell(rt, alloc, &mut text, stop, rows, entries)?;
+    Ok(text)
+}
+
 /// The stop list of words, each in a line.
 fn stop_list(alloc: Global, words: &str) -> Result<StopList, Fail> {
     Ok(StopList::read(alloc, words)?)
 }
 
 /// Tells a collection of fewer than a million documents and positions to a writer of version 2 over the sink.
-pub(super) fn tell<W: Write>(
+fn tell<W: Write>(
     rt: &impl Abort,
     alloc: Global,
     out: &mut W,
