@@ -31,13 +31,13 @@ fn told_query(alloc: Global, query: &Query) -> Result<String, Fail> {
             first,
             second,
             distance,
-        } => {
-            let first = first.as_str();
-            let second = second.as_str();
-            Ok(format!(in alloc; " {first} NEAR/{distance} {second}")?)
-        }
+        } => told_near(alloc, first.as_str(), second.as_str(), *distance),
         tree => Ok(format!(in alloc; " {tree:?}")?),
     }
+}
+
+fn told_near(alloc: Global, first: &str, second: &str, distance: u32) -> Result<String, Fail> {
+    Ok(format!(in alloc; " {first} NEAR/{distance} {second}")?)
 }
 
 /// The terms, with `_` for a hole, and a space before each.

@@ -1,11 +1,11 @@
 //! Which dictionaries are refused, in the order in which their faults are found, and what others tell.
 use super::faults::check_cases;
 use super::opening::{entries_in, push_number};
-use super::sample::{documents, entries, rows, stop_words, words};
+use super::sample::{sample_of, words};
 use super::written::{bytes_of, push_line, question_of};
 use crate::plain::{check_same, list, opened, small, text_with};
 use ix_file::Index;
-use std::alloc::Global;
+use std::alloc::{AllocError, Global};
 use std::test::Fail;
 
 /// Refused in both versions: the first term stands whole.
@@ -85,17 +85,32 @@ fn told(alloc: Global, version: u8, table: &str) -> Result<String, Fail> {
     Ok(lines)
 }
 
-/// The text of a sample in which this dictionary stands.
+/// The text of a sample with this dictionary in place of its own.
+fn plain_text_with(
+    alloc: Global,
+    version: u8,
+    written: &str,
+    dictionary: Vec<u8>,
+) -> Result<Vec<u8>, AllocError> {
+    let sample = sample_of(alloc, written)?;
+    let stop = words(alloc, sample.stop_words)?;
+    text_with(
+        alloc,
+        version,
+        &stop,
+        &sample.rows,
+        &sample.entries,
+        dictionary,
+    )
+}
+
+/// The text of a sample and a dictionary.
 fn text_of(alloc: Global, version: u8, question: &str) -> Result<Vec<u8>, Fail> {
     let Some((sample, dictionary)) = question.split_once(';') else {
         return Err("a sample has a dictionary")?;
     };
     let dictionary = bytes_of(alloc, dictionary)?;
-    let stop = words(alloc, stop_words(sample))?;
-    let documents = documents(alloc, sample)?;
-    let rows = rows(alloc, &documents)?;
-    let entries = entries(alloc, &documents)?;
-    Ok(text_with(alloc, version, &stop, &rows, &entries, dictionary)?)
+    Ok(plain_text_with(alloc, version, sample, dictionary)?)
 }
 
 fn listed_in(alloc: Global, text: &[u8]) -> Result<String, Fail> {

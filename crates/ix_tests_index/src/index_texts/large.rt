@@ -1,10 +1,9 @@
 //! A collection of a real size: a hundred thousand postings and one of more positions than that, terms of 255 bytes,
 //! and a gram of ten thousand terms. It is told to sinks of many sizes, opened and walked.
-use super::opening::{
-    documents_of, entries_in, push_number, rows_in, terms_of, volume, volume_beside,
-};
+use super::opening::{entries_in, found, push_number, rows_in, volume, volume_beside};
 use super::sinks::{Pace, SLOW, Sink, UNEVEN, WHOLE};
 use super::telling::tell_under;
+use super::written::push_line;
 use crate::plain::{Entry, check_same, opened};
 use ix_file::{DocRow, Index, PutError};
 use std::alloc::Global;
@@ -122,20 +121,29 @@ fn tells_rows(alloc: Global, index: &Index<'_>) -> Result<bool, Fail> {
     Ok(is_same)
 }
 
-/// What an index finds: a term, a gram of all terms but the last, and one of it.
-fn found(alloc: Global, index: &Index<'_>) -> Result<String, Fail> {
-    let mut lines = documents_of(alloc, index, &term_of(alloc, 9900)?)?;
-    lines.push('\n')?;
-    lines.push_str(&terms_of(alloc, index, "$xx")?)?;
-    lines.push('\n')?;
-    lines.push_str(&terms_of(alloc, index, "$y$")?)?;
-    Ok(lines)
+/// What is found: a term, a gram of all terms but the last, and one of it.
+fn wanted(alloc: Global) -> Result<String, Fail> {
+    let term = term_of(alloc, 9900)?;
+    let all = numbers_below(alloc, TERMS)?;
+    let mut table = String::new(alloc);
+    push_line(
+        &mut table,
+        &format!(in alloc; "term {term}")?,
+        DOCUMENTS_OF_TERM,
+    )?;
+    push_line(&mut table, "gram $xx", &all)?;
+    push_line(&mut table, "gram $y$", "10000")?;
+    Ok(table)
 }
 
-fn wanted_found(alloc: Global) -> Result<String, Fail> {
-    let documents = "0 100 200 300 400 500 600 700 800 900";
-    let all = numbers_below(alloc, TERMS)?;
-    Ok(format!(in alloc; "{documents}\n{all}\n10000")?)
+/// The documents of that term.
+const DOCUMENTS_OF_TERM: &str = "0 100 200 300 400 500 600 700 800 900";
+
+/// Checks that an index finds that.
+fn check_found(rt: &impl Abort, alloc: Global, index: &Index<'_>) -> Result<(), Fail> {
+    let table = wanted(alloc)?;
+    check_same(rt, &found(alloc, index, &table)?, &table);
+    Ok(())
 }
 
 /// Whether an index tells these entries.
@@ -147,8 +155,7 @@ fn tells(alloc: Global, index: &Index<'_>, entries: &[Entry]) -> Result<bool, Fa
 fn check(rt: &impl Abort, alloc: Global, index: &Index<'_>, entries: &[Entry]) -> Result<(), Fail> {
     assert!(rt; tells_rows(alloc, index)?);
     assert!(rt; tells(alloc, index, entries)?);
-    check_same(rt, &found(alloc, index)?, &wanted_found(alloc)?);
-    Ok(())
+    check_found(rt, alloc, index)
 }
 
 /// Checks an index of the text.

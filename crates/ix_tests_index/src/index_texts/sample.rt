@@ -6,78 +6,57 @@ use crate::plain::{Entry, add_place, small, text_of};
 use ix_file::DocRow;
 use std::alloc::{AllocError, Global};
 
-/// A document: its name, and its tokens with spaces between them.
-#[derive(Clone, Copy)]
-pub(super) struct Document<'a> {
-    pub(super) name: &'a str,
-    pub(super) tokens: &'a str,
+/// What a sample stands for: its stop words, each in a line, the rows of its documents, and their terms ascending, each
+/// with its postings.
+#[derive(Drop)]
+pub(super) struct Sample<'a> {
+    pub(super) stop_words: &'a str,
+    pub(super) rows: Vec<DocRow<'a>>,
+    pub(super) entries: Vec<Entry>,
 }
 
-/// The stop words of a sample, each in a line.
-pub(super) fn stop_words(sample: &str) -> &str {
-    match sample.split_once('|') {
-        Some((words, _)) => words,
-        None => sample,
-    }
-}
-
-/// The documents of a sample.
-pub(super) fn documents(alloc: Global, sample: &str) -> Result<Vec<Document<'_>>, AllocError> {
-    let mut documents = Vec::new(alloc);
-    for part in sample.split('|') {
-        if let Some((name, tokens)) = part.split_once(':') {
-            documents.push(Document { name, tokens })?;
-        }
-    }
-    Ok(documents)
-}
-
-/// The rows of documents.
-pub(super) fn rows<'a>(
-    alloc: Global,
-    documents: &[Document<'a>],
-) -> Result<Vec<DocRow<'a>>, AllocError> {
+/// The sample that is written so.
+pub(super) fn sample_of(alloc: Global, written: &str) -> Result<Sample<'_>, AllocError> {
     let mut rows = Vec::new(alloc);
-    for document in documents {
-        let name = document.name;
-        let tokens = token_count(document.tokens);
-        rows.push(DocRow { name, tokens })?;
-    }
-    Ok(rows)
-}
-
-/// The number of entries of a token list.
-fn token_count(tokens: &str) -> u32 {
-    let mut count = 0u32;
-    for token in tokens.split(' ') {
-        if !token.is_empty() {
-            count = count.wrapping_add(1);
+    let mut entries = Vec::new(alloc);
+    for part in written.split('|') {
+        if let Some((name, list)) = part.split_once(':') {
+            let tokens = add_tokens(alloc, &mut entries, small(rows.len()), list)?;
+            rows.push(DocRow { name, tokens })?;
         }
     }
-    count
+    let stop_words = stop_words(written);
+    Ok(Sample {
+        stop_words,
+        rows,
+        entries,
+    })
 }
 
-/// The dictionary of documents: their terms ascending, each with its postings.
-pub(super) fn entries(alloc: Global, documents: &[Document<'_>]) -> Result<Vec<Entry>, AllocError> {
-    let mut entries = Vec::new(alloc);
-    for (number, document) in documents.iter().enumerate() {
-        add_tokens(alloc, &mut entries, small(number), document.tokens)?;
+fn stop_words(written: &str) -> &str {
+    match written.split_once('|') {
+        Some((words, _)) => words,
+        None => written,
     }
-    Ok(entries)
 }
 
+/// Puts the terms of a document's token list to the entries. How many tokens the list has.
 fn add_tokens(
     alloc: Global,
     entries: &mut Vec<Entry>,
     document: u32,
-    tokens: &str,
-) -> Result<(), AllocError> {
-    for (position, token) in tokens.split(' ').enumerate() {
-        if !token.is_empty() && token != "-" {
-            add_place(alloc, entries, token, document, small(position))?;
+    list: &str,
+) -> Result<u32, AllocError> {
+    let mut count = 0u32;
+    for token in list.split(' ') {
+        if !token.is_empty() {
+            if token != "-" {
+                add_place(alloc, entries, token, document, count)?;
+            }
+            count = count.wrapping_add(1);
         }
     }
-    Ok(())
+    Ok(count)
 }
 
 /// The words of a text, each in a line.
@@ -90,10 +69,8 @@ pub(super) fn words(alloc: Global, text: &str) -> Result<Vec<String>, AllocError
 }
 
 /// The index text of a sample, of version `1` or `2`, written plainly.
-pub(super) fn plain_text(alloc: Global, version: u8, sample: &str) -> Result<Vec<u8>, AllocError> {
-    let stop = words(alloc, stop_words(sample))?;
-    let documents = documents(alloc, sample)?;
-    let rows = rows(alloc, &documents)?;
-    let entries = entries(alloc, &documents)?;
-    text_of(alloc, version, &stop, &rows, &entries)
+pub(super) fn plain_text(alloc: Global, version: u8, written: &str) -> Result<Vec<u8>, AllocError> {
+    let sample = sample_of(alloc, written)?;
+    let stop = words(alloc, sample.stop_words)?;
+    text_of(alloc, version, &stop, &sample.rows, &sample.entries)
 }

@@ -2,7 +2,7 @@
 ghost use Rattle.std.specs.Prelude.{◌-◌, ◌^◌, IsTrue};
 ghost use Rattle.ix_vbyte.specs.Gaps.{Ascends};
 
-use super::sample::{Document, documents, entries, rows, stop_words};
+use super::sample::sample_of;
 use crate::plain::Entry;
 use ix_file::{DocRow, IndexWriter, PutError};
 use ix_text::StopList;
@@ -23,22 +23,17 @@ pub(super) fn tell_sample<W: Write>(
     rt: &impl Abort,
     alloc: Global,
     sink: &mut W,
-    sample: &str,
+    written: &str,
 ) -> Result<Result<(), PutError>, Fail> {
-    let documents = documents(alloc, sample)?;
-    tell_documents(rt, alloc, sink, stop_words(sample), &documents)
-}
-
-fn tell_documents<W: Write>(
-    rt: &impl Abort,
-    alloc: Global,
-    sink: &mut W,
-    words: &str,
-    documents: &[Document<'_>],
-) -> Result<Result<(), PutError>, Fail> {
-    let rows = rows(alloc, documents)?;
-    let entries = entries(alloc, documents)?;
-    tell_under(rt, alloc, sink, words, &rows, &entries)
+    let sample = sample_of(alloc, written)?;
+    tell_under(
+        rt,
+        alloc,
+        sink,
+        sample.stop_words,
+        &sample.rows,
+        &sample.entries,
+    )
 }
 
 /// Tells rows and entries under these stop words to a writer over the sink, and gives the writer's answer.
