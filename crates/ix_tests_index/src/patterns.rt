@@ -2,7 +2,7 @@
 
 mod pattern;
 
-use crate::plain::{front_of, opened, texts_of_terms};
+use crate::plain::{check_numbers, check_same, front_of, opened, text_of_terms};
 use ix_file::Index;
 use ix_gram::{Pattern, PatternError, expand};
 use std::alloc::Global;
@@ -53,15 +53,16 @@ fn check_index(rt: &impl Abort, alloc: Global, text: &[u8], rows: &str) -> Resul
     let index = opened(alloc, text)?;
     for row in rows.lines() {
         let line = found_row(rt, alloc, &index, row)?;
-        assert_eq!(rt; line.as_str(), row);
+        check_same(rt, &line, row);
     }
     Ok(())
 }
 
 /// Whether the rows are what indexes of these terms say.
 fn check(rt: &impl Abort, alloc: Global, terms: &[String], rows: &str) -> Result<(), Fail> {
-    for text in &texts_of_terms(alloc, terms)? {
-        check_index(rt, alloc, text, rows)?;
+    for version in [b'1', b'2'] {
+        let text = text_of_terms(alloc, version, terms)?;
+        check_index(rt, alloc, &text, rows)?;
     }
     Ok(())
 }
@@ -116,7 +117,7 @@ fn hundred(alloc: Global, one: &str, other: &str) -> Result<String, Fail> {
 fn a_hundred_pieces_are_found(rt: HostRuntime) -> Result<(), Fail> {
     let alloc = rt.alloc();
     let term = hundred(alloc, "ab", "c")?;
-    assert_eq!(rt; term.len(), 150);
+    assert!(rt; term.len() == 150);
     let pieces = hundred(alloc, "b*", "c*")?;
     let rows = format!(in alloc; "*{pieces} => {term}\n{pieces} =>")?;
     let terms = format!(in alloc; "ab abc {term} b")?;
@@ -183,7 +184,7 @@ fn compared(
 ) -> Result<usize, Fail> {
     let numbers = expanded(alloc, index, pattern)?;
     let plain = scanned(alloc, index, pattern)?;
-    assert_eq!(rt; numbers.as_slice(), plain.as_slice(), "{pattern}");
+    check_numbers(rt, pattern, &numbers, &plain);
     Ok(numbers.len())
 }
 
@@ -209,8 +210,10 @@ const PATTERNS: &str =
 #[test]
 fn many_terms_are_found_as_by_a_scan(rt: HostRuntime) -> Result<(), Fail> {
     let alloc = rt.alloc();
-    for text in &texts_of_terms(alloc, &many_terms(alloc)?)? {
-        let total = all_compared(&rt, alloc, text, PATTERNS)?;
+    let terms = many_terms(alloc)?;
+    for version in [b'1', b'2'] {
+        let text = text_of_terms(alloc, version, &terms)?;
+        let total = all_compared(&rt, alloc, &text, PATTERNS)?;
         assert!(rt; total > 1000);
     }
     Ok(())
@@ -225,28 +228,30 @@ fn numbered_terms(alloc: Global) -> Result<Vec<String>, Fail> {
     Ok(terms)
 }
 
-/// How many terms a pattern finds, behind a space.
-fn count(alloc: Global, index: &Index<'_>, pattern: &str) -> Result<String, Fail> {
-    let count = expanded(alloc, index, pattern)?.len();
-    Ok(format!(in alloc; " {count}")?)
-}
+/// Patterns, and how many of these terms each of them finds.
+const COUNTS: [(&str, usize); 4] = [
+    ("t*", 10_000),
+    ("*s", 10_000),
+    ("t1*", 10_000),
+    ("*99s", 100),
+];
 
-/// How many terms each of the patterns finds.
-fn counts(alloc: Global, text: &[u8], patterns: &str) -> Result<String, Fail> {
-    let index = opened(alloc, text)?;
-    let mut line = String::new(alloc);
-    for pattern in patterns.split(' ') {
-        line.push_str(count(alloc, &index, pattern)?.as_str())?;
+/// Checks how many terms of an index text each of the patterns finds.
+fn check_counts(rt: &impl Abort, alloc: Global, text: &[u8]) -> Result<(), Fail> {
+    for (pattern, count) in COUNTS {
+        let found = all_compared(rt, alloc, text, pattern)?;
+        assert!(rt; found == count, "{pattern}");
     }
-    Ok(line)
+    Ok(())
 }
 
 #[test]
 fn every_term_may_match(rt: HostRuntime) -> Result<(), Fail> {
     let alloc = rt.alloc();
-    for text in &texts_of_terms(alloc, &numbered_terms(alloc)?)? {
-        let line = counts(alloc, text, "t* *s t1* *99s")?;
-        assert_eq!(rt; line.as_str(), " 10000 10000 10000 100");
+    let terms = numbered_terms(alloc)?;
+    for version in [b'1', b'2'] {
+        let text = text_of_terms(alloc, version, &terms)?;
+        check_counts(&rt, alloc, &text)?;
     }
     Ok(())
 }
@@ -270,17 +275,27 @@ fn is_match(alloc: Global, pattern: &str, term: &str) -> Result<bool, Fail> {
     Ok(Pattern::read(alloc, pattern)?.matches(term))
 }
 
-#[test]
-fn long_texts_are_read_or_refused(rt: HostRuntime) -> Result<(), Fail> {
-    let alloc = rt.alloc();
+/// Checks the letters that are no pattern, and those before a star.
+fn check_letters(rt: &impl Abort, alloc: Global) -> Result<(), Fail> {
     let letters = five_thousand(alloc, 'a')?;
-    let stars = five_thousand(alloc, '*')?;
-    assert_eq!(rt; refusal(alloc, &letters), Some(PatternError::NoStar));
-    assert_eq!(rt; refusal(alloc, &stars), Some(PatternError::BareStar));
+    assert!(rt; refusal(alloc, &letters) == Some(PatternError::NoStar));
     let starred = format!(in alloc; "{letters}*")?;
     assert!(rt; is_match(alloc, &starred, &letters)?);
     assert!(rt; !is_match(alloc, &starred, "a")?);
+    Ok(())
+}
+
+/// Checks the stars that are no pattern, and those before a letter.
+fn check_stars(rt: &impl Abort, alloc: Global) -> Result<(), Fail> {
+    let stars = five_thousand(alloc, '*')?;
+    assert!(rt; refusal(alloc, &stars) == Some(PatternError::BareStar));
     let behind_stars = format!(in alloc; "{stars}a")?;
     assert!(rt; is_match(alloc, &behind_stars, "ba")?);
     Ok(())
+}
+
+#[test]
+fn long_texts_are_read_or_refused(rt: HostRuntime) -> Result<(), Fail> {
+    check_letters(&rt, rt.alloc())?;
+    check_stars(&rt, rt.alloc())
 }

@@ -2,16 +2,17 @@
 //! one behind another. The version is `1`, or `2` where the dictionary is front coded. Beside them stands what the tests
 //! of patterns and of queries have in common: an index that is opened, and rows that have an arrow.
 
-use ix_file::Index;
+use ix_file::{DocRow, Index};
 use ix_text::{Doc, StopList, tokens, trigrams};
 use std::alloc::{AllocError, Global};
+use std::process::Abort;
 use std::test::Fail;
 
 /// A term with its postings: documents, each with positions.
-#[derive(Drop)]
-struct Entry {
-    term: String,
-    postings: Vec<(u32, Vec<u32>)>,
+#[derive(PartialEq, Eq, Drop)]
+pub(super) struct Entry {
+    pub(super) term: String,
+    pub(super) postings: Vec<(u32, Vec<u32>)>,
 }
 
 impl Entry {
@@ -32,19 +33,20 @@ impl Entry {
 }
 
 /// Puts a place of a term to the entries, which ascend by their terms. The places of a term come in order.
-fn add_place(
+pub(super) fn add_place(
     alloc: Global,
     entries: &mut Vec<Entry>,
-    term: String,
+    term: &str,
     document: u32,
     position: u32,
 ) -> Result<(), AllocError> {
-    let place = entries.partition_point(|entry| entry.term.as_str() < term.as_str());
+    let place = entries.partition_point(|entry| entry.term.as_str() < term);
     let is_new = match entries.get(place) {
-        Some(entry) => entry.term.as_str() != term.as_str(),
+        Some(entry) => entry.term.as_str() != term,
         None => true,
     };
     if is_new {
+        let term = String::from_str(alloc, term)?;
         let postings = Vec::new(alloc);
         entries.insert(place, Entry { term, postings })?;
     }
@@ -59,9 +61,9 @@ fn add_tokens(
     alloc: Global,
     entries: &mut Vec<Entry>,
     document: u32,
-    list: Vec<Option<String>>,
+    list: &[Option<String>],
 ) -> Result<(), AllocError> {
-    for (position, entry) in list.into_iter().enumerate() {
+    for (position, entry) in list.iter().enumerate() {
         if let Some(term) = entry {
             add_place(alloc, entries, term, document, small(position))?;
         }
@@ -69,78 +71,78 @@ fn add_tokens(
     Ok(())
 }
 
-/// What the text has in both versions: its entries, its sections without the dictionary, and how many documents it has.
-#[derive(Drop)]
-struct Parts {
-    entries: Vec<Entry>,
-    postings: Vec<u8>,
-    stops: Vec<u8>,
-    rows: Vec<u8>,
-    grams: Vec<u8>,
-    documents: usize,
-}
-
 /// The index text of some documents under a stop list.
 pub(super) fn text_of_documents(
     alloc: Global,
+    version: u8,
     documents: &[Doc<'_>],
     stop: &StopList,
-    version: u8,
 ) -> Result<Vec<u8>, AllocError> {
     let mut rows = Vec::new(alloc);
     let mut entries = Vec::new(alloc);
     for (number, document) in documents.iter().enumerate() {
         let list = tokens(alloc, document.text, stop)?;
-        push_row(&mut rows, document.name, list.len())?;
-        add_tokens(alloc, &mut entries, small(number), list)?;
+        let name = document.name;
+        let tokens = small(list.len());
+        rows.push(DocRow { name, tokens })?;
+        add_tokens(alloc, &mut entries, small(number), &list)?;
     }
-    let stops = stops(alloc, stop)?;
-    let parts = parts_of(alloc, documents.len(), stops, rows, entries)?;
-    written(alloc, &parts, version)
+    text_of(alloc, version, stop.terms(), &rows, &entries)
 }
 
-/// The index texts, in version 1 and in version 2, of one document `d` whose n-th token is the n-th of some terms.
-pub(super) fn texts_of_terms(alloc: Global, terms: &[String]) -> Result<[Vec<u8>; 2], AllocError> {
-    let mut row = Vec::new(alloc);
-    push_row(&mut row, "d", terms.len())?;
+/// The index text of one document `d` whose n-th token is the n-th of some terms.
+pub(super) fn text_of_terms(
+    alloc: Global,
+    version: u8,
+    terms: &[String],
+) -> Result<Vec<u8>, AllocError> {
     let mut entries = Vec::new(alloc);
     for (position, term) in terms.iter().enumerate() {
-        add_place(alloc, &mut entries, term.clone()?, 0, small(position))?;
+        add_place(alloc, &mut entries, term, 0, small(position))?;
     }
-    let parts = parts_of(alloc, 1, Vec::new(alloc), row, entries)?;
-    Ok([written(alloc, &parts, b'1')?, written(alloc, &parts, b'2')?])
+    let name = "d";
+    let tokens = small(terms.len());
+    text_of(alloc, version, &[], &[DocRow { name, tokens }], &entries)
 }
 
-/// The parts from the sections of stop terms and of documents, and from the entries.
-fn parts_of(
+/// The index text of these stop terms, rows and entries.
+pub(super) fn text_of(
     alloc: Global,
-    documents: usize,
-    stops: Vec<u8>,
-    rows: Vec<u8>,
-    entries: Vec<Entry>,
-) -> Result<Parts, AllocError> {
-    let postings = postings(alloc, &entries)?;
-    let grams = grams(alloc, &entries)?;
-    Ok(Parts {
-        entries,
-        postings,
-        stops,
-        rows,
-        grams,
-        documents,
-    })
+    version: u8,
+    stop: &[String],
+    rows: &[DocRow<'_>],
+    entries: &[Entry],
+) -> Result<Vec<u8>, AllocError> {
+    let dictionary = dictionary(alloc, version, entries)?;
+    text_with(alloc, version, stop, rows, entries, dictionary)
 }
 
-/// The sections between the marks of the version, with the lengths of all and the counts of documents and terms.
-fn written(alloc: Global, parts: &Parts, version: u8) -> Result<Vec<u8>, AllocError> {
-    let dictionary = dictionary(alloc, &parts.entries, version)?;
-    let sections = [
-        parts.postings.as_slice(),
-        parts.stops.as_slice(),
-        parts.rows.as_slice(),
-        dictionary.as_slice(),
-        parts.grams.as_slice(),
-    ];
+/// The same with this dictionary in place of that of the entries.
+pub(super) fn text_with(
+    alloc: Global,
+    version: u8,
+    stop: &[String],
+    rows: &[DocRow<'_>],
+    entries: &[Entry],
+    dictionary: Vec<u8>,
+) -> Result<Vec<u8>, AllocError> {
+    let mut sections = Vec::new(alloc);
+    sections.push(postings(alloc, entries)?)?;
+    sections.push(stops(alloc, stop)?)?;
+    sections.push(documents(alloc, rows)?)?;
+    sections.push(dictionary)?;
+    sections.push(grams(alloc, entries)?)?;
+    let counts = [small(rows.len()), small(entries.len())];
+    framed_text(alloc, version, &sections, counts)
+}
+
+/// Five sections between the marks of the version, with the lengths of all and the counts of documents and terms.
+pub(super) fn framed_text(
+    alloc: Global,
+    version: u8,
+    sections: &[Vec<u8>],
+    counts: [u32; 2],
+) -> Result<Vec<u8>, AllocError> {
     let mut text = Vec::new(alloc);
     text.extend_from_slice(b"PIIX000")?;
     text.push(version)?;
@@ -150,8 +152,8 @@ fn written(alloc: Global, parts: &Parts, version: u8) -> Result<Vec<u8>, AllocEr
     for section in sections {
         text.extend_from_slice(&(section.len() as u64).to_le_bytes())?;
     }
-    for count in [parts.documents, parts.entries.len()] {
-        text.extend_from_slice(&small(count).to_le_bytes())?;
+    for count in counts {
+        text.extend_from_slice(&count.to_le_bytes())?;
     }
     text.extend_from_slice(b"PIIXEND")?;
     text.push(version)?;
@@ -166,23 +168,27 @@ fn postings(alloc: Global, entries: &[Entry]) -> Result<Vec<u8>, AllocError> {
     Ok(section)
 }
 
-fn stops(alloc: Global, stop: &StopList) -> Result<Vec<u8>, AllocError> {
+fn stops(alloc: Global, stop: &[String]) -> Result<Vec<u8>, AllocError> {
     let mut section = Vec::new(alloc);
-    for term in stop.terms() {
+    for term in stop {
         push_text(&mut section, term.as_bytes())?;
     }
     Ok(section)
 }
 
-/// The row of a document: its name, and how many tokens it has.
-fn push_row(section: &mut Vec<u8>, name: &str, tokens: usize) -> Result<(), AllocError> {
-    push_text(section, name.as_bytes())?;
-    push_number(section, small(tokens))
+/// The name of each document, and how many tokens it has.
+fn documents(alloc: Global, rows: &[DocRow<'_>]) -> Result<Vec<u8>, AllocError> {
+    let mut section = Vec::new(alloc);
+    for row in rows {
+        push_text(&mut section, row.name.as_bytes())?;
+        push_number(&mut section, row.tokens)?;
+    }
+    Ok(section)
 }
 
 /// Each term with the count of its documents and the length of its list. In version 2 the first of every four is whole,
 /// and the others share their front with the one before.
-fn dictionary(alloc: Global, entries: &[Entry], version: u8) -> Result<Vec<u8>, AllocError> {
+fn dictionary(alloc: Global, version: u8, entries: &[Entry]) -> Result<Vec<u8>, AllocError> {
     let mut section = Vec::new(alloc);
     let mut before = "";
     for (place, entry) in entries.iter().enumerate() {
@@ -272,7 +278,7 @@ fn push_gram(section: &mut Vec<u8>, gram: &str, numbers: &[u32]) -> Result<(), A
 }
 
 /// The coded list of an entry.
-fn list(alloc: Global, entry: &Entry) -> Result<Vec<u8>, AllocError> {
+pub(super) fn list(alloc: Global, entry: &Entry) -> Result<Vec<u8>, AllocError> {
     let mut list = Vec::new(alloc);
     let mut next = 0u32;
     for (document, positions) in &entry.postings {
@@ -325,7 +331,17 @@ pub(super) fn front_of(row: &str) -> Result<&str, Fail> {
     }
 }
 
+/// Checks that what was got is what was wanted.
+pub(super) fn check_same(rt: &impl Abort, got: &str, want: &str) {
+    assert_eq!(rt; got, want);
+}
+
+/// Checks that the numbers that a question was answered are those that were wanted.
+pub(super) fn check_numbers(rt: &impl Abort, question: &str, got: &[u32], want: &[u32]) {
+    assert_eq!(rt; got, want, "{question}");
+}
+
 /// The number, which is small.
-fn small(number: usize) -> u32 {
+pub(super) fn small(number: usize) -> u32 {
     u32::try_from(number).unwrap_or(u32::MAX)
 }

@@ -8,7 +8,7 @@ mod lexeme;
 mod query;
 mod seeking;
 
-use crate::plain::front_of;
+use crate::plain::{check_same, front_of};
 use ix_query::{Query, Term, Tree};
 use ix_text::StopList;
 use std::alloc::Global;
@@ -31,13 +31,13 @@ fn told_query(alloc: Global, query: &Query) -> Result<String, Fail> {
             first,
             second,
             distance,
-        } => {
-            let first = first.as_str();
-            let second = second.as_str();
-            Ok(format!(in alloc; " {first} NEAR/{distance} {second}")?)
-        }
+        } => told_near(alloc, first.as_str(), second.as_str(), *distance),
         tree => Ok(format!(in alloc; " {tree:?}")?),
     }
+}
+
+fn told_near(alloc: Global, first: &str, second: &str, distance: u32) -> Result<String, Fail> {
+    Ok(format!(in alloc; " {first} NEAR/{distance} {second}")?)
 }
 
 /// The terms, with `_` for a hole, and a space before each.
@@ -59,7 +59,7 @@ fn check(rt: &impl Abort, alloc: Global, rows: &str) -> Result<(), Fail> {
         let text = front_of(row)?;
         let told = told(alloc, text)?;
         let line = format!(in alloc; "{text} =>{told}")?;
-        assert_eq!(rt; line.as_str(), row);
+        check_same(rt, &line, row);
     }
     Ok(())
 }

@@ -1,11 +1,11 @@
 //! Which dictionaries are refused, in the order in which their faults are found, and what others tell.
 use super::faults::check_cases;
-use super::opening::entries_in;
-use super::plain::{list, text_with, words};
-use super::sample::{documents, entries, rows, small, stop_words};
-use super::written::{bytes_of, check_same, push_line, question_of};
+use super::opening::{entries_in, push_number};
+use super::sample::{sample_of, words};
+use super::written::{bytes_of, push_line, question_of};
+use crate::plain::{check_same, list, opened, small, text_with};
 use ix_file::Index;
-use std::alloc::Global;
+use std::alloc::{AllocError, Global};
 use std::test::Fail;
 
 /// Refused in both versions: the first term stands whole.
@@ -63,15 +63,15 @@ fn faults_of_the_dictionary(rt: HostRuntime) -> Result<(), Fail> {
 /// the place and size of its list.
 const ROWS_PLAIN: &str = "\
 to|; = 0:
-to|a:x y|b:y|c:|d:y x y|e:x; 81 'x' 83 89 81 'y' 83 8a = 2: x 3 0+9; y 3 9+10;
+to|a:x y|b:y|c:|d:y x y|e:x; 81 'x' 83 89 81 'y' 83 8a = 2: x 3 0 9; y 3 9 10;
 ";
 
 /// The same in version 2.
 const ROWS_FRONT_CODED: &str = "\
-to|a:x y|b:y|c:|d:y x y|e:x; 81 'x' 83 89 80 81 'y' 83 8a = 2: x 3 0+9; y 3 9+10;
+to|a:x y|b:y|c:|d:y x y|e:x; 81 'x' 83 89 80 81 'y' 83 8a = 2: x 3 0 9; y 3 9 10;
 to|d:a ab abc abcd abcde; 81 'a' 81 83 81 81 'b' 81 83 82 81 'c' 81 83 83 81 'd' 81 83 85 'abcde' 81 83 \
-= 5: a 1 0+3; ab 1 3+3; abc 1 6+3; abcd 1 9+3; abcde 1 12+3;
-to|d:è é; 82 c3 a8 81 83 81 81 a9 81 83 = 2: è 1 0+3; é 1 3+3;
+= 5: a 1 0 3; ab 1 3 3; abc 1 6 3; abcd 1 9 3; abcde 1 12 3;
+to|d:è é; 82 c3 a8 81 83 81 81 a9 81 83 = 2: è 1 0 3; é 1 3 3;
 ";
 
 /// The lines with what the texts of a version with these dictionaries tell.
@@ -80,58 +80,67 @@ fn told(alloc: Global, version: u8, table: &str) -> Result<String, Fail> {
     for line in table.lines() {
         let question = question_of(line)?;
         let listed = listed_in(alloc, &text_of(alloc, version, question)?)?;
-        push_line(alloc, &mut lines, question, &listed)?;
+        push_line(&mut lines, question, &listed)?;
     }
     Ok(lines)
 }
 
-/// The text of a sample in which this dictionary stands.
+/// The text of a sample with this dictionary in place of its own.
+fn plain_text_with(
+    alloc: Global,
+    version: u8,
+    written: &str,
+    dictionary: Vec<u8>,
+) -> Result<Vec<u8>, AllocError> {
+    let sample = sample_of(alloc, written)?;
+    let stop = words(alloc, sample.stop_words)?;
+    text_with(
+        alloc,
+        version,
+        &stop,
+        &sample.rows,
+        &sample.entries,
+        dictionary,
+    )
+}
+
+/// The text of a sample and a dictionary.
 fn text_of(alloc: Global, version: u8, question: &str) -> Result<Vec<u8>, Fail> {
     let Some((sample, dictionary)) = question.split_once(';') else {
         return Err("a sample has a dictionary")?;
     };
     let dictionary = bytes_of(alloc, dictionary)?;
-    let stop = words(alloc, stop_words(sample))?;
-    let documents = documents(alloc, sample)?;
-    let rows = rows(alloc, &documents)?;
-    let entries = entries(alloc, &documents)?;
-    Ok(text_with(alloc, version, &stop, &rows, &entries, &dictionary)?)
+    Ok(plain_text_with(alloc, version, sample, dictionary)?)
 }
 
 fn listed_in(alloc: Global, text: &[u8]) -> Result<String, Fail> {
-    let index = Index::open(alloc, text)?;
+    let index = opened(alloc, text)?;
     listed(alloc, &index)
 }
 
 /// The number of terms, and each term, the number of its documents, and the place and size of its list.
 fn listed(alloc: Global, index: &Index<'_>) -> Result<String, Fail> {
     let entries = entries_in(alloc, index)?;
-    let mut text = format!(in alloc; "{}:", entries.len())?;
-    let mut start = 0usize;
+    let mut text = String::new(alloc);
+    push_number(alloc, &mut text, small(entries.len()))?;
+    text.push(':')?;
+    let mut start = 0u32;
     for (number, entry) in entries.iter().enumerate() {
-        let size = list(alloc, entry)?.len();
-        push_row(
-            alloc,
-            &mut text,
-            &entry.term,
-            documents_of(index, small(number)),
-            [start, size],
-        )?;
+        let documents = documents_of(index, small(number));
+        let size = small(list(alloc, entry)?.len());
+        push_row(alloc, &mut text, &entry.term, [documents, start, size])?;
         start = start.wrapping_add(size);
     }
     Ok(text)
 }
 
-fn push_row(
-    alloc: Global,
-    text: &mut String,
-    term: &str,
-    documents: u32,
-    place: [usize; 2],
-) -> Result<(), Fail> {
-    let [start, size] = place;
-    let row = format!(in alloc; " {term} {documents} {start}+{size};")?;
-    text.push_str(&row)?;
+fn push_row(alloc: Global, text: &mut String, term: &str, numbers: [u32; 3]) -> Result<(), Fail> {
+    text.push(' ')?;
+    text.push_str(term)?;
+    for number in numbers {
+        push_number(alloc, text, number)?;
+    }
+    text.push(';')?;
     Ok(())
 }
 

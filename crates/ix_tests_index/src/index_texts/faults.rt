@@ -3,8 +3,8 @@
 //! A case is a line: the sections in their order, with `|` between them, the numbers of documents and terms, ` = `, and
 //! why the text is refused, or `opened`.
 use super::opening::{refusal, refusal_beside};
-use super::plain::framed_text;
-use super::written::{bytes_of, check_same, number_of, push_line, question_of};
+use super::written::{bytes_of, number_of, push_line, question_of};
+use crate::plain::{check_same, framed_text};
 use std::alloc::Global;
 use std::process::Abort;
 use std::test::Fail;
@@ -33,7 +33,7 @@ fn answered(
     for line in cases.lines() {
         let case = question_of(line)?;
         let answer = answer_to(rt, alloc, text_of(alloc, version, case)?)?;
-        push_line(alloc, &mut lines, case, &answer)?;
+        push_line(&mut lines, case, &answer)?;
     }
     Ok(lines)
 }
@@ -45,12 +45,13 @@ pub(super) fn answer_to(
     alloc: Global,
     text: Vec<u8>,
 ) -> Result<String, Fail> {
-    let alone = refusal(alloc, &text)?;
+    let mut answer = refusal(alloc, &text)?;
     let beside = refusal_beside(rt, alloc, text)?;
-    if alone == beside {
-        return Ok(alone);
+    if answer != beside {
+        answer.push_str(" and ")?;
+        answer.push_str(&beside)?;
     }
-    Ok(format!(in alloc; "{alone} and {beside}")?)
+    Ok(answer)
 }
 
 /// The text of a version with these sections and numbers.

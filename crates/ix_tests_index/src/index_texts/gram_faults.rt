@@ -1,9 +1,8 @@
 //! Which sections are accepted as the grams of some terms, and which grams are found in them.
 use super::faults::{answer_to, check_cases};
-use super::opening::grams_found;
-use super::plain::framed_text;
-use super::written::{bytes_of, check_same};
-use ix_file::{Index, Volume};
+use super::opening::{found, found_in, volume_beside};
+use super::written::bytes_of;
+use crate::plain::{check_same, framed_text};
 use std::alloc::Global;
 use std::process::Abort;
 use std::test::Fail;
@@ -21,10 +20,10 @@ const READ: &str = "\
 
 /// Grams, and the numbers of the two terms that have them.
 const FOUND: &str = "\
-$x$ = 0
-$y$ = 1
-$a$ = none
-$z$ = none
+gram $x$ = 0
+gram $y$ = 1
+gram $a$ = none
+gram $z$ = none
 ";
 
 /// The text of a document with the terms `x` and `y`, and with these grams.
@@ -42,14 +41,9 @@ fn text_with(alloc: Global, grams: &[u8]) -> Result<Vec<u8>, Fail> {
     Ok(framed_text(alloc, b'1', &sections, [1, 2])?)
 }
 
-fn found_alone(alloc: Global, text: &[u8]) -> Result<String, Fail> {
-    let index = Index::open(alloc, text)?;
-    grams_found(alloc, &index, FOUND)
-}
-
 fn found_beside(rt: &(impl Threads + Sync), alloc: Global, text: Vec<u8>) -> Result<String, Fail> {
-    let volume = Volume::open_beside(rt, alloc, text)?;
-    grams_found(alloc, &volume.index(), FOUND)
+    let volume = volume_beside(rt, alloc, text)?;
+    found(alloc, &volume.index(), FOUND)
 }
 
 #[test]
@@ -57,7 +51,7 @@ fn grams_are_read_and_found(rt: HostRuntime) -> Result<(), Fail> {
     let alloc = rt.alloc();
     check_cases(&rt, alloc, b'1', READ)?;
     let text = text_with(alloc, &bytes_of(alloc, TWO)?)?;
-    check_same(&rt, &found_alone(alloc, &text)?, FOUND);
+    check_same(&rt, &found_in(alloc, &text, FOUND)?, FOUND);
     check_same(&rt, &found_beside(&rt, alloc, text)?, FOUND);
     Ok(())
 }

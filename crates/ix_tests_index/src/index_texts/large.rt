@@ -1,16 +1,15 @@
 //! A collection of a real size: a hundred thousand postings and one of more positions than that, terms of 255 bytes,
 //! and a gram of ten thousand terms. It is told to sinks of many sizes, opened and walked.
-use super::opening::{documents_of, entries_in, push_number, rows_in, terms_of};
-use super::sample::Entry;
-use super::sinks::{Sink, Slow};
+use super::opening::{entries_in, found, push_number, rows_in, volume, volume_beside};
+use super::sinks::{Pace, SLOW, Sink, UNEVEN, WHOLE};
 use super::telling::tell_under;
-use super::written::check_same;
-use ix_file::{DocRow, Index, PutError, Volume};
+use super::written::push_line;
+use crate::plain::{Entry, check_same, opened};
+use ix_file::{DocRow, Index, PutError};
 use std::alloc::Global;
-use std::io::{self, ErrorKind, Write};
+use std::io::Write;
 use std::process::Abort;
 use std::test::Fail;
-use std::thread::Threads;
 
 /// How many terms there are, but for the last. Each stands in ten documents.
 const TERMS: u32 = 10_000;
@@ -102,26 +101,13 @@ fn tell_to<W: Write>(
     tell_under(rt, alloc, sink, "to", &rows, entries)
 }
 
-/// A sink that takes pieces of changing sizes, and now and then interrupts a call.
-#[derive(Drop)]
-struct Uneven {
-    sink: Sink,
-    calls: usize,
-}
-
-impl Write for Uneven {
-    fn write(&mut self, bytes: &[u8]) -> io::Result<usize> {
-        self.calls = self.calls.wrapping_add(1);
-        if self.calls % 3 == 0 {
-            return Err(ErrorKind::Interrupted.into());
-        }
-        let size = self.calls % 97 * 787 + 1;
-        self.sink.write(&bytes[..size.min(bytes.len())])
+/// The numbers below this one.
+fn numbers_below(alloc: Global, end: u32) -> Result<String, Fail> {
+    let mut numbers = String::new(alloc);
+    for number in 0..end {
+        push_number(alloc, &mut numbers, number)?;
     }
-
-    fn flush(&mut self) -> io::Result<()> {
-        self.sink.flush()
-    }
+    Ok(numbers)
 }
 
 /// The names of documents with the numbers of their tokens.
@@ -134,15 +120,6 @@ fn printed(alloc: Global, rows: &[DocRow<'_>]) -> Result<String, Fail> {
     Ok(lines)
 }
 
-/// The numbers below this one.
-fn numbers_below(alloc: Global, end: u32) -> Result<String, Fail> {
-    let mut numbers = String::new(alloc);
-    for number in 0..end {
-        push_number(alloc, &mut numbers, number)?;
-    }
-    Ok(numbers)
-}
-
 fn told_rows(alloc: Global, index: &Index<'_>) -> Result<String, Fail> {
     printed(alloc, &rows_in(alloc, index)?)
 }
@@ -152,20 +129,29 @@ fn wanted_rows(alloc: Global) -> Result<String, Fail> {
     printed(alloc, &rows_of(alloc, &names)?)
 }
 
-/// What an index finds: a term, a gram of all terms but the last, and one of it.
-fn found(alloc: Global, index: &Index<'_>) -> Result<String, Fail> {
-    let mut lines = documents_of(alloc, index, &term_of(alloc, 9900)?)?;
-    lines.push('\n')?;
-    lines.push_str(&terms_of(alloc, index, "$xx")?)?;
-    lines.push('\n')?;
-    lines.push_str(&terms_of(alloc, index, "$y$")?)?;
-    Ok(lines)
+/// What is found: a term, a gram of all terms but the last, and one of it.
+fn wanted(alloc: Global) -> Result<String, Fail> {
+    let term = term_of(alloc, 9900)?;
+    let all = numbers_below(alloc, TERMS)?;
+    let mut table = String::new(alloc);
+    push_line(
+        &mut table,
+        &format!(in alloc; "term {term}")?,
+        DOCUMENTS_OF_TERM,
+    )?;
+    push_line(&mut table, "gram $xx", &all)?;
+    push_line(&mut table, "gram $y$", "10000")?;
+    Ok(table)
 }
 
-fn wanted_found(alloc: Global) -> Result<String, Fail> {
-    let documents = "0 100 200 300 400 500 600 700 800 900";
-    let all = numbers_below(alloc, TERMS)?;
-    Ok(format!(in alloc; "{documents}\n{all}\n10000")?)
+/// The documents of that term.
+const DOCUMENTS_OF_TERM: &str = "0 100 200 300 400 500 600 700 800 900";
+
+/// Checks that an index finds that.
+fn check_found(rt: &impl Abort, alloc: Global, index: &Index<'_>) -> Result<(), Fail> {
+    let table = wanted(alloc)?;
+    check_same(rt, &found(alloc, index, &table)?, &table);
+    Ok(())
 }
 
 /// Whether an index tells these entries.
@@ -177,36 +163,13 @@ fn tells(alloc: Global, index: &Index<'_>, entries: &[Entry]) -> Result<bool, Fa
 fn check(rt: &impl Abort, alloc: Global, index: &Index<'_>, entries: &[Entry]) -> Result<(), Fail> {
     check_same(rt, &told_rows(alloc, index)?, &wanted_rows(alloc)?);
     assert!(rt; tells(alloc, index, entries)?);
-    check_same(rt, &found(alloc, index)?, &wanted_found(alloc)?);
-    Ok(())
+    check_found(rt, alloc, index)
 }
 
 /// Checks an index of the text.
 fn check_index(rt: &impl Abort, alloc: Global, text: &[u8], entries: &[Entry]) -> Result<(), Fail> {
-    let index = Index::open(alloc, text)?;
+    let index = opened(alloc, text)?;
     check(rt, alloc, &index, entries)
-}
-
-/// Checks a volume of the text.
-fn check_volume(
-    rt: &impl Abort,
-    alloc: Global,
-    text: Vec<u8>,
-    entries: &[Entry],
-) -> Result<(), Fail> {
-    let volume = Volume::open(alloc, text)?;
-    check(rt, alloc, &volume.index(), entries)
-}
-
-/// Checks a volume of the text that was checked in threads side by side.
-fn check_volume_beside(
-    rt: &(impl Abort + Threads + Sync),
-    alloc: Global,
-    text: Vec<u8>,
-    entries: &[Entry],
-) -> Result<(), Fail> {
-    let volume = Volume::open_beside(rt, alloc, text)?;
-    check(rt, alloc, &volume.index(), entries)
 }
 
 /// Checks what a sink has that had room for so many bytes, and what the writer answered.
@@ -218,50 +181,59 @@ fn check_sink(
     room: usize,
 ) {
     let is_whole = room >= text.len();
-    assert_eq!(rt; answer.is_ok(), is_whole, "{room}");
-    assert!(rt; is_whole || answer == Err(PutError::Write), "{room}");
-    assert!(rt;
-        sink.bytes.as_slice() == &text[..room.min(text.len())],
-        "{room}"
-    );
-    assert_eq!(rt; sink.was_refused, !is_whole);
+    let wanted = if is_whole {
+        Ok(())
+    } else {
+        Err(PutError::Write)
+    };
+    assert!(rt; answer == wanted, "{room}");
+    assert!(rt; sink.has_front(text, room), "{room}");
+    assert!(rt; sink.was_refused != is_whole, "{room}");
 }
 
-/// Tells the collection to sinks with room for so many bytes: one that takes what it is given, and one that does not.
+/// Tells the collection to a sink with room for so many bytes.
 fn check_room(
     rt: &impl Abort,
     alloc: Global,
     text: &[u8],
     entries: &[Entry],
     room: usize,
+    pace: Pace,
 ) -> Result<(), Fail> {
-    let mut sink = Sink::new(alloc, room, true);
+    let mut sink = Sink::new(alloc, room, true, pace);
     let answer = tell_to(rt, alloc, &mut sink, entries)?;
     check_sink(rt, &sink, answer, text, room);
-    let sink = Sink::new(alloc, room, true);
-    let mut uneven = Uneven { sink, calls: 0 };
-    let answer = tell_to(rt, alloc, &mut uneven, entries)?;
-    check_sink(rt, &uneven.sink, answer, text, room);
     Ok(())
+}
+
+/// Tells the collection to sinks with room for a front of the text, for all of it, and for a byte more; and to one
+/// that takes more than a hundred thousand calls for each piece that the writer writes.
+fn check_sinks(rt: &impl Abort, alloc: Global, text: &[u8], entries: &[Entry]) -> Result<(), Fail> {
+    for room in [8, 65_536, 65_537, 588_570, 588_571, 588_572] {
+        check_room(rt, alloc, text, entries, room, WHOLE)?;
+        check_room(rt, alloc, text, entries, room, UNEVEN)?;
+    }
+    check_room(rt, alloc, text, entries, 588_571, SLOW)
+}
+
+/// The text of the collection.
+fn text_of_entries(rt: &impl Abort, alloc: Global, entries: &[Entry]) -> Result<Vec<u8>, Fail> {
+    let mut text = Vec::new(alloc);
+    tell_to(rt, alloc, &mut text, entries)??;
+    Ok(text)
 }
 
 #[test]
 fn a_hundred_thousand_postings(rt: HostRuntime) -> Result<(), Fail> {
     let alloc = rt.alloc();
-    assert_eq!(rt; term_of(alloc, 9900)?.len(), 255);
+    assert!(rt; term_of(alloc, 9900)?.len() == 255);
     let entries = entries(alloc)?;
-    let mut text = Vec::new(alloc);
-    assert_eq!(rt; tell_to(&rt, alloc, &mut text, &entries)?, Ok(()));
-    assert_eq!(rt; text.len(), 588_571);
+    let text = text_of_entries(&rt, alloc, &entries)?;
+    assert!(rt; text.len() == 588_571);
     check_index(&rt, alloc, &text, &entries)?;
-    // room for a front of the text, for all of it, and for a byte more
-    for room in [8, 65_536, 65_537, 588_570, 588_571, 588_572] {
-        check_room(&rt, alloc, &text, &entries, room)?;
-    }
-    // more than a hundred thousand calls for each piece that the writer writes
-    let mut slow = Slow::new(alloc);
-    assert_eq!(rt; tell_to(&rt, alloc, &mut slow, &entries)?, Ok(()));
-    assert!(rt; slow.bytes == text);
-    check_volume_beside(&rt, alloc, text.clone()?, &entries)?;
-    check_volume(&rt, alloc, text, &entries)
+    check_sinks(&rt, alloc, &text, &entries)?;
+    let beside = volume_beside(&rt, alloc, text.clone()?)?;
+    check(&rt, alloc, &beside.index(), &entries)?;
+    let alone = volume(alloc, text)?;
+    check(&rt, alloc, &alone.index(), &entries)
 }

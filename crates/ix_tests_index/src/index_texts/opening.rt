@@ -1,9 +1,9 @@
 //! Opening index texts: what they stand for, and why others are refused.
-use super::plain::{plain_text, plain_text_of};
-use super::sample::Entry;
-use super::telling::{coded_text, tell};
+use super::sample::plain_text;
+use super::telling::{coded_text, told};
 use super::vectors::{FIVE_DOCUMENTS, ONE_DOCUMENT, SAMPLES, long_named};
-use super::written::{bytes_of, check_same, number_of, push_line, question_of};
+use super::written::{bytes_of, number_of, push_line, question_of};
+use crate::plain::{Entry, check_same, opened, text_of};
 use ix_file::{DocRow, Index, OpenError, Postings, Volume};
 use std::alloc::Global;
 use std::process::Abort;
@@ -49,11 +49,9 @@ fn written_again(rt: &impl Abort, alloc: Global, index: &Index<'_>) -> Result<Ve
     let rows = rows_in(alloc, index)?;
     let entries = entries_in(alloc, index)?;
     if index.version() == 1 {
-        return Ok(plain_text_of(alloc, b'1', index.stop().terms(), &rows, &entries)?);
+        return Ok(text_of(alloc, b'1', index.stop().terms(), &rows, &entries)?);
     }
-    let mut text = Vec::new(alloc);
-    tell(rt, alloc, &mut text, index.stop(), &rows, &entries)?;
-    Ok(text)
+    told(rt, alloc, index.stop(), &rows, &entries)
 }
 
 /// Why the text is refused, as it is printed, or `opened`.
@@ -77,16 +75,30 @@ fn name_of(alloc: Global, error: Option<OpenError>) -> Result<String, Fail> {
     }
 }
 
+/// The volume of a text.
+pub(super) fn volume(alloc: Global, text: Vec<u8>) -> Result<Volume, Fail> {
+    Ok(Volume::open(alloc, text)?)
+}
+
+/// The same where it is checked in threads side by side.
+pub(super) fn volume_beside(
+    rt: &(impl Threads + Sync),
+    alloc: Global,
+    text: Vec<u8>,
+) -> Result<Volume, Fail> {
+    Ok(Volume::open_beside(rt, alloc, text)?)
+}
+
 /// The text that an index text gives once it was opened and written again.
 fn opened_and_written(rt: &impl Abort, alloc: Global, text: &[u8]) -> Result<Vec<u8>, Fail> {
-    let index = Index::open(alloc, text)?;
+    let index = opened(alloc, text)?;
     written_again(rt, alloc, &index)
 }
 
 /// The same of a volume that owns the text.
 fn lent_and_written(rt: &impl Abort, alloc: Global, text: Vec<u8>) -> Result<Vec<u8>, Fail> {
-    let volume = Volume::open(alloc, text)?;
-    written_again(rt, alloc, &volume.index())
+    let owned = volume(alloc, text)?;
+    written_again(rt, alloc, &owned.index())
 }
 
 /// Checks that an index and a volume of the text stand for it.
@@ -143,76 +155,61 @@ pub(super) fn push_number(alloc: Global, numbers: &mut String, number: u32) -> R
     Ok(())
 }
 
-/// The grams of a table with the terms that have them.
-pub(super) fn grams_found(alloc: Global, index: &Index<'_>, table: &str) -> Result<String, Fail> {
+/// The lines of a table, `term` or `gram` and what is sought, with what an index finds: documents, or terms.
+pub(super) fn found(alloc: Global, index: &Index<'_>, table: &str) -> Result<String, Fail> {
     let mut lines = String::new(alloc);
     for line in table.lines() {
-        let gram = question_of(line)?;
-        let terms = terms_of(alloc, index, gram)?;
-        push_line(alloc, &mut lines, gram, &terms)?;
+        let question = question_of(line)?;
+        let answer = sought(alloc, index, question)?;
+        push_line(&mut lines, question, &answer)?;
     }
     Ok(lines)
 }
 
-/// The terms of a table with their documents.
-fn terms_found(alloc: Global, index: &Index<'_>, table: &str) -> Result<String, Fail> {
-    let mut lines = String::new(alloc);
-    for line in table.lines() {
-        let term = question_of(line)?;
-        let documents = documents_of(alloc, index, term)?;
-        push_line(alloc, &mut lines, term, &documents)?;
+fn sought(alloc: Global, index: &Index<'_>, question: &str) -> Result<String, Fail> {
+    match question.split_once(' ') {
+        Some(("term", term)) => documents_of(alloc, index, term),
+        Some(("gram", gram)) => terms_of(alloc, index, gram),
+        _ => Err("a term or a gram")?,
     }
-    Ok(lines)
 }
 
-/// Terms that are sought in the five documents.
-const TERMS: &str = "\
-x = 0 3 4
-y = 0 1 3
- = none
-a = none
-xx = none
-z = none
+/// Terms and grams that are sought in the five documents.
+const SOUGHT: &str = "\
+term x = 0 3 4
+term y = 0 1 3
+term  = none
+term a = none
+term xx = none
+term z = none
+gram $x$ = 0
+gram $y$ = 1
+gram  = none
+gram $x = none
+gram $z$ = none
+gram x$y = none
 ";
 
-/// Grams that are sought there.
-const GRAMS: &str = "\
-$x$ = 0
-$y$ = 1
- = none
-$x = none
-$z$ = none
-x$y = none
-";
-
-fn terms_found_in(alloc: Global, text: &[u8]) -> Result<String, Fail> {
-    let index = Index::open(alloc, text)?;
-    terms_found(alloc, &index, TERMS)
-}
-
-fn grams_found_in(alloc: Global, text: &[u8]) -> Result<String, Fail> {
-    let index = Index::open(alloc, text)?;
-    grams_found(alloc, &index, GRAMS)
-}
-
-/// Looks terms and grams up in an index text of the five documents.
-fn look_up(rt: &impl Abort, alloc: Global, text: &[u8]) -> Result<(), Fail> {
-    check_same(rt, &terms_found_in(alloc, text)?, TERMS);
-    check_same(rt, &grams_found_in(alloc, text)?, GRAMS);
-    Ok(())
+/// The same as the index of a text finds.
+pub(super) fn found_in(alloc: Global, text: &[u8], table: &str) -> Result<String, Fail> {
+    let index = opened(alloc, text)?;
+    found(alloc, &index, table)
 }
 
 #[test]
 fn terms_and_grams_are_found(rt: HostRuntime) -> Result<(), Fail> {
     let alloc = rt.alloc();
-    look_up(&rt, alloc, &plain_text(alloc, b'1', FIVE_DOCUMENTS)?)?;
-    look_up(&rt, alloc, &coded_text(&rt, alloc, FIVE_DOCUMENTS)?)
+    let plain = plain_text(alloc, b'1', FIVE_DOCUMENTS)?;
+    check_same(&rt, &found_in(alloc, &plain, SOUGHT)?, SOUGHT);
+    let coded = coded_text(&rt, alloc, FIVE_DOCUMENTS)?;
+    check_same(&rt, &found_in(alloc, &coded, SOUGHT)?, SOUGHT);
+    Ok(())
 }
 
 /// The documents that a cursor over the list of the second term stops at: by the next posting, and by seeking a
 /// document.
 fn stops(alloc: Global, text: &[u8], steps: &str) -> Result<String, Fail> {
-    let index = Index::open(alloc, text)?;
+    let index = opened(alloc, text)?;
     if index.term_count() != 2 {
         return Err("there are two terms")?;
     }
@@ -250,7 +247,7 @@ fn check_fronts(rt: &impl Abort, alloc: Global, text: &[u8]) -> Result<(), Fail>
     for len in 0..text.len() {
         let want = if len < 64 { "Short" } else { "Trailer" };
         let got = refusal(alloc, &text[..len])?;
-        assert_eq!(rt; got.as_str(), want, "{len}");
+        assert!(rt; got.as_str() == want, "{len}");
     }
     Ok(())
 }
@@ -327,7 +324,7 @@ fn answers(alloc: Global, text: &[u8], table: &str) -> Result<String, Fail> {
     for line in table.lines() {
         let changes = question_of(line)?;
         let answer = refusal(alloc, &changed(alloc, text, changes)?)?;
-        push_line(alloc, &mut lines, changes, &answer)?;
+        push_line(&mut lines, changes, &answer)?;
     }
     Ok(lines)
 }
@@ -376,15 +373,23 @@ fn frames_that_do_not_fit(rt: HostRuntime) -> Result<(), Fail> {
     Ok(())
 }
 
+/// The text with these bytes in place of those between two places.
+fn spliced(alloc: Global, text: &[u8], places: [usize; 2], bytes: &[u8]) -> Result<Vec<u8>, Fail> {
+    let [start, end] = places;
+    let mut spliced = Vec::from_slice(alloc, text.get(..start).unwrap_or(b""))?;
+    spliced.extend_from_slice(bytes)?;
+    spliced.extend_from_slice(text.get(end..).unwrap_or(b""))?;
+    Ok(spliced)
+}
+
 #[test]
 fn a_byte_too_many_and_one_too_few(rt: HostRuntime) -> Result<(), Fail> {
     let alloc = rt.alloc();
-    let mut text = plain_text(alloc, b'1', ONE_DOCUMENT)?;
+    let text = plain_text(alloc, b'1', ONE_DOCUMENT)?;
     assert!(rt; text.len() == 81);
-    text.insert(25, 0x80)?;
-    check_same(&rt, &refusal(alloc, &text)?, "Lengths");
-    text.remove(25);
-    text.remove(24);
-    check_same(&rt, &refusal(alloc, &text)?, "Lengths");
+    let longer = spliced(alloc, &text, [25, 25], &[0x80])?;
+    check_same(&rt, &refusal(alloc, &longer)?, "Lengths");
+    let shorter = spliced(alloc, &text, [24, 25], b"")?;
+    check_same(&rt, &refusal(alloc, &shorter)?, "Lengths");
     Ok(())
 }

@@ -1,9 +1,8 @@
 //! Positions whose gaps have codes of one, two and three bytes, in a document whose tokens are claimed by marks.
 use super::faults::answer_to;
 use super::opening::entries_in;
-use super::plain::plain_text_of;
-use super::sample::Entry;
-use super::written::{check_same, number_of, push_line, question_of};
+use super::written::{number_of, push_line, question_of};
+use crate::plain::{Entry, check_same, text_of};
 use ix_file::{DocRow, Index};
 use std::alloc::{AllocError, Global};
 use std::test::Fail;
@@ -55,7 +54,7 @@ fn answer(rt: &(impl Threads + Sync), alloc: Global, positions: &str) -> Result<
         name: "d",
         tokens: 20_000,
     }];
-    let text = plain_text_of(alloc, b'1', &[], &rows, &entries)?;
+    let text = text_of(alloc, b'1', &[], &rows, &entries)?;
     if tells_others(alloc, &text, &entries)? {
         return Ok(String::from_str(alloc, "other entries")?);
     }
@@ -77,7 +76,7 @@ fn positions_far_apart(rt: HostRuntime) -> Result<(), Fail> {
     for line in POSITIONS.lines() {
         let positions = question_of(line)?;
         let answer = answer(&rt, alloc, positions)?;
-        push_line(alloc, &mut lines, positions, &answer)?;
+        push_line(&mut lines, positions, &answer)?;
     }
     check_same(&rt, &lines, POSITIONS);
     Ok(())

@@ -2,117 +2,75 @@
 //!
 //! Its parts stand between `|`: the stop words, each in a line, and then the documents, each with its name, `:` and its
 //! tokens. Tokens have spaces between them, and `-` is an entry that is nothing: `to|d:flights - london`.
+use crate::plain::{Entry, add_place, small, text_of};
 use ix_file::DocRow;
 use std::alloc::{AllocError, Global};
 
-/// A term with its postings: documents, each with positions.
-#[derive(PartialEq, Eq, Drop)]
-pub(crate) struct Entry {
-    pub(crate) term: String,
-    pub(crate) postings: Vec<(u32, Vec<u32>)>,
+/// What a sample stands for: its stop words, each in a line, the rows of its documents, and their terms ascending, each
+/// with its postings.
+#[derive(Drop)]
+pub(super) struct Sample<'a> {
+    pub(super) stop_words: &'a str,
+    pub(super) rows: Vec<DocRow<'a>>,
+    pub(super) entries: Vec<Entry>,
 }
 
-/// A document: its name, and its tokens with spaces between them.
-#[derive(Clone, Copy)]
-pub(crate) struct Document<'a> {
-    pub(crate) name: &'a str,
-    pub(crate) tokens: &'a str,
-}
-
-/// The stop words of a sample, each in a line.
-pub(crate) fn stop_words(sample: &str) -> &str {
-    match sample.split_once('|') {
-        Some((words, _)) => words,
-        None => sample,
-    }
-}
-
-/// The documents of a sample.
-pub(crate) fn documents(alloc: Global, sample: &str) -> Result<Vec<Document<'_>>, AllocError> {
-    let mut documents = Vec::new(alloc);
-    for part in sample.split('|') {
-        if let Some((name, tokens)) = part.split_once(':') {
-            documents.push(Document { name, tokens })?;
+/// The sample that is written so.
+pub(super) fn sample_of(alloc: Global, written: &str) -> Result<Sample<'_>, AllocError> {
+    let mut rows = Vec::new(alloc);
+    let mut entries = Vec::new(alloc);
+    for part in written.split('|') {
+        if let Some((name, list)) = part.split_once(':') {
+            let tokens = add_tokens(alloc, &mut entries, small(rows.len()), list)?;
+            rows.push(DocRow { name, tokens })?;
         }
     }
-    Ok(documents)
+    let stop_words = stop_words(written);
+    Ok(Sample {
+        stop_words,
+        rows,
+        entries,
+    })
 }
 
-/// The rows of documents.
-pub(crate) fn rows<'a>(
-    alloc: Global,
-    documents: &[Document<'a>],
-) -> Result<Vec<DocRow<'a>>, AllocError> {
-    let mut rows = Vec::new(alloc);
-    for document in documents {
-        let name = document.name;
-        let tokens = token_count(document.tokens);
-        rows.push(DocRow { name, tokens })?;
+fn stop_words(written: &str) -> &str {
+    match written.split_once('|') {
+        Some((words, _)) => words,
+        None => written,
     }
-    Ok(rows)
 }
 
-/// The number of entries of a token list.
-fn token_count(tokens: &str) -> u32 {
+/// Puts the terms of a document's token list to the entries. How many tokens the list has.
+fn add_tokens(
+    alloc: Global,
+    entries: &mut Vec<Entry>,
+    document: u32,
+    list: &str,
+) -> Result<u32, AllocError> {
     let mut count = 0u32;
-    for token in tokens.split(' ') {
+    for token in list.split(' ') {
         if !token.is_empty() {
+            if token != "-" {
+                add_place(alloc, entries, token, document, count)?;
+            }
             count = count.wrapping_add(1);
         }
     }
-    count
+    Ok(count)
 }
 
-/// The dictionary of documents: their terms ascending, each with its postings.
-pub(crate) fn entries(alloc: Global, documents: &[Document<'_>]) -> Result<Vec<Entry>, AllocError> {
-    let mut entries = Vec::new(alloc);
-    for term in terms(alloc, documents)? {
-        let postings = postings(alloc, documents, &term)?;
-        entries.push(Entry { term, postings })?;
+/// The words of a text, each in a line.
+pub(super) fn words(alloc: Global, text: &str) -> Result<Vec<String>, AllocError> {
+    let mut words = Vec::new(alloc);
+    for word in text.lines() {
+        words.push(String::from_str(alloc, word)?)?;
     }
-    Ok(entries)
+    Ok(words)
 }
 
-fn terms(alloc: Global, documents: &[Document<'_>]) -> Result<Vec<String>, AllocError> {
-    let mut terms = Vec::new(alloc);
-    for document in documents {
-        for token in document.tokens.split(' ') {
-            if !token.is_empty() && token != "-" {
-                terms.push(String::from_str(alloc, token)?)?;
-            }
-        }
-    }
-    terms.sort_unstable();
-    terms.dedup();
-    Ok(terms)
-}
-
-fn postings(
-    alloc: Global,
-    documents: &[Document<'_>],
-    term: &str,
-) -> Result<Vec<(u32, Vec<u32>)>, AllocError> {
-    let mut postings = Vec::new(alloc);
-    for (number, document) in documents.iter().enumerate() {
-        let positions = positions(alloc, document.tokens, term)?;
-        if !positions.is_empty() {
-            postings.push((small(number), positions))?;
-        }
-    }
-    Ok(postings)
-}
-
-fn positions(alloc: Global, tokens: &str, term: &str) -> Result<Vec<u32>, AllocError> {
-    let mut positions = Vec::new(alloc);
-    for (position, token) in tokens.split(' ').enumerate() {
-        if token == term {
-            positions.push(small(position))?;
-        }
-    }
-    Ok(positions)
-}
-
-/// The number, which is small.
-pub(crate) fn small(number: usize) -> u32 {
-    u32::try_from(number).unwrap_or(u32::MAX)
+/// The index text of a sample, of version `1` or `2`, written plainly.
+pub(super) fn plain_text(alloc: Global, version: u8, written: &str) -> Result<Vec<u8>, AllocError> {
+    let sample = sample_of(alloc, written)?;
+    let stop = words(alloc, sample.stop_words)?;
+    text_of(alloc, version, &stop, &sample.rows, &sample.entries)
 }

@@ -2,7 +2,8 @@
 ghost use Rattle.std.specs.Prelude.{◌-◌, ◌^◌, IsTrue};
 ghost use Rattle.ix_vbyte.specs.Gaps.{Ascends};
 
-use super::sample::{Document, Entry, documents, entries, rows, stop_words};
+use super::sample::sample_of;
+use crate::plain::Entry;
 use ix_file::{DocRow, IndexWriter, PutError};
 use ix_text::StopList;
 use std::alloc::Global;
@@ -22,22 +23,17 @@ pub(super) fn tell_sample<W: Write>(
     rt: &impl Abort,
     alloc: Global,
     sink: &mut W,
-    sample: &str,
+    written: &str,
 ) -> Result<Result<(), PutError>, Fail> {
-    let documents = documents(alloc, sample)?;
-    tell_documents(rt, alloc, sink, stop_words(sample), &documents)
-}
-
-fn tell_documents<W: Write>(
-    rt: &impl Abort,
-    alloc: Global,
-    sink: &mut W,
-    words: &str,
-    documents: &[Document<'_>],
-) -> Result<Result<(), PutError>, Fail> {
-    let rows = rows(alloc, documents)?;
-    let entries = entries(alloc, documents)?;
-    tell_under(rt, alloc, sink, words, &rows, &entries)
+    let sample = sample_of(alloc, written)?;
+    tell_under(
+        rt,
+        alloc,
+        sink,
+        sample.stop_words,
+        &sample.rows,
+        &sample.entries,
+    )
 }
 
 /// Tells rows and entries under these stop words to a writer over the sink, and gives the writer's answer.
@@ -53,13 +49,26 @@ pub(super) fn tell_under<W: Write>(
     Ok(tell(rt, alloc, sink, &stop, rows, entries))
 }
 
+/// The text of version 2 that the writer writes of rows and entries.
+pub(super) fn told(
+    rt: &impl Abort,
+    alloc: Global,
+    stop: &StopList,
+    rows: &[DocRow<'_>],
+    entries: &[Entry],
+) -> Result<Vec<u8>, Fail> {
+    let mut text = Vec::new(alloc);
+    tell(rt, alloc, &mut text, stop, rows, entries)?;
+    Ok(text)
+}
+
 /// The stop list of words, each in a line.
 fn stop_list(alloc: Global, words: &str) -> Result<StopList, Fail> {
     Ok(StopList::read(alloc, words)?)
 }
 
 /// Tells a collection of fewer than a million documents and positions to a writer of version 2 over the sink.
-pub(super) fn tell<W: Write>(
+fn tell<W: Write>(
     rt: &impl Abort,
     alloc: Global,
     out: &mut W,

@@ -1,7 +1,8 @@
 //! Texts that were worked by hand.
-use super::plain::plain_text;
+use super::sample::plain_text;
 use super::telling::coded_text;
-use super::written::{bytes_of, check_same, digits, push_line, question_of};
+use super::written::{bytes_of, digits};
+use crate::plain::check_same;
 use std::alloc::Global;
 use std::process::Abort;
 use std::test::Fail;
@@ -138,28 +139,20 @@ fn texts_of_samples(rt: HostRuntime) -> Result<(), Fail> {
 }
 
 /// Samples, and of how many bytes their texts of version 1 are.
-const LENGTHS: &str = "\
-| = 64
-|d:a a = 81
-|a:x y|b:y|c:|d:y x y|e:x = 118
-to|d:flights - london = 173
-|d:red redo retired = 158
-";
-
-fn plain_lengths(alloc: Global, table: &str) -> Result<String, Fail> {
-    let mut lines = String::new(alloc);
-    for line in table.lines() {
-        let sample = question_of(line)?;
-        let length = format!(in alloc; "{}", plain_text(alloc, b'1', sample)?.len())?;
-        push_line(alloc, &mut lines, sample, &length)?;
-    }
-    Ok(lines)
-}
+const LENGTHS: [(&str, usize); 5] = [
+    ("|", 64),
+    ("|d:a a", 81),
+    ("|a:x y|b:y|c:|d:y x y|e:x", 118),
+    ("to|d:flights - london", 173),
+    ("|d:red redo retired", 158),
+];
 
 #[test]
 fn plain_lengths_of_version_one(rt: HostRuntime) -> Result<(), Fail> {
-    let lengths = plain_lengths(rt.alloc(), LENGTHS)?;
-    check_same(&rt, &lengths, LENGTHS);
+    for (sample, length) in LENGTHS {
+        let text = plain_text(rt.alloc(), b'1', sample)?;
+        assert!(rt; text.len() == length, "{sample}");
+    }
     Ok(())
 }
 

@@ -1,7 +1,6 @@
 //! Tables and bytes as these tests write them. In a table each line is a question, ` = ` and its answer. Of bytes,
 //! texts stand between two `'`, and each of the others is two digits in base 16.
 use std::alloc::Global;
-use std::process::Abort;
 use std::test::Fail;
 
 /// The bytes that are written so. Spaces and ends of lines between digits are nothing.
@@ -52,14 +51,11 @@ pub(super) fn question_of(line: &str) -> Result<&str, Fail> {
 }
 
 /// Adds a line to a table.
-pub(super) fn push_line(
-    alloc: Global,
-    table: &mut String,
-    question: &str,
-    answer: &str,
-) -> Result<(), Fail> {
-    let line = format!(in alloc; "{question} = {answer}\n")?;
-    table.push_str(&line)?;
+pub(super) fn push_line(table: &mut String, question: &str, answer: &str) -> Result<(), Fail> {
+    table.push_str(question)?;
+    table.push_str(" = ")?;
+    table.push_str(answer)?;
+    table.push('\n')?;
     Ok(())
 }
 
@@ -69,9 +65,4 @@ pub(super) fn number_of(digits: &str) -> Result<u32, Fail> {
         return Err("no number")?;
     };
     Ok(number)
-}
-
-/// Checks that what was got is what was wanted.
-pub(super) fn check_same(rt: &impl Abort, got: &str, want: &str) {
-    assert_eq!(rt; got, want);
 }

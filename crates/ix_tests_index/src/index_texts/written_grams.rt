@@ -1,6 +1,7 @@
 //! The grams that the writer writes of some terms.
 use super::telling::coded_text;
-use super::written::{check_same, digits, push_line, question_of};
+use super::written::{digits, push_line, question_of};
+use crate::plain::check_same;
 use std::alloc::Global;
 use std::process::Abort;
 use std::test::Fail;
@@ -24,7 +25,7 @@ fn written(rt: &impl Abort, alloc: Global, table: &str) -> Result<String, Fail> 
         let terms = question_of(line)?;
         let sample = format!(in alloc; "|d:{terms}")?;
         let text = coded_text(rt, alloc, &sample)?;
-        push_line(alloc, &mut lines, terms, &grams_in(alloc, &text)?)?;
+        push_line(&mut lines, terms, &grams_in(alloc, &text)?)?;
     }
     Ok(lines)
 }

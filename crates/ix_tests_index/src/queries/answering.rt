@@ -1,6 +1,6 @@
 //! What queries find in small collections: by a scan, and by indexes of both versions.
 
-use crate::plain::{front_of, opened, text_of_documents};
+use crate::plain::{check_same, front_of, opened, text_of_documents};
 use ix_file::Index;
 use ix_query::{Query, answer, scan};
 use ix_text::{Collection, Doc, StopList};
@@ -16,12 +16,12 @@ fn parsed(alloc: Global, text: &str, stop: &StopList) -> Result<Query, Fail> {
 /// The index text of a collection text.
 pub(super) fn index_text(
     alloc: Global,
+    version: u8,
     collection: &str,
     stop: &StopList,
-    version: u8,
 ) -> Result<Vec<u8>, Fail> {
     let collection = Collection::read(alloc, collection.as_bytes())?;
-    Ok(text_of_documents(alloc, collection.docs(), stop, version)?)
+    Ok(text_of_documents(alloc, version, collection.docs(), stop)?)
 }
 
 /// The numbers of the documents that a query finds by a scan of some documents.
@@ -36,15 +36,9 @@ pub(super) fn scanned(
     Ok(scan(alloc, documents, stop, query)?)
 }
 
-/// The numbers of the documents that the query of a text finds by an index.
-pub(super) fn answered(
-    alloc: Global,
-    index: &Index<'_>,
-    query: &str,
-    stop: &StopList,
-) -> Result<Vec<u32>, Fail> {
-    let query = parsed(alloc, query, stop)?;
-    Ok(answer(alloc, index, &query)?)
+/// The numbers of the documents that a query finds by an index.
+pub(super) fn answered(alloc: Global, index: &Index<'_>, query: &Query) -> Result<Vec<u32>, Fail> {
+    Ok(answer(alloc, index, query)?)
 }
 
 /// The names of the documents of some numbers, with a space before each.
@@ -98,7 +92,8 @@ fn answered_row(
     query: &str,
     stop: &StopList,
 ) -> Result<String, Fail> {
-    let numbers = answered(alloc, index, query, stop)?;
+    let tree = parsed(alloc, query, stop)?;
+    let numbers = answered(alloc, index, &tree)?;
     let names = names_in(rt, alloc, index, &numbers)?;
     Ok(format!(in alloc; "{query} =>{names}")?)
 }
@@ -114,13 +109,13 @@ fn check_scans(
     let collection = Collection::read(alloc, collection.as_bytes())?;
     for row in rows.lines() {
         let line = scanned_row(rt, alloc, collection.docs(), stop, front_of(row)?)?;
-        assert_eq!(rt; line.as_str(), row);
+        check_same(rt, &line, row);
     }
     Ok(())
 }
 
 /// Whether an index finds what the rows say.
-fn check_answers(
+pub(super) fn check_answers(
     rt: &impl Abort,
     alloc: Global,
     text: &[u8],
@@ -130,7 +125,7 @@ fn check_answers(
     let index = opened(alloc, text)?;
     for row in rows.lines() {
         let line = answered_row(rt, alloc, &index, front_of(row)?, stop)?;
-        assert_eq!(rt; line.as_str(), row);
+        check_same(rt, &line, row);
     }
     Ok(())
 }
@@ -155,7 +150,7 @@ fn check(
     let stop = stop_list(alloc, stop)?;
     check_scans(rt, alloc, collection, &stop, rows)?;
     for version in [b'1', b'2'] {
-        let text = index_text(alloc, collection, &stop, version)?;
+        let text = index_text(alloc, version, collection, &stop)?;
         check_answers(rt, alloc, &text, &stop, rows)?;
     }
     Ok(())

@@ -1,5 +1,6 @@
 //! The numbers and the names of the errors of queries.
 
+use crate::plain::check_same;
 use ix_query::QueryError;
 use std::alloc::Global;
 use std::test::Fail;
@@ -50,6 +51,6 @@ fn errors_are_numbered_and_named(rt: HostRuntime) -> Result<(), Fail> {
             QueryError::Memory,
         ],
     )?;
-    assert_eq!(rt; lines.as_str(), NUMBERED);
+    check_same(&rt, &lines, NUMBERED);
     Ok(())
 }

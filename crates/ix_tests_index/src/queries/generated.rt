@@ -1,9 +1,9 @@
 //! Answers compared with scans over generated collections and queries.
 
-use super::answering::{scanned, stop_list};
-use crate::plain::{opened, text_of_documents};
+use super::answering::{answered, scanned, stop_list};
+use crate::plain::{check_numbers, opened, text_of_documents};
 use ix_file::Index;
-use ix_query::{Query, QueryError, answer};
+use ix_query::{Query, QueryError};
 use ix_text::{Collection, Doc, StopList};
 use std::alloc::{AllocError, Global};
 use std::process::Abort;
@@ -126,22 +126,18 @@ fn parsed(alloc: Global, text: &str, stop: &StopList) -> Result<Option<Query>, F
     }
 }
 
-/// The numbers of the documents that a query finds by an index.
-fn answered(alloc: Global, index: &Index<'_>, query: &Query) -> Result<Vec<u32>, Fail> {
-    Ok(answer(alloc, index, query)?)
-}
-
-/// The answer to a query and what the plain program finds are one list.
+/// The answer to the query of a text and what the plain program finds are one list.
 fn compare(
     rt: &impl Abort,
     alloc: Global,
     documents: &[Doc<'_>],
     index: &Index<'_>,
+    text: &str,
     query: &Query,
 ) -> Result<(), Fail> {
     let wanted = scanned(rt, alloc, documents, index.stop(), query)?;
     let numbers = answered(alloc, index, query)?;
-    assert_eq!(rt; numbers.as_slice(), wanted.as_slice(), "{query:?}");
+    check_numbers(rt, text, &numbers, &wanted);
     Ok(())
 }
 
@@ -156,7 +152,7 @@ fn compare_next(
     for _ in 0..DRAWS {
         let text = query_text(alloc, numbers)?;
         if let Some(query) = parsed(alloc, &text, index.stop())? {
-            return compare(rt, alloc, documents, index, &query);
+            return compare(rt, alloc, documents, index, &text, &query);
         }
     }
     Err("a query among the texts".into())
@@ -190,7 +186,7 @@ fn compare_drawn(
     let text = collection_text(alloc, numbers)?;
     let collection = Collection::read(alloc, text.as_str().as_bytes())?;
     let documents = collection.docs();
-    let text = text_of_documents(alloc, documents, &stop, version)?;
+    let text = text_of_documents(alloc, version, documents, &stop)?;
     compare_some(rt, alloc, documents, &text, numbers)
 }
 
@@ -203,6 +199,6 @@ fn answers_are_scans_of_generated_collections(rt: HostRuntime) -> Result<(), Fai
         let some = compare_drawn(&rt, rt.alloc(), version, &mut numbers)?;
         compared = compared.saturating_add(some);
     }
-    assert_eq!(rt; compared, 2_000);
+    assert!(rt; compared == 2_000);
     Ok(())
 }

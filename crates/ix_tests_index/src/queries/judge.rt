@@ -39,27 +39,39 @@ fn words_beside_near(rt: HostRuntime) -> Result<(), Fail> {
     check(&rt, rt.alloc(), BESIDE_NEAR)
 }
 
-/// A word of so many letters.
-fn long_word(alloc: Global, letters: u16) -> Result<String, Fail> {
-    let mut word = String::new(alloc);
-    for _ in 0..letters {
-        word.push('z')?;
+/// The rows with a word of so many letters in place of each `#`.
+fn with_word(alloc: Global, rows: &str, letters: usize) -> Result<String, Fail> {
+    let mut text = String::new(alloc);
+    for character in rows.chars() {
+        if character == '#' {
+            push_letters(&mut text, letters)?;
+        } else {
+            text.push(character)?;
+        }
     }
-    Ok(word)
+    Ok(text)
 }
+
+fn push_letters(text: &mut String, letters: usize) -> Result<(), Fail> {
+    for _ in 0..letters {
+        text.push('z')?;
+    }
+    Ok(())
+}
+
+/// Words that are as long as a term may be.
+const LONGEST: &str = "# NEAR/1 b => # NEAR/1 b";
+
+/// Words of a letter more.
+const TOO_LONG: &str = "\
+# NEAR/1 b => LongTerm
+# => LongTerm
+\"a # b\" => LongTerm
+a+# NEAR/1 b => NearWord";
 
 #[test]
 fn the_longest_terms(rt: HostRuntime) -> Result<(), Fail> {
     let alloc = rt.alloc();
-    let held = long_word(alloc, 255)?;
-    let rows = format!(in alloc; "{held} NEAR/1 b => {held} NEAR/1 b")?;
-    check(&rt, alloc, &rows)?;
-    let long = long_word(alloc, 256)?;
-    let rows = format!(in alloc;
-        "{long} NEAR/1 b => LongTerm
-{long} => LongTerm
-\"a {long} b\" => LongTerm
-a+{long} NEAR/1 b => NearWord"
-    )?;
-    check(&rt, alloc, &rows)
+    check(&rt, alloc, &with_word(alloc, LONGEST, 255)?)?;
+    check(&rt, alloc, &with_word(alloc, TOO_LONG, 256)?)
 }

@@ -1,6 +1,7 @@
 //! Texts with the queries or the first faults that they are read as, and trees that are queries or none.
 
 use super::{check, told_query};
+use crate::plain::check_same;
 use ix_query::{Boxed, Items, Query, QueryError, Term, Tree};
 use ix_text::StopList;
 use std::alloc::Global;
@@ -88,9 +89,9 @@ fn sixty_four_are_open_at_most(rt: HostRuntime) -> Result<(), Fail> {
     let alloc = rt.alloc();
     for marks in "NN (( (N N(".split(' ') {
         let held = nested(alloc, 64, marks)?;
-        assert_eq!(rt; fault(alloc, &held), None, "{held}");
+        assert!(rt; fault(alloc, &held).is_none(), "{held}");
         let deep = nested(alloc, 65, marks)?;
-        assert_eq!(rt; fault(alloc, &deep), Some(QueryError::Deep), "{deep}");
+        assert!(rt; fault(alloc, &deep) == Some(QueryError::Deep), "{deep}");
     }
     Ok(())
 }
@@ -149,23 +150,24 @@ fn negated(alloc: Global, count: usize, tree: Tree) -> Result<Tree, Fail> {
 #[test]
 fn built_leaves_are_judged(rt: HostRuntime) -> Result<(), Fail> {
     let alloc = rt.alloc();
-    assert!(rt; !is_query(phrase(alloc, "")?));
-    assert!(rt; is_query(phrase(alloc, "a b")?));
-    assert!(rt; !is_query(phrase(alloc, "_ b")?));
-    assert!(rt; !is_query(phrase(alloc, "a _")?));
-    assert!(rt; !is_query(near(alloc, 0)?));
-    assert!(rt; is_query(near(alloc, 65535)?));
-    assert!(rt; !is_query(near(alloc, 65536)?));
+    for (line, wanted) in [("", false), ("a b", true), ("_ b", false), ("a _", false)] {
+        assert!(rt; is_query(phrase(alloc, line)?) == wanted, "{line}");
+    }
+    for (distance, wanted) in [(0, false), (65_535, true), (65_536, false)] {
+        assert!(rt; is_query(near(alloc, distance)?) == wanted, "{distance}");
+    }
     Ok(())
 }
 
 #[test]
 fn built_joints_are_judged(rt: HostRuntime) -> Result<(), Fail> {
     let alloc = rt.alloc();
-    assert!(rt; !is_query(every(alloc, 1)?));
-    assert!(rt; is_query(every(alloc, 2)?));
-    assert!(rt; !is_query(any(alloc, 0)?));
-    assert!(rt; is_query(any(alloc, 3)?));
+    for (count, wanted) in [(1, false), (2, true)] {
+        assert!(rt; is_query(every(alloc, count)?) == wanted, "{count}");
+    }
+    for (count, wanted) in [(0, false), (3, true)] {
+        assert!(rt; is_query(any(alloc, count)?) == wanted, "{count}");
+    }
     assert!(rt; !is_query(negated(alloc, 1, near(alloc, 0)?)?));
     Ok(())
 }
@@ -173,11 +175,19 @@ fn built_joints_are_judged(rt: HostRuntime) -> Result<(), Fail> {
 #[test]
 fn built_trees_may_be_sixty_four_deep(rt: HostRuntime) -> Result<(), Fail> {
     let alloc = rt.alloc();
-    assert!(rt; is_query(negated(alloc, 64, near(alloc, 1)?)?));
-    assert!(rt; !is_query(negated(alloc, 65, near(alloc, 1)?)?));
+    for (count, wanted) in [(64, true), (65, false)] {
+        assert!(rt;
+            is_query(negated(alloc, count, near(alloc, 1)?)?) == wanted,
+            "{count}"
+        );
+    }
     // An OR under NOT stands in a bracket.
-    assert!(rt; is_query(negated(alloc, 63, any(alloc, 2)?)?));
-    assert!(rt; !is_query(negated(alloc, 64, any(alloc, 2)?)?));
+    for (count, wanted) in [(63, true), (64, false)] {
+        assert!(rt;
+            is_query(negated(alloc, count, any(alloc, 2)?)?) == wanted,
+            "{count}"
+        );
+    }
     Ok(())
 }
 
@@ -199,10 +209,11 @@ fn a_query_gives_its_tree_back(rt: HostRuntime) -> Result<(), Fail> {
     let alloc = rt.alloc();
     let tree = Tree::Not(Boxed::new(alloc, tree_of(alloc, "a NEAR/3 b")?)?);
     let told = judged(alloc, tree)?;
-    assert_eq!(rt;
-        told.as_str(),
+    check_same(
+        &rt,
+        &told,
         " Not(Boxed { inner: \
-         Near { first: Term { text: \"a\" }, second: Term { text: \"b\" }, distance: 3 } })"
+         Near { first: Term { text: \"a\" }, second: Term { text: \"b\" }, distance: 3 } })",
     );
     Ok(())
 }
