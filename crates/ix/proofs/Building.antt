@@ -2,7 +2,7 @@
 use Rattle.std.proofs.Common.{◌≡◌, ◌∙◌, ap, ap₂, ◌||◌}
 use Rattle.clap.specs.Built.{AddsArg, AddsSubcommand}
 use Rattle.std.specs.Prelude.{true}
-use Rattle.clap.specs.Simple.{App, app_of, app_of_fields, on_top, with_rule, with_subcommand}
+use Rattle.clap.specs.Simple.{App, Shape, app_of, app_of_fields, on_top, with_rule, with_subcommand}
 use Rattle.clap.specs.Walk.{Rule}
 use Rattle.clap.specs.declared.builder.arg.Arg.{Arg}
 use Rattle.clap.specs.declared.builder.command.Command.{Command}
@@ -19,6 +19,10 @@ adds_argument {rule} adds old argument = record {
 -- one more command below adds its shape
 pub adds_subcommand : {old sub new : Command} {app : App} {below : App} → AddsSubcommand old sub new → app_of old ≡ app → IsCommand below sub → app_of new ≡ with_subcommand app below.top
 adds_subcommand adds old below = adds.shape below.local ∙ ap₂ with_subcommand old (ap (λ (a : App). a.top) below.app_is)
+
+-- and so do two, one after the other
+pub adds_both : {made old : App} {app : App} (one other : Shape) → made ≡ with_subcommand (with_subcommand old one) other → old ≡ app → made ≡ with_subcommand (with_subcommand app one) other
+adds_both one other is before = is ∙ ap (λ (a : App). with_subcommand (with_subcommand a one) other) before
 
 -- a setting changes its own field alone, and a parse does not read the texts
 pub takes_no_name : (old new : Command) → fields_of new ≡ record (fields_of old) { no_binary_name = true }

@@ -1,5 +1,6 @@
 pub mod BuildLemmas
 pub mod Building
+pub mod Doing
 pub mod EachLemmas
 pub mod FileLemmas
 pub mod HelpLemmas

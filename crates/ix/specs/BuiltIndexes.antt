@@ -57,6 +57,18 @@ abbrev pub IsUnbuilt : PlanValue → List NamedText → Text → Refusal → Typ
 IsUnbuilt plan documents path (refusal.Engine (engine.Build error)) = IsRefusalBy plan documents error
 IsUnbuilt plan documents path told = IsUnsaved path told
 
+-- The index text of the collection of this text was saved so under this path.
+pub record BuildsText (saves : Holding) (kept : Keeping) (stop : List Text) (plan : PlanValue) (text output : Text) : Type 0 where
+  pub documents : List NamedText
+  pub read : IsCollectionText text documents
+  pub saved : ComeBack kept plan stop documents → SavesIndex saves output (collection_of stop documents)
+  pub alike : SavesAlike saves output (collection_of stop documents)
+
+-- Why it was not, by this plan: the text is no collection text, or the index text cannot be built or saved.
+pub data RefusesText (plan : PlanValue) (text output : Text) : Refusal → Type 0 where
+  no_collection : {told : Refusal} → RefusesDocuments text told → RefusesText plan text output told
+  unbuilt_text : {told : Refusal} (documents : List NamedText) → IsCollectionText text documents → IsUnbuilt plan documents output told → RefusesText plan text output told
+
 -- Why `build` was refused, by this plan: the stop file is refused, the collection file cannot be read or holds no
 -- collection text, or the index text of what they hold cannot be built or saved.
 pub data IsBuildRefused (holds : Holding) (stop_file : Option (Bor Text)) (plan : PlanValue) (path output : Text) : Refusal → Type 0 where

@@ -89,11 +89,15 @@ Adds old new (input.Index volume) = (new.parts.items ≡ old.parts.items ++ part
     × (new.end ≡ old.end + length volume.parts.rows)
     × (new.end ≤ 2 ^ 28)
 
--- why it does not, at this place: memory ran out, or an index has too many documents behind so many numbers
+-- why an index does not, at this place: memory ran out, or it has too many documents behind so many numbers
+abbrev pub RefusesIndex : ℕ → ℕ → Opened → Refusal → Type 0
+RefusesIndex end place volume told = (told ≡ refusal.Engine engine.Memory)
+    ⊎ ((2 ^ 28 < end + length volume.parts.rows) × (told ≡ refusal.Engine (engine.Merge (merge_error.Source place TooLarge))))
+
+-- why a file does not: a run does not for want of memory alone
 abbrev pub RefusesMore : {R : Type 0} → ℕ → ℕ → Input R → Refusal → Type 0
 RefusesMore end place (input.Run reader) told = told ≡ refusal.Engine engine.Memory
-RefusesMore end place (input.Index volume) told = (told ≡ refusal.Engine engine.Memory)
-    ⊎ ((2 ^ 28 < end + length volume.parts.rows) × (told ≡ refusal.Engine (engine.Merge (merge_error.Source place TooLarge))))
+RefusesMore end place (input.Index volume) told = RefusesIndex end place volume told
 
 -- ---- sources
 

@@ -6,8 +6,8 @@ ghost use Rattle.ix_text.specs.Collections.{NamedText, collection_of};
 ghost use Rattle.ix_text.specs.CollectionText.{IsCollectionText};
 ghost use Rattle.ix_build.specs.Plans.{PlanValue};
 ghost use Rattle.ix_build.specs.RunPieces.{AreRunsOfTexts};
-ghost use Rattle.ix.specs.BuiltIndexes.{ComeBack, IsBuildRefused, IsBuilt, IsUnbuilt};
-ghost use Rattle.ix.specs.BuiltIndexes.{RefusesDocuments};
+ghost use Rattle.ix.specs.BuiltIndexes.{BuildsText, ComeBack, IsBuildRefused, IsBuilt};
+ghost use Rattle.ix.specs.BuiltIndexes.{IsUnbuilt, RefusesDocuments, RefusesText};
 ghost use Rattle.ix.specs.Files.{keeping_of};
 ghost use Rattle.ix.specs.Refusals.{IsUnsaved};
 ghost use Rattle.ix.specs.SavedIndexes.{SavesAlike, SavesIndex};
@@ -47,14 +47,34 @@ pub fn run<'a, R: Threads + Wait + Sync, F: FileSource + FileTarget, S: RunFiles
 {
     let stop = read_stop_list(alloc, files, stop)?;
     let text = read_file(files, collection)?;
+    build_text(rt, alloc, files, runs, watch, text, &stop, plan, output)
+}
+
+/// Builds an index file of the collection of a text, by runs in a folder where the plan says.
+fn build_text<'a, R: Threads + Wait + Sync, F: FileTarget, S: RunFiles, V: Watch>(
+    rt: &R,
+    alloc: Global,
+    files: &F,
+    runs: &S,
+    watch: &V,
+    text: Vec<u8>,
+    stop: &StopList,
+    plan: &Plan,
+    output: &'a str,
+) -> Result<(), Refusal<'a>>
+    ensures built { OnOk result (BuildsText (F.saved files.now)
+        (keeping_of S.Reader.remaining (S.back runs.now))
+        stop.now plan.now text.items output.entry.now) }
+    ensures refused { IfErr result (RefusesText plan.now text.items output.entry.now) }
+{
     let documents = documents_of(alloc, &text)?;
     if plan.folder().is_some() {
         return save(
-            rt, alloc, files, runs, watch, &documents, &stop, plan, output,
+            rt, alloc, files, runs, watch, &documents, stop, plan, output,
         );
     }
     let writer = create(files, output)?;
-    let blocks = invert(rt, alloc, watch, &documents, &stop, plan)?;
+    let blocks = invert(rt, alloc, watch, &documents, stop, plan)?;
     // The text is most of what is held, and the runs have nothing of it.
     drop(documents);
     drop(text);

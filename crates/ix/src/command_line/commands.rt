@@ -1,5 +1,7 @@
 //! The commands of the program, as `clap` takes them.
 ghost use Rattle.std.specs.Prelude.{◌≡◌, IfOk};
+ghost use Rattle.clap.specs.Simple.{App, with_rule, with_subcommand};
+ghost use Rattle.clap.specs.Walk.{Rule};
 ghost use Rattle.clap.specs.Words.{app_of};
 ghost use Rattle.ix.specs.Building.{IsArgument, IsCommand};
 ghost use Rattle.ix.specs.Commands.{ask_shape, build_shape, ix_app, leaf, live_shape, merge_shape};
@@ -30,14 +32,10 @@ const MAX_SEARCHERS: i64 = 64;
 pub fn ix<'a>(alloc: Global) -> Result<Command<'a>, AllocError>
     ensures { IfOk result (λ r. app_of r ≡ ix_app) }
 {
-    let with_ask = program(alloc).subcommand(ask(alloc)?)?;
-    let with_search = with_ask.subcommand(search(alloc)?)?;
-    let with_terms = with_search.subcommand(terms(alloc)?)?;
-    let with_run = with_terms.subcommand(run(alloc)?)?;
-    let with_merge = with_run.subcommand(merge(alloc)?)?;
-    let with_upgrade = with_merge.subcommand(upgrade(alloc)?)?;
-    let with_build = with_upgrade.subcommand(build(alloc)?)?;
-    let with_live = with_build.subcommand(live(alloc)?)?;
+    let with_search = with_ask_and_search(alloc, program(alloc))?;
+    let with_run = with_terms_and_run(alloc, with_search)?;
+    let with_upgrade = with_merge_and_upgrade(alloc, with_run)?;
+    let with_live = with_build_and_live(alloc, with_upgrade)?;
     Ok(with_live)
 }
 
@@ -51,16 +49,75 @@ fn program<'a>(alloc: Global) -> Command<'a>
         .subcommand_required(true)
 }
 
+fn with_ask_and_search<'a>(alloc: Global, command: Command<'a>) -> Result<Command<'a>, AllocError>
+    ensures { IfOk result (λ made. app_of made
+        ≡ with_subcommand (with_subcommand (app_of command.entry) ask_shape) search_shape) }
+{
+    let with_ask = command.subcommand(ask(alloc)?)?;
+    let with_search = with_ask.subcommand(search(alloc)?)?;
+    Ok(with_search)
+}
+
+fn with_terms_and_run<'a>(alloc: Global, command: Command<'a>) -> Result<Command<'a>, AllocError>
+    ensures { IfOk result (λ made. app_of made
+        ≡ with_subcommand (with_subcommand (app_of command.entry) terms_shape) run_shape) }
+{
+    let with_terms = command.subcommand(terms(alloc)?)?;
+    let with_run = with_terms.subcommand(run(alloc)?)?;
+    Ok(with_run)
+}
+
+fn with_merge_and_upgrade<'a>(
+    alloc: Global,
+    command: Command<'a>,
+) -> Result<Command<'a>, AllocError>
+    ensures { IfOk result (λ made. app_of made
+        ≡ with_subcommand (with_subcommand (app_of command.entry) merge_shape) upgrade_shape) }
+{
+    let with_merge = command.subcommand(merge(alloc)?)?;
+    let with_upgrade = with_merge.subcommand(upgrade(alloc)?)?;
+    Ok(with_upgrade)
+}
+
+fn with_build_and_live<'a>(alloc: Global, command: Command<'a>) -> Result<Command<'a>, AllocError>
+    ensures { IfOk result (λ made. app_of made
+        ≡ with_subcommand (with_subcommand (app_of command.entry) build_shape) live_shape) }
+{
+    let with_build = command.subcommand(build(alloc)?)?;
+    let with_live = with_build.subcommand(live(alloc)?)?;
+    Ok(with_live)
+}
+
+// The command with two more arguments.
+fn with_two<'a>(
+    command: Command<'a>,
+    one: Arg<'a>,
+    other: Arg<'a>,
+) -> Result<Command<'a>, AllocError>
+    ensures { IfOk result (λ made. (app : App) (rule second : Rule)
+        → IsCommand app command.entry → IsArgument rule one.entry → IsArgument second other.entry
+        → IsCommand (with_rule (with_rule app rule) second) made) }
+{
+    let with_one = command.arg(one)?;
+    let with_both = with_one.arg(other)?;
+    Ok(with_both)
+}
+
 fn ask<'a>(alloc: Global) -> Result<Command<'a>, AllocError>
     ensures { IfOk result (IsCommand (leaf ask_shape)) }
 {
     let plain = Command::new(alloc, "ask");
-    let with_stop = plain.arg(option(alloc, "stop"))?;
-    let with_block = with_stop.arg(number_option(alloc, "block", 1, MOST_DOCUMENTS))?;
-    let with_bytes = with_block.arg(number_option(alloc, "bytes", 1, MOST_BYTES))?;
-    let with_workers = with_bytes.arg(number_option(alloc, "workers", 1, MAX_WORKERS))?;
-    let with_collection = with_workers.arg(operand(alloc, "COLLECTION"))?;
-    let with_query = with_collection.arg(operand(alloc, "QUERY"))?;
+    let stop = option(alloc, "stop");
+    let block = number_option(alloc, "block", 1, MOST_DOCUMENTS);
+    let with_block = with_two(plain, stop, block)?;
+    let bytes = number_option(alloc, "bytes", 1, MOST_BYTES);
+    let workers = number_option(alloc, "workers", 1, MAX_WORKERS);
+    let with_workers = with_two(with_block, bytes, workers)?;
+    let with_query = with_two(
+        with_workers,
+        operand(alloc, "COLLECTION"),
+        operand(alloc, "QUERY"),
+    )?;
     Ok(with_query)
 }
 
@@ -68,12 +125,17 @@ fn build<'a>(alloc: Global) -> Result<Command<'a>, AllocError>
     ensures { IfOk result (IsCommand (leaf build_shape)) }
 {
     let plain = Command::new(alloc, "build");
-    let with_stop = plain.arg(option(alloc, "stop"))?;
-    let with_block = with_stop.arg(number_option(alloc, "block", 1, MOST_DOCUMENTS))?;
-    let with_bytes = with_block.arg(number_option(alloc, "bytes", 1, MOST_BYTES))?;
-    let with_workers = with_bytes.arg(number_option(alloc, "workers", 1, MAX_WORKERS))?;
-    let with_runs = with_workers.arg(option(alloc, "runs"))?;
-    let with_collection = with_runs.arg(operand(alloc, "COLLECTION"))?;
+    let stop = option(alloc, "stop");
+    let block = number_option(alloc, "block", 1, MOST_DOCUMENTS);
+    let with_block = with_two(plain, stop, block)?;
+    let bytes = number_option(alloc, "bytes", 1, MOST_BYTES);
+    let workers = number_option(alloc, "workers", 1, MAX_WORKERS);
+    let with_workers = with_two(with_block, bytes, workers)?;
+    let with_collection = with_two(
+        with_workers,
+        option(alloc, "runs"),
+        operand(alloc, "COLLECTION"),
+    )?;
     let with_index = with_collection.arg(operand(alloc, "INDEX"))?;
     Ok(with_index)
 }
@@ -82,12 +144,14 @@ fn live<'a>(alloc: Global) -> Result<Command<'a>, AllocError>
     ensures { IfOk result (IsCommand (leaf live_shape)) }
 {
     let plain = Command::new(alloc, "live");
-    let with_stop = plain.arg(option(alloc, "stop"))?;
-    let with_block = with_stop.arg(number_option(alloc, "block", 1, MOST_DOCUMENTS))?;
-    let with_bytes = with_block.arg(number_option(alloc, "bytes", 1, MOST_BYTES))?;
-    let with_workers = with_bytes.arg(number_option(alloc, "workers", 1, MAX_WORKERS))?;
-    let with_searchers = with_workers.arg(number_option(alloc, "searchers", 1, MAX_SEARCHERS))?;
-    let with_script = with_searchers.arg(operand(alloc, "SCRIPT"))?;
+    let stop = option(alloc, "stop");
+    let block = number_option(alloc, "block", 1, MOST_DOCUMENTS);
+    let with_block = with_two(plain, stop, block)?;
+    let bytes = number_option(alloc, "bytes", 1, MOST_BYTES);
+    let workers = number_option(alloc, "workers", 1, MAX_WORKERS);
+    let with_workers = with_two(with_block, bytes, workers)?;
+    let searchers = number_option(alloc, "searchers", 1, MAX_SEARCHERS);
+    let with_script = with_two(with_workers, searchers, operand(alloc, "SCRIPT"))?;
     Ok(with_script)
 }
 
@@ -109,15 +173,18 @@ fn terms<'a>(alloc: Global) -> Result<Command<'a>, AllocError>
         .arg(operand(alloc, "PATTERN"))
 }
 
-#[tactic(auto, using(crate::proofs::Building::adds_argument))]
 fn run<'a>(alloc: Global) -> Result<Command<'a>, AllocError>
     ensures { IfOk result (IsCommand (leaf run_shape)) }
 {
-    Command::new(alloc, "run")
-        .arg(option(alloc, "stop"))?
-        .arg(number_option(alloc, "first", 0, MOST_DOCUMENTS))?
-        .arg(operand(alloc, "COLLECTION"))?
-        .arg(operand(alloc, "RUN"))
+    let plain = Command::new(alloc, "run");
+    let first = number_option(alloc, "first", 0, MOST_DOCUMENTS);
+    let with_first = with_two(plain, option(alloc, "stop"), first)?;
+    let with_run = with_two(
+        with_first,
+        operand(alloc, "COLLECTION"),
+        operand(alloc, "RUN"),
+    )?;
+    Ok(with_run)
 }
 
 #[tactic(auto, using(crate::proofs::Building::adds_argument))]

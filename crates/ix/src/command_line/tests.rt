@@ -1,152 +1,129 @@
+//! Words, and the line that they are read as, or why they are none.
+
 use super::{Line, LineError, read_line};
-use clap::error::ErrorKind;
-use ix_build::Cut;
+use std::alloc::Global;
+use std::process::Abort;
 use std::test::Fail;
 
-#[test]
-fn lines_of_ask(rt: HostRuntime) -> Result<(), Fail> {
-    for words in [
-        ["ask", "--stop=s.txt", "c.txt", "red"].as_slice(),
-        ["ask", "--stop", "s.txt", "c.txt", "red"].as_slice(),
-    ] {
-        let Line::Ask {
-            stop,
-            plan: _plan,
-            collection,
-            query,
-        } = read_line(rt.alloc(), words)?
-        else {
-            return Err(Fail::from("it is another line"));
-        };
-        assert!(rt; stop == Some("s.txt") && collection == "c.txt" && query == "red");
+/// Reads the words, which stand between spaces. It has no contract, so that the grammar is in view in none of its callers.
+fn read<'a>(alloc: Global, words: &'a [&'a str]) -> Result<Line<'a>, LineError> {
+    read_line(alloc, words)
+}
+
+/// The words between spaces.
+fn words_of<'a>(alloc: Global, text: &'a str) -> Result<Vec<&'a str>, Fail> {
+    let mut words = Vec::new(alloc);
+    for word in text.split(' ') {
+        if !word.is_empty() {
+            words.push(word)?;
+        }
     }
-    for (words, block, workers) in [
-        (["ask", "c.txt", "red"].as_slice(), 1024, 4),
-        (["ask", "--block=7", "c.txt", "red"].as_slice(), 7, 4),
-        (
-            ["ask", "c.txt", "--workers", "64", "red"].as_slice(),
-            1024,
-            64,
-        ),
-    ] {
-        let Line::Ask { stop, plan, .. } = read_line(rt.alloc(), words)? else {
-            return Err(Fail::from("it is another line"));
-        };
-        assert!(rt; stop == None);
-        assert!(rt; plan.cut() == Cut::Docs(block) && plan.workers() == workers);
+    Ok(words)
+}
+
+/// A line as it is derived.
+fn shown_line(alloc: Global, line: &Line<'_>) -> Result<String, Fail> {
+    Ok(format!(in alloc; "{line:?}")?)
+}
+
+/// That the words ask for help, or the number of the error and its name.
+fn shown_error(alloc: Global, error: &LineError) -> Result<String, Fail> {
+    if error.help().is_some() {
+        return Ok(String::from_str(alloc, "help")?);
     }
+    let number = error.number();
+    Ok(format!(in alloc; "{number} {error}")?)
+}
+
+/// What the words are read as.
+fn shown(alloc: Global, text: &str) -> Result<String, Fail> {
+    let words = words_of(alloc, text)?;
+    match read(alloc, &words) {
+        Ok(line) => shown_line(alloc, &line),
+        Err(error) => shown_error(alloc, &error),
+    }
+}
+
+/// What the words of each row behind a `?` are read as, each in a row behind it.
+fn told_again(alloc: Global, rows: &str) -> Result<String, Fail> {
+    let mut told = String::new(alloc);
+    for row in rows.lines() {
+        if let Some((_, words)) = row.split_once('?') {
+            let shown = shown(alloc, words)?;
+            told.push_str(&format!(in alloc; "{row}\n{shown}\n")?)?;
+        }
+    }
+    Ok(told)
+}
+
+/// Compares rows with what their words are read as.
+fn expect<R: AllocGlobal + Abort>(rt: &R, rows: &str) -> Result<(), Fail> {
+    let told = told_again(rt.alloc(), rows)?;
+    assert_eq!(rt; told.as_str(), rows);
     Ok(())
 }
 
-#[test]
-fn blocks_by_bytes(rt: HostRuntime) -> Result<(), Fail> {
-    for words in [
-        ["ask", "--bytes=7", "c.txt", "red"].as_slice(),
-        ["build", "c.txt", "c.ix", "--bytes", "7"].as_slice(),
-    ] {
-        let (Line::Ask { plan, .. } | Line::Build { plan, .. }) = read_line(rt.alloc(), words)?
-        else {
-            return Err(Fail::from("it is another line"));
-        };
-        assert!(rt; plan.cut() == Cut::Bytes(7) && plan.workers() == 4);
-    }
-    Ok(())
-}
+const LINES: &str = r#"? ask --stop=s.txt c.txt red
+Ask { stop: Some("s.txt"), plan: Plan { cut: Docs(1024), workers: 4, runs: Memory }, collection: "c.txt", query: "red" }
+? ask --stop s.txt c.txt red
+Ask { stop: Some("s.txt"), plan: Plan { cut: Docs(1024), workers: 4, runs: Memory }, collection: "c.txt", query: "red" }
+? ask c.txt red
+Ask { stop: None, plan: Plan { cut: Docs(1024), workers: 4, runs: Memory }, collection: "c.txt", query: "red" }
+? ask --block=7 c.txt red
+Ask { stop: None, plan: Plan { cut: Docs(7), workers: 4, runs: Memory }, collection: "c.txt", query: "red" }
+? ask c.txt --workers 64 red
+Ask { stop: None, plan: Plan { cut: Docs(1024), workers: 64, runs: Memory }, collection: "c.txt", query: "red" }
+? ask --bytes=7 c.txt red
+Ask { stop: None, plan: Plan { cut: Bytes(7), workers: 4, runs: Memory }, collection: "c.txt", query: "red" }
+? build c.txt c.ix --bytes 7
+Build { stop: None, plan: Plan { cut: Bytes(7), workers: 4, runs: Memory }, collection: "c.txt", index: "c.ix" }
+? search c.ix red
+Search { index: "c.ix", query: "red" }
+? terms c.ix re*
+Terms { index: "c.ix", pattern: "re*" }
+? merge c.ix 0.run
+Merge { index: "c.ix", inputs: ["0.run"] }
+? merge c.ix 4.run -- -2.run 0.run
+Merge { index: "c.ix", inputs: ["4.run", "-2.run", "0.run"] }
+"#;
 
 #[test]
-fn lines_of_an_index(rt: HostRuntime) -> Result<(), Fail> {
-    let Line::Search { index, query } = read_line(rt.alloc(), &["search", "c.ix", "red"])? else {
-        return Err(Fail::from("it is another line"));
-    };
-    assert!(rt; index == "c.ix" && query == "red");
-    let Line::Terms { index, pattern } = read_line(rt.alloc(), &["terms", "c.ix", "re*"])? else {
-        return Err(Fail::from("it is another line"));
-    };
-    assert!(rt; index == "c.ix" && pattern == "re*");
-    for (words, wanted) in [
-        (["merge", "c.ix", "0.run"].as_slice(), ["0.run"].as_slice()),
-        (
-            ["merge", "c.ix", "4.run", "--", "-2.run", "0.run"].as_slice(),
-            ["4.run", "-2.run", "0.run"].as_slice(),
-        ),
-    ] {
-        let Line::Merge { index, inputs } = read_line(rt.alloc(), words)? else {
-            return Err(Fail::from("it is another line"));
-        };
-        assert!(rt; index == "c.ix" && inputs.as_slice() == wanted);
-    }
-    Ok(())
+fn lines_that_are_read(rt: HostRuntime) -> Result<(), Fail> {
+    expect(&rt, LINES)
 }
 
+const REFUSED: &str = "\
+?
+1 Clap(MissingSubcommand)
+? ask c.txt
+1 Clap(MissingRequiredArgument)
+? ask c.txt red sea
+1 Clap(UnknownArgument)
+? merge c.ix
+1 Clap(MissingRequiredArgument)
+? ask --all c.txt red
+1 Clap(UnknownArgument)
+? find c.txt red
+1 Clap(InvalidSubcommand)
+? ask c.txt red --stop
+1 Clap(InvalidValue)
+? ask --block 7 --bytes 7 c.txt red
+3 Both
+? build --bytes=7 c.txt c.ix --block=1024
+3 Both
+? --help
+help
+? -h
+help
+? ask --help
+help
+? ask -h c.txt
+help
+";
+
 #[test]
-fn words_that_are_refused(rt: HostRuntime) -> Result<(), Fail> {
-    for (words, kind) in [
-        ([].as_slice(), ErrorKind::MissingSubcommand),
-        (
-            ["ask", "c.txt"].as_slice(),
-            ErrorKind::MissingRequiredArgument,
-        ),
-        (
-            ["ask", "c.txt", "red", "sea"].as_slice(),
-            ErrorKind::UnknownArgument,
-        ),
-        (
-            ["merge", "c.ix"].as_slice(),
-            ErrorKind::MissingRequiredArgument,
-        ),
-        (
-            ["ask", "--all", "c.txt", "red"].as_slice(),
-            ErrorKind::UnknownArgument,
-        ),
-        (
-            ["find", "c.txt", "red"].as_slice(),
-            ErrorKind::InvalidSubcommand,
-        ),
-        (
-            ["ask", "c.txt", "red", "--stop"].as_slice(),
-            ErrorKind::InvalidValue,
-        ),
-    ] {
-        let Err(error) = read_line(rt.alloc(), words) else {
-            return Err(Fail::from("it was read"));
-        };
-        assert!(rt; error.number() == 1 && error.help().is_none());
-        let shown = format!(in rt.alloc(); "{error}")?;
-        let wanted = format!(in rt.alloc(); "Clap({kind:?})")?;
-        assert_eq!(rt; shown.as_str(), wanted.as_str());
-    }
+fn words_that_are_no_line(rt: HostRuntime) -> Result<(), Fail> {
+    expect(&rt, REFUSED)?;
     assert_eq!(rt; LineError::Memory.number(), 2);
-    Ok(())
-}
-
-#[test]
-fn blocks_of_documents_and_of_bytes(rt: HostRuntime) -> Result<(), Fail> {
-    for words in [
-        ["ask", "--block", "7", "--bytes", "7", "c.txt", "red"].as_slice(),
-        ["build", "--bytes=7", "c.txt", "c.ix", "--block=1024"].as_slice(),
-    ] {
-        let Err(error) = read_line(rt.alloc(), words) else {
-            return Err(Fail::from("it was read"));
-        };
-        assert!(rt; error.number() == 3 && error.help().is_none());
-        let shown = format!(in rt.alloc(); "{error}")?;
-        assert_eq!(rt; shown.as_str(), "Both");
-    }
-    Ok(())
-}
-
-#[test]
-fn words_that_ask_for_help(rt: HostRuntime) -> Result<(), Fail> {
-    for words in [
-        ["--help"].as_slice(),
-        ["-h"].as_slice(),
-        ["ask", "--help"].as_slice(),
-        ["ask", "-h", "c.txt"].as_slice(),
-    ] {
-        let Err(error) = read_line(rt.alloc(), words) else {
-            return Err(Fail::from("it was read"));
-        };
-        assert!(rt; error.help().is_some());
-    }
     Ok(())
 }

@@ -1,12 +1,54 @@
--- The files of the line are those that are merged.
-use Rattle.std.proofs.Common.{◌≡◌, ℕ, Result, Ok, Err, OnOk, IfErr, subst, sym, rules}
+-- What each command says of its own line; a command that writes one file leaves the standard output.
+use Rattle.ix.proofs.Doing.{done_of, file_done, file_refused, refused_of}
 use Rattle.ix.proofs.command.do_line.Goals as goal
 
-refused_file : {T E : Type 0} (done : Result T E) (result : Result ℕ E) (P Q : E → Type 0) → OnOk done (result ≡ Ok 1) → IfErr done (λ refusal. result ≡ Err refusal) → IfErr done P → ((refusal : E) → P refusal → Q refusal) → IfErr result Q
-refused_file (Ok x) result P Q one refused because shows = subst (λ r. IfErr r Q) (sym one) tt
-refused_file (Err refusal) result P Q one refused because shows = subst (λ r. IfErr r Q) (sym refused) (shows refusal because)
+pub returns-in-Ask : goal.returns-in-Ask
+returns-in-Ask g c = record {
+  done = done_of _ _ _ _ _ _ _ c.in-Ask.is c.run.result c.run.ensures.answered;
+  refused = refused_of _ _ _ _ _ c.in-Ask.is c.run.result c.run.ensures.refused;
+}
 
-pub returns-in-Merge-clause-refused : goal.returns-in-Merge-clause-refused
-returns-in-Merge-clause-refused g c =
+pub returns-in-Search : goal.returns-in-Search
+returns-in-Search g c = record {
+  done = done_of _ _ _ _ _ _ _ c.in-Search.is c.run-in-Search.result c.run-in-Search.ensures.answered;
+  refused = refused_of _ _ _ _ _ c.in-Search.is c.run-in-Search.result c.run-in-Search.ensures.refused;
+}
+
+pub returns-in-Terms : goal.returns-in-Terms
+returns-in-Terms g c = record {
+  done = done_of _ _ _ _ _ _ _ c.in-Terms.is c.run-in-Terms.result c.run-in-Terms.ensures.printed;
+  refused = refused_of _ _ _ _ _ c.in-Terms.is c.run-in-Terms.result c.run-in-Terms.ensures.refused;
+}
+
+pub returns-in-Live : goal.returns-in-Live
+returns-in-Live g c = record {
+  done = done_of _ _ _ _ _ _ _ c.in-Live.is c.run-in-Live.result c.run-in-Live.ensures.lived;
+  refused = refused_of _ _ _ _ _ c.in-Live.is c.run-in-Live.result c.run-in-Live.ensures.refused;
+}
+
+pub returns-in-Build : goal.returns-in-Build
+returns-in-Build g c = record {
+  done = done_of _ _ _ _ _ _ _ c.in-Build.is c.one_file.result (file_done _ _ c.run-in-Build.result c.one_file.result c.one_file.ensures.done c.one_file.ensures.refused c.run-in-Build.ensures.built);
+  refused = refused_of _ _ _ _ _ c.in-Build.is c.one_file.result (file_refused _ _ c.run-in-Build.result c.one_file.result c.one_file.ensures.done c.one_file.ensures.refused c.run-in-Build.ensures.refused);
+}
+
+pub returns-in-Run : goal.returns-in-Run
+returns-in-Run g c = record {
+  done = done_of _ _ _ _ _ _ _ c.in-Run.is c.one_file-in-Run.result (file_done _ _ c.run-in-Run.result c.one_file-in-Run.result c.one_file-in-Run.ensures.done c.one_file-in-Run.ensures.refused c.run-in-Run.ensures.saved);
+  refused = refused_of _ _ _ _ _ c.in-Run.is c.one_file-in-Run.result (file_refused _ _ c.run-in-Run.result c.one_file-in-Run.result c.one_file-in-Run.ensures.done c.one_file-in-Run.ensures.refused c.run-in-Run.ensures.refused);
+}
+
+pub returns-in-Merge : goal.returns-in-Merge
+returns-in-Merge g c =
+    let merged = rw c.deref.ensures.value at c.run-in-Merge.ensures.merged in
     let because = rw c.deref.ensures.value at c.run-in-Merge.ensures.refused in
-    rw c.in-Merge.is (refused_file c.run-in-Merge.result c.one_file-in-Merge.result _ _ c.one_file-in-Merge.ensures.done c.one_file-in-Merge.ensures.refused because (λ refusal is. (is, search rules)))
+    record {
+      done = done_of _ _ _ _ _ _ _ c.in-Merge.is c.one_file-in-Merge.result (file_done _ _ c.run-in-Merge.result c.one_file-in-Merge.result c.one_file-in-Merge.ensures.done c.one_file-in-Merge.ensures.refused merged);
+      refused = refused_of _ _ _ _ _ c.in-Merge.is c.one_file-in-Merge.result (file_refused _ _ c.run-in-Merge.result c.one_file-in-Merge.result c.one_file-in-Merge.ensures.done c.one_file-in-Merge.ensures.refused because);
+    }
+
+pub returns-in-Upgrade : goal.returns-in-Upgrade
+returns-in-Upgrade g c = record {
+  done = done_of _ _ _ _ _ _ _ c.in-Upgrade.is c.one_file-in-Upgrade.result (file_done _ _ c.run-in-Upgrade.result c.one_file-in-Upgrade.result c.one_file-in-Upgrade.ensures.done c.one_file-in-Upgrade.ensures.refused c.run-in-Upgrade.ensures.upgraded);
+  refused = refused_of _ _ _ _ _ c.in-Upgrade.is c.one_file-in-Upgrade.result (file_refused _ _ c.run-in-Upgrade.result c.one_file-in-Upgrade.result c.one_file-in-Upgrade.ensures.done c.one_file-in-Upgrade.ensures.refused c.run-in-Upgrade.ensures.refused);
+}

@@ -1,6 +1,6 @@
 //! The files that are merged, opened, and the numbers at which the documents of indexes begin.
 
-ghost use Rattle.std.specs.Prelude.{◌≡◌, ◌≤◌, ◌^◌, IfOk, IfErr, OnOk, length};
+ghost use Rattle.std.specs.Prelude.{◌≡◌, ◌≤◌, ◌^◌, ◌∷◌, [], ◌++◌, IfOk, IfErr, OnOk, length};
 ghost use Rattle.ix.specs.Lines.{texts_of};
 ghost use Rattle.ix.specs.MergedRuns.{RefusesHead, RefusesInput, RefusesInputs};
 ghost use Rattle.ix.specs.MergedRuns.{end_of as end_of_heading};
@@ -8,7 +8,11 @@ ghost use Rattle.ix.specs.declared.refusal.Refusal.TheVariants as refusal;
 ghost use Rattle.ix_ask.specs.declared.refusal.EngineRefusal.TheVariants as engine;
 ghost use Rattle.ix_merge.specs.declared.merge_error.MergeError.TheVariants as merge_error;
 ghost use Rattle.ix_run.specs.Heads.{heading_of};
-ghost use Rattle.ix.specs.MergeInputs.{Adds, AreOpened, IsInput, IsNear, RefusesMore};
+ghost use Rattle.ix_run.specs.RunReaders.{heading_read};
+ghost use Rattle.ix.specs.declared.command.merge.inputs.Input.TheVariants as opened;
+ghost use Rattle.ix.specs.declared.command.merge.inputs.Part.TheVariants as part;
+ghost use Rattle.ix.specs.MergeInputs.{Adds, AreOpened, IsInput, IsNear, RefusesIndex};
+ghost use Rattle.ix.specs.MergeInputs.{RefusesMore};
 ghost use Rattle.ix_run.specs.declared.run_text_error.RunTextError.TheVariants.{Magic};
 
 use crate::files::{FileSource, ReadFault};
@@ -19,7 +23,7 @@ use ix_file::{OpenError, Volume};
 use ix_merge::MergeError;
 use ix_run::{RunHead, RunReader, RunTextError};
 use ix_text::MAX_DOCUMENTS;
-use std::alloc::Global;
+use std::alloc::{AllocError, Global};
 use std::io::Read;
 use std::thread::Threads;
 
@@ -70,30 +74,54 @@ impl<R: Read + Drop> Inputs<R> {
         ensures refused { IfErr result (RefusesMore self.old.end place input) }
     {
         match input {
-            Input::Run(run) => {
-                let end = end_of(run.head());
-                if self.parts.push(Part::Run(run)).is_err() {
-                    return Err(Refusal::Engine(EngineRefusal::Memory));
-                }
-                self.end = self.end.max(end);
-                Ok(())
-            }
-            Input::Index(volume) => {
-                let documents = volume.index().doc_count();
-                if documents > MAX_DOCUMENTS - self.end {
-                    return Err(refusal_at(place, RunTextError::TooLarge));
-                }
-                let first = self.end;
-                let number = self.volumes.len();
-                if self.volumes.push(volume).is_err()
-                    || self.parts.push(Part::Index { first, number }).is_err()
-                {
-                    return Err(Refusal::Engine(EngineRefusal::Memory));
-                }
-                self.end = first + documents;
-                Ok(())
-            }
+            Input::Run(run) => self.add_run(run),
+            Input::Index(volume) => self.add_index(volume, place),
         }
+    }
+
+    /// Puts a run behind those that were opened.
+    fn add_run<'a>(&mut self, run: RunReader<R>) -> Result<(), Refusal<'a>>
+        requires near { end_of_heading (heading_read run) ≤ 2 ^ 28 }
+        ensures added { OnOk result (Adds self.old self.new (opened.Run run)) }
+        ensures refused { IfErr result (λ told. told ≡ refusal.Engine engine.Memory) }
+    {
+        let end = end_of(run.head());
+        if self.parts.push(Part::Run(run)).is_err() {
+            return Err(Refusal::Engine(EngineRefusal::Memory));
+        }
+        self.end = self.end.max(end);
+        Ok(())
+    }
+
+    /// Puts an index behind those that were opened, its documents behind all of theirs.
+    fn add_index<'a>(&mut self, volume: Volume, place: usize) -> Result<(), Refusal<'a>>
+        requires end { self.old.end ≤ 2 ^ 28 }
+        ensures added { OnOk result (Adds self.old self.new (opened.Index volume)) }
+        ensures refused { IfErr result (RefusesIndex self.old.end place volume) }
+    {
+        let documents = volume.index().doc_count();
+        if documents > MAX_DOCUMENTS - self.end {
+            return Err(refusal_at(place, RunTextError::TooLarge));
+        }
+        let first = self.end;
+        if self.push_index(volume, first).is_err() {
+            return Err(Refusal::Engine(EngineRefusal::Memory));
+        }
+        self.end = first + documents;
+        Ok(())
+    }
+
+    /// Puts an index with this first number behind those that were opened.
+    fn push_index(&mut self, volume: Volume, first: u32) -> Result<(), AllocError>
+        ensures part { OnOk result (self.new.parts.items
+            ≡ self.old.parts.items ++ part.Index first (length self.old.volumes.items) ∷ []) }
+        ensures volume { OnOk result
+            (self.new.volumes.items ≡ self.old.volumes.items ++ volume ∷ []) }
+    {
+        let number = self.volumes.len();
+        self.volumes.push(volume)?;
+        self.parts.push(Part::Index { first, number })?;
+        Ok(())
     }
 }
 

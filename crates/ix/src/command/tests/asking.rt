@@ -1,8 +1,9 @@
 //! `ix ask`, `ix search` and `ix terms` over collections and indexes of the disk.
 
 use super::disk::Disk;
-use super::indexes::ONE;
+use super::indexes::{PAST_RANGE, WITHOUT_GRAMS};
 use super::session::{play, play_behind};
+use std::alloc::Global;
 use std::test::Fail;
 
 /// Queries of the five documents.
@@ -203,43 +204,37 @@ fn sessions_of_questions(rt: HostRuntime) -> Result<(), Fail> {
     Ok(())
 }
 
-/// The index of one document without its GRAMS, and with the length 0 for them.
-fn without_grams<R: AllocGlobal>(rt: &R) -> Result<Vec<u8>, Fail> {
-    let mut bytes = Vec::from_slice(rt.alloc(), &ONE[..19])?;
-    bytes.extend_from_slice(&ONE[25..])?;
-    bytes[51] = 0;
-    Ok(bytes)
-}
+/// Files that are no index, and what is told of them.
+const NO_INDEXES: [(&str, &str); 10] = [
+    ("short.ix", "index 1: Short"),
+    ("five", "index 1: Short"),
+    ("zeros", "index 2: Magic"),
+    ("long text", "index 2: Magic"),
+    ("cut.ix", "index 3: Trailer"),
+    ("range.ix", "index 15: PositionRange"),
+    ("doubled.ix", "index 16: Doubled"),
+    ("without.ix", "index 17: Grams"),
+    ("no/such/file", "file 1: Read(no/such/file)"),
+    ("large", "memory 1: Memory"),
+];
 
-/// The index of one document with other bytes of postings.
-fn with_postings<R: AllocGlobal>(rt: &R, postings: &[u8]) -> Result<Vec<u8>, Fail> {
-    let mut bytes = Vec::from_slice(rt.alloc(), &ONE[..8])?;
-    bytes.extend_from_slice(postings)?;
-    bytes.extend_from_slice(&ONE[12..])?;
-    Ok(bytes)
+/// Queries and patterns, the last of them neither, that are refused with this line.
+fn refused_with(alloc: Global, line: &str) -> Result<String, Fail> {
+    let mut rows = String::new(alloc);
+    for asked in ["y", "y*", "x y"] {
+        rows.push_str(&format!(in alloc; "? {asked}\n! ix: {line}\n[2]\n")?)?;
+    }
+    Ok(rows)
 }
 
 #[test]
 fn files_that_are_no_index(rt: HostRuntime) -> Result<(), Fail> {
     let disk = Disk::with_texts(rt.alloc())?;
-    disk.put("without.ix", &without_grams(&rt)?)?;
-    disk.put("range.ix", &with_postings(&rt, b"\x81\x82\x81\x82")?)?;
-    for (path, line) in [
-        ("short.ix", "index 1: Short"),
-        ("five", "index 1: Short"),
-        ("zeros", "index 2: Magic"),
-        ("long text", "index 2: Magic"),
-        ("cut.ix", "index 3: Trailer"),
-        ("range.ix", "index 15: PositionRange"),
-        ("doubled.ix", "index 16: Doubled"),
-        ("without.ix", "index 17: Grams"),
-        ("no/such/file", "file 1: Read(no/such/file)"),
-        ("large", "memory 1: Memory"),
-    ] {
+    disk.put("without.ix", WITHOUT_GRAMS)?;
+    disk.put("range.ix", PAST_RANGE)?;
+    for (path, line) in NO_INDEXES {
         // The index is looked at before the query, or before the pattern.
-        let refused = format!(in rt.alloc(); "! ix: {line}\n[2]\n")?;
-        let refused = refused.as_str();
-        let rows = format!(in rt.alloc(); "? y\n{refused}? y*\n{refused}? x y\n{refused}")?;
+        let rows = refused_with(rt.alloc(), line)?;
         play_behind(&rt, &disk, &["search", path], rows.as_str())?;
         play_behind(&rt, &disk, &["terms", path], rows.as_str())?;
     }

@@ -1,6 +1,8 @@
 //! Files in memory.
 
-use super::indexes::{DOUBLED, EMPTY, FIVE_FRONT_CODED, FIVE_PLAIN, LONG_TEXT, ONE, RED, STOPPED};
+use super::indexes::{
+    CUT, DOUBLED, EMPTY, FIVE_FRONT_CODED, FIVE_PLAIN, LONG_TEXT, ONE, RED, SHORT, STOPPED,
+};
 use crate::files::{FileSource, FileTarget, ReadFault, WriteFault};
 use std::alloc::Global;
 use std::cell::RefCell;
@@ -10,6 +12,34 @@ use std::test::Fail;
 
 /// The five documents that most queries are asked of.
 pub const FIVE: &[u8] = b"a\tx y\nb\ty\nc\t\nd\ty x y\ne\tx\n";
+
+/// The texts and indexes of the tests.
+const TEXTS: [(&str, &[u8]); 24] = [
+    ("five", FIVE),
+    ("ab", b"a\tx y\nb\ty\n"),
+    ("cd", b"c\t\nd\ty x y\n"),
+    ("e", b"e\tx\n"),
+    ("empty", b""),
+    ("one", b"d\tflights to london\n"),
+    ("stop", b"to\n"),
+    ("to of", b"To\n\nof"),
+    ("two words", b"to be\n"),
+    ("bytes", b"a\t\xff\n"),
+    ("no tab", b"x\n"),
+    ("no name", b"\ty\n"),
+    ("no line end", b"a\tb"),
+    ("long text", LONG_TEXT),
+    ("zeros", &[0; 64]),
+    ("empty.ix", EMPTY),
+    ("one.ix", ONE),
+    ("five.ix", FIVE_PLAIN),
+    ("five2.ix", FIVE_FRONT_CODED),
+    ("stopped.ix", STOPPED),
+    ("red.ix", RED),
+    ("short.ix", SHORT),
+    ("cut.ix", CUT),
+    ("doubled.ix", DOUBLED),
+];
 
 /// A file in memory.
 #[derive(Drop)]
@@ -33,32 +63,7 @@ impl Disk {
             alloc,
             entries: RefCell::new(Vec::new(alloc)),
         };
-        for (path, bytes) in [
-            ("five", FIVE),
-            ("ab", b"a\tx y\nb\ty\n".as_slice()),
-            ("cd", b"c\t\nd\ty x y\n".as_slice()),
-            ("e", b"e\tx\n".as_slice()),
-            ("empty", b"".as_slice()),
-            ("one", b"d\tflights to london\n".as_slice()),
-            ("stop", b"to\n".as_slice()),
-            ("to of", b"To\n\nof".as_slice()),
-            ("two words", b"to be\n".as_slice()),
-            ("bytes", b"a\t\xff\n".as_slice()),
-            ("no tab", b"x\n".as_slice()),
-            ("no name", b"\ty\n".as_slice()),
-            ("no line end", b"a\tb".as_slice()),
-            ("long text", LONG_TEXT),
-            ("zeros", [0; 64].as_slice()),
-            ("empty.ix", EMPTY),
-            ("one.ix", ONE),
-            ("five.ix", FIVE_PLAIN),
-            ("five2.ix", FIVE_FRONT_CODED),
-            ("stopped.ix", STOPPED),
-            ("red.ix", RED),
-            ("short.ix", &EMPTY[..63]),
-            ("cut.ix", &ONE[..80]),
-            ("doubled.ix", DOUBLED),
-        ] {
+        for (path, bytes) in TEXTS {
             disk.put(path, bytes)?;
         }
         Ok(disk)
@@ -66,7 +71,10 @@ impl Disk {
 
     /// The file of this path has these bytes from now on.
     pub(super) fn put(&self, path: &str, bytes: &[u8]) -> Result<(), Fail> {
-        Ok(self.save(path, bytes).map_err(|_| "the disk is full")?)
+        let Ok(()) = self.save(path, bytes) else {
+            return Err("the disk is full")?;
+        };
+        Ok(())
     }
 
     fn save(&self, path: &str, bytes: &[u8]) -> Result<(), WriteFault> {
@@ -100,14 +108,47 @@ impl Disk {
         Err(ReadFault::Refused)
     }
 
+    /// Tells what a command that is not the program's says of files.
+    pub(super) fn tell(&self, command: &str, rest: &str, told: &mut String) -> Result<(), Fail> {
+        match command {
+            "cmp" => self.tell_difference(rest, told),
+            "size" => self.tell_size(rest, told),
+            "marks" => self.tell_marks(rest, told),
+            _ => Err("no such command")?,
+        }
+    }
+
+    /// The bytes of a file that is there.
+    fn bytes_of(&self, path: &str) -> Result<Vec<u8>, Fail> {
+        let Ok(bytes) = self.get(path) else {
+            return Err("no file")?;
+        };
+        Ok(bytes)
+    }
+
+    /// Tells how many bytes a file has, in a line.
+    fn tell_size(&self, path: &str, told: &mut String) -> Result<(), Fail> {
+        let size = self.bytes_of(path)?.len();
+        told.push_str(&format!(in self.alloc; "{size}\n")?)?;
+        Ok(())
+    }
+
     /// Tells the first eight bytes of a file and the last eight, in a line.
-    pub(super) fn tell_marks(&self, path: &str, told: &mut String) -> Result<(), Fail> {
-        let bytes = self.get(path).map_err(|_| "no file")?;
-        let last = bytes.len().checked_sub(8).ok_or("a short file")?;
-        told.push_str(str::from_utf8(&bytes[..8]).map_err(|_| "a mark")?)?;
+    fn tell_marks(&self, path: &str, told: &mut String) -> Result<(), Fail> {
+        let bytes = self.bytes_of(path)?;
+        tell_mark(bytes.first_chunk(), told)?;
         told.push(' ')?;
-        told.push_str(str::from_utf8(&bytes[last..]).map_err(|_| "a mark")?)?;
+        tell_mark(bytes.last_chunk(), told)?;
         told.push('\n')?;
+        Ok(())
+    }
+
+    /// Tells whether two files differ.
+    fn tell_difference(&self, paths: &str, told: &mut String) -> Result<(), Fail> {
+        let Some((one, other)) = paths.split_once(' ') else {
+            return Err("one path")?;
+        };
+        told.push_str(self.compare(one, other))?;
         Ok(())
     }
 
@@ -125,6 +166,18 @@ impl Disk {
             "they differ\n"
         }
     }
+}
+
+/// Tells the eight bytes of a mark.
+fn tell_mark(mark: Option<&[u8; 8]>, told: &mut String) -> Result<(), Fail> {
+    let Some(mark) = mark else {
+        return Err("a short file")?;
+    };
+    let Ok(text) = str::from_utf8(mark) else {
+        return Err("no mark")?;
+    };
+    told.push_str(text)?;
+    Ok(())
 }
 
 impl FileSource for Disk {

@@ -7,22 +7,24 @@ use std::sync::Wait;
 use std::test::Fail;
 use std::thread::Threads;
 
-/// Plays a session over a disk that has this script.
+const FILES: [(&str, &[u8]); 4] = [
+    ("c1", b"1\tred fox\n"),
+    ("c2", b"2\tfox\n"),
+    ("fox", b"fox"),
+    ("not text", b"publish\n\xff\n"),
+];
+
+/// Plays a session over a disk that has these files and this script.
 fn play_script<R: AllocGlobal + Abort + Threads + Wait + Sync>(
     rt: &R,
     script: &str,
     session: &str,
 ) -> Result<(), Fail> {
     let disk = Disk::with_texts(rt.alloc())?;
-    for (path, bytes) in [
-        ("c1", b"1\tred fox\n".as_slice()),
-        ("c2", b"2\tfox\n".as_slice()),
-        ("fox", b"fox".as_slice()),
-        ("not text", b"publish\n\xff\n".as_slice()),
-        ("script", script.as_bytes()),
-    ] {
+    for (path, bytes) in FILES {
         disk.put(path, bytes)?;
     }
+    disk.put("script", script.as_bytes())?;
     play_behind(rt, &disk, &[], session)
 }
 

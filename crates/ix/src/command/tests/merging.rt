@@ -1,8 +1,8 @@
 //! `ix merge` over files in memory.
 
 use super::disk::Disk;
-use super::indexes::ONE;
-use super::saving::FIRST_RUN;
+use super::indexes::CHANGED;
+use super::saving::{CUT_HEAD, CUT_RUN};
 use super::session::play_behind;
 use std::process::Abort;
 use std::sync::Wait;
@@ -19,17 +19,20 @@ $ ix run --first 3 e 3
 $ ix run --first=2 --stop=stop one stopped
 ";
 
+const NO_RUNS: [(&str, &[u8]); 4] = [
+    ("changed", CHANGED),
+    ("cut", CUT_RUN),
+    ("cut head", CUT_HEAD),
+    ("other", b"no"),
+];
+
 /// A disk with these runs, and with files that are none.
 fn disk_of_runs<R: AllocGlobal + Abort + Threads + Wait + Sync>(rt: &R) -> Result<Disk, Fail> {
     let disk = Disk::with_texts(rt.alloc())?;
     play_behind(rt, &disk, &[], RUNS)?;
-    // A gram is another one.
-    let mut changed = Vec::from_slice(rt.alloc(), ONE)?;
-    changed[21] = b'b';
-    disk.put("changed", &changed)?;
-    disk.put("cut", &FIRST_RUN[..40])?;
-    disk.put("cut head", &FIRST_RUN[..12])?;
-    disk.put("other", b"no")?;
+    for (path, bytes) in NO_RUNS {
+        disk.put(path, bytes)?;
+    }
     Ok(disk)
 }
 

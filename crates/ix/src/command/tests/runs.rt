@@ -2,9 +2,11 @@
 
 use super::disk::Disk;
 use super::session::{play, replay};
+use super::system::path_of;
 use ix_build::{RunFiles, StoreError, SystemFiles};
+use std::alloc::Global;
+use std::fs;
 use std::test::Fail;
-use std::{env, fs, process};
 
 /// Files of which each is refused.
 #[derive(Drop)]
@@ -38,39 +40,39 @@ impl RunFiles for NoRuns {
     ghost untold = { λ files path bytes writer none. tt };
 }
 
-/// A plan of `ix build --runs`, whose index is compared.
-const PLANS: [&str; 6] = [
-    "--block=2 --workers=3",
-    "--bytes=4 --workers=3",
-    "--block=1024 --workers=3",
-    "--block=2 --workers=1",
-    "--bytes=4 --workers=1",
-    "--block=1024 --workers=1",
-];
+/// Plans of `ix build --runs`, whose index is compared. The folder stands in the place of `@`.
+const PLANS: &str = "\
+$ ix build --runs @ --block=2 --workers=3 five new
+$ cmp new five2.ix
+$ ix build --runs @ --bytes=4 --workers=3 five new
+$ cmp new five2.ix
+$ ix build --runs @ --block=1024 --workers=3 five new
+$ cmp new five2.ix
+$ ix build --runs @ --block=2 --workers=1 five new
+$ cmp new five2.ix
+$ ix build --runs @ --bytes=4 --workers=1 five new
+$ cmp new five2.ix
+$ ix build --runs @ --block=1024 --workers=1 five new
+$ cmp new five2.ix
+$ ix build --stop=stop one stopped
+$ ix build --stop=stop one new --runs @
+$ cmp new stopped
+";
+
+/// These plans with this folder.
+fn plans_in(alloc: Global, folder: &str) -> Result<String, Fail> {
+    Ok(PLANS.replace(alloc, '@', folder)?)
+}
 
 #[test]
 fn a_folder_of_runs_changes_no_byte(rt: HostRuntime) -> Result<(), Fail> {
-    let alloc = rt.alloc();
-    let disk = Disk::with_texts(alloc)?;
-    let runs = SystemFiles { rt: &rt };
-    let above = env::temp_dir(&rt)?;
-    let process = process::id(rt.process());
-    let folder = format!(in alloc; "{}/ix-runs-{process}", above.as_path().display())?;
-    let folder = folder.as_str();
-    fs::create_dir(&rt, folder)?;
-    for plan in PLANS {
-        let session = format!(in alloc;
-            "$ ix build --runs {folder} {plan} five new\n$ cmp new five2.ix\n"
-        )?;
-        replay(&rt, &disk, &runs, &[], session.as_str())?;
-    }
-    let session = format!(in alloc;
-        "$ ix build --stop=stop one stopped\n$ ix build --stop=stop one new --runs {folder}\n\
-         $ cmp new stopped\n"
-    )?;
-    replay(&rt, &disk, &runs, &[], session.as_str())?;
+    let disk = Disk::with_texts(rt.alloc())?;
+    let folder = path_of(&rt, "runs")?;
+    let session = plans_in(rt.alloc(), &folder)?;
+    fs::create_dir(&rt, folder.as_str())?;
+    replay(&rt, &disk, &SystemFiles { rt: &rt }, &[], session.as_str())?;
     // Only an empty folder is removed.
-    fs::remove_dir(&rt, folder)?;
+    fs::remove_dir(&rt, folder.as_str())?;
     Ok(())
 }
 

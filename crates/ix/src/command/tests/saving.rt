@@ -5,8 +5,14 @@ use super::session::{play, play_behind};
 use std::test::Fail;
 
 /// Of the first two of five documents.
-pub const FIRST_RUN: &[u8] = b"PIIXRUN1\0\0\0\0\x02\0\0\0\x80\x81a\x82\x81b\x81\
+const FIRST_RUN: &[u8] = b"PIIXRUN1\0\0\0\0\x02\0\0\0\x80\x81a\x82\x81b\x81\
 \x81x\x81\x83\x81\x81\x81\x81y\x82\x86\x81\x81\x82\x81\x81\x81\x80";
+
+/// The same without its last byte, and its first twelve.
+pub const CUT_RUN: &[u8] = b"PIIXRUN1\0\0\0\0\x02\0\0\0\x80\x81a\x82\x81b\x81\
+\x81x\x81\x83\x81\x81\x81\x81y\x82\x86\x81\x81\x82\x81\x81\x81";
+
+pub const CUT_HEAD: &[u8] = b"PIIXRUN1\0\0\0\0";
 
 const SECOND_RUN: &[u8] = b"PIIXRUN1\x02\0\0\0\x02\0\0\0\x80\x81c\x80\x81d\x83\
 \x81x\x81\x83\x82\x81\x82\x81y\x81\x84\x82\x82\x81\x82\x80";
@@ -35,17 +41,20 @@ $ ix run --first 268435456 empty run
 $ cmp run last
 ";
 
+/// The runs, and how many bytes each has.
+const WANTED: [(&str, &[u8], usize); 6] = [
+    ("first", FIRST_RUN, 41),
+    ("second", SECOND_RUN, 39),
+    ("third", THIRD_RUN, 28),
+    ("stopped", STOPPED_RUN, 49),
+    ("no", EMPTY_RUN, 18),
+    ("last", LAST_RUN, 18),
+];
+
 #[test]
 fn runs_of_collections(rt: HostRuntime) -> Result<(), Fail> {
     let disk = Disk::with_texts(rt.alloc())?;
-    for (path, bytes, size) in [
-        ("first", FIRST_RUN, 41),
-        ("second", SECOND_RUN, 39),
-        ("third", THIRD_RUN, 28),
-        ("stopped", STOPPED_RUN, 49),
-        ("no", EMPTY_RUN, 18),
-        ("last", LAST_RUN, 18),
-    ] {
+    for (path, bytes, size) in WANTED {
         assert_eq!(rt; bytes.len(), size);
         disk.put(path, bytes)?;
     }

@@ -1,9 +1,10 @@
 //! Worked rows: small collections that are built, and what is found in their indexes.
 
 use super::disk::Disk;
-use super::indexes::{EMPTY, ONE};
+use super::indexes::{EMPTY_FRONT_CODED, ONE_FRONT_CODED};
 use super::runs::NoRuns;
 use super::session::{play_behind, tell};
+use std::alloc::Global;
 use std::process::Abort;
 use std::sync::Wait;
 use std::test::Fail;
@@ -101,30 +102,41 @@ fn queries_of_worked_collections(rt: HostRuntime) -> Result<(), Fail> {
     Ok(())
 }
 
-/// So many letters `z`.
-fn letters<R: AllocGlobal>(rt: &R, count: usize) -> Result<String, Fail> {
-    let mut text = String::new(rt.alloc());
+/// So many of this text, one behind the other.
+fn repeated(alloc: Global, text: &str, count: usize) -> Result<String, Fail> {
+    let mut all = String::new(alloc);
     for _ in 0..count {
-        text.push('z')?;
+        all.push_str(text)?;
     }
-    Ok(text)
+    Ok(all)
+}
+
+/// A document with a word between others.
+fn document_around(alloc: Global, word: &str) -> Result<String, Fail> {
+    Ok(format!(in alloc; "d\ta {word} b\n")?)
+}
+
+/// That a word is no term, and counts as a place.
+fn rows_of_no_term(alloc: Global, word: &str) -> Result<String, Fail> {
+    Ok(format!(in alloc;
+        "? \"a b\"\n[1]\n? a NEAR/2 b\nd\n? {word}\n! ix: query 11: LongTerm\n[2]\n"
+    )?)
 }
 
 #[test]
 fn words_that_are_too_long(rt: HostRuntime) -> Result<(), Fail> {
-    let word = letters(&rt, 256)?;
-    let word = word.as_str();
-    let text = format!(in rt.alloc(); "d\ta {word} b\n")?;
-    let rows = format!(in rt.alloc();
-        "? \"a b\"\n[1]\n? a NEAR/2 b\nd\n? {word}\n! ix: query 11: LongTerm\n[2]\n"
-    )?;
+    let alloc = rt.alloc();
+    let word = repeated(alloc, "z", 256)?;
+    let text = document_around(alloc, &word)?;
+    let rows = rows_of_no_term(alloc, &word)?;
     answers(&rt, text.as_bytes(), "--block=1", rows.as_str())
 }
 
-#[test]
-fn patterns(rt: HostRuntime) -> Result<(), Fail> {
-    let disk = disk_of(&rt, b"d\tred redo retired\n", "--block=1")?;
-    let rows = "\
+/// A collection text, and rows of patterns.
+const PATTERNS: [(&[u8], &str); 2] = [
+    (
+        b"d\tred redo retired\n",
+        "\
 ? red*
 red\t1
 redo\t1
@@ -133,10 +145,11 @@ red\t1
 retired\t1
 ? re*ed
 retired\t1
-";
-    play_behind(&rt, &disk, &["terms", "index"], rows)?;
-    let disk = disk_of(&rt, b"1\ta an\n2\tb an\n", "--block=1")?;
-    let rows = "\
+",
+    ),
+    (
+        b"1\ta an\n2\tb an\n",
+        "\
 ? a*
 a\t1
 an\t2
@@ -146,8 +159,17 @@ an\t2
 ? **
 ! ix: pattern 2: BareStar
 [2]
-";
-    play_behind(&rt, &disk, &["terms", "index"], rows)
+",
+    ),
+];
+
+#[test]
+fn patterns(rt: HostRuntime) -> Result<(), Fail> {
+    for (text, rows) in PATTERNS {
+        let disk = disk_of(&rt, text, "--block=1")?;
+        play_behind(&rt, &disk, &["terms", "index"], rows)?;
+    }
+    Ok(())
 }
 
 const REFUSED_QUERIES: &str = r#"? a b
@@ -197,28 +219,28 @@ $ ix ask --block=1 text '  '
 [2]
 ";
 
-#[test]
-fn queries_that_are_refused(rt: HostRuntime) -> Result<(), Fail> {
-    answers(&rt, b"d\ta b\n", "--block=1", REFUSED_QUERIES)?;
-    let disk = disk_of(&rt, b"d\ta b\n", "--block=1")?;
-    play_behind(&rt, &disk, &[], EMPTY_QUERIES)?;
-    let mut deep = String::new(rt.alloc());
-    for _ in 0..64 {
-        deep.push_str("NOT ")?;
-    }
-    let deep = deep.as_str();
-    let rows = format!(in rt.alloc(); "? {deep}a\nd\n? NOT {deep}a\n! ix: query 12: Deep\n[2]\n")?;
-    answers(&rt, b"d\ta b\n", "--block=1", rows.as_str())
+/// That a query of so many signs is answered, and one of one more is too deep.
+fn rows_of_deep_queries(alloc: Global, signs: &str) -> Result<String, Fail> {
+    Ok(format!(in alloc; "? {signs}a\nd\n? NOT {signs}a\n! ix: query 12: Deep\n[2]\n")?)
 }
 
 #[test]
-fn names_at_their_limit(rt: HostRuntime) -> Result<(), Fail> {
-    let disk = Disk::with_texts(rt.alloc())?;
-    let name = letters(&rt, 255)?;
-    let name = name.as_str();
-    disk.put("short", format!(in rt.alloc(); "{name}\tz\n")?.as_bytes())?;
-    disk.put("longer", format!(in rt.alloc(); "z{name}\tz\n")?.as_bytes())?;
-    let session = "\
+fn queries_that_are_refused(rt: HostRuntime) -> Result<(), Fail> {
+    let signs = repeated(rt.alloc(), "NOT ", 64)?;
+    let deep = rows_of_deep_queries(rt.alloc(), &signs)?;
+    for rows in [REFUSED_QUERIES, deep.as_str()] {
+        answers(&rt, b"d\ta b\n", "--block=1", rows)?;
+    }
+    let disk = disk_of(&rt, b"d\ta b\n", "--block=1")?;
+    play_behind(&rt, &disk, &[], EMPTY_QUERIES)
+}
+
+/// A collection text of one document, whose name has this in front of it.
+fn named(alloc: Global, front: &str, name: &str) -> Result<String, Fail> {
+    Ok(format!(in alloc; "{front}{name}\tz\n")?)
+}
+
+const NAMES: &str = "\
 $ ix build short index
 $ ix build longer other
 ! ix: collection 4: Name(1)
@@ -227,19 +249,26 @@ $ ix ask longer z
 ! ix: collection 4: Name(1)
 [2]
 ";
-    play_behind(&rt, &disk, &[], session)
+
+#[test]
+fn names_at_their_limit(rt: HostRuntime) -> Result<(), Fail> {
+    let alloc = rt.alloc();
+    let disk = Disk::with_texts(alloc)?;
+    let name = repeated(alloc, "z", 255)?;
+    for (path, front) in [("short", ""), ("longer", "z")] {
+        disk.put(path, named(alloc, front, &name)?.as_bytes())?;
+    }
+    play_behind(&rt, &disk, &[], NAMES)
 }
 
 #[test]
 fn indexes_to_the_byte(rt: HostRuntime) -> Result<(), Fail> {
-    for (text, plain) in [(b"".as_slice(), EMPTY), (b"d\tA a\n".as_slice(), ONE)] {
+    for (text, wanted) in [
+        (b"".as_slice(), EMPTY_FRONT_CODED),
+        (b"d\tA a\n".as_slice(), ONE_FRONT_CODED),
+    ] {
         let disk = disk_of(&rt, text, "--block=1")?;
-        // Version 2 of these differs in the two marks alone.
-        let mut bytes = Vec::from_slice(rt.alloc(), plain)?;
-        let end = bytes.len() - 1;
-        bytes[7] = b'2';
-        bytes[end] = b'2';
-        disk.put("wanted", &bytes)?;
+        disk.put("wanted", wanted)?;
         assert_eq!(rt; disk.compare("index", "wanted"), "");
     }
     Ok(())

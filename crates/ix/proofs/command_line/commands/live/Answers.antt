@@ -1,16 +1,12 @@
--- Each argument is added to those before it.
+-- Two arguments at a time are added to those before them.
 use Rattle.clap.specs.Simple.{new_app}
 use Rattle.std.proofs.Common.{codes}
 use Rattle.ix.specs.Building.{IsCommand}
-use Rattle.ix.proofs.Building.{adds_argument}
 use Rattle.ix.proofs.command_line.commands.live.Goals as goal
 
 pub returns : goal.returns
 returns c =
     let plain : IsCommand (new_app (codes "live")) c.new-plain.result = record { app_is = c.new-plain.ensures.app; local = c.new-plain.ensures.local } in
-    let with_stop = adds_argument c.in_ok-with_stop.ensures plain c.option.ensures in
-    let with_block = adds_argument c.in_ok-with_block.ensures with_stop c.number_option.ensures in
-    let with_bytes = adds_argument c.in_ok-with_bytes.ensures with_block c.number_option-2.ensures in
-    let with_workers = adds_argument c.in_ok-with_workers.ensures with_bytes c.number_option-3.ensures in
-    let with_searchers = adds_argument c.in_ok-with_searchers.ensures with_workers c.number_option-4.ensures in
-    adds_argument c.in_ok-with_script.ensures with_searchers c.operand.ensures
+    let with_block = c.in_ok-with_block.ensures _ _ _ plain c.option-stop.ensures c.number_option-block.ensures in
+    let with_workers = c.in_ok-with_workers.ensures _ _ _ with_block c.number_option-bytes.ensures c.number_option-workers.ensures in
+    c.in_ok-with_script.ensures _ _ _ with_workers c.number_option-searchers.ensures c.operand.ensures
