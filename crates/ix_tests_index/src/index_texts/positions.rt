@@ -69,15 +69,20 @@ fn tells_others(alloc: Global, text: &[u8], entries: &[Entry]) -> Result<bool, F
     Ok(entries_in(alloc, &index)?.as_slice() != entries)
 }
 
-#[test]
-fn positions_far_apart(rt: HostRuntime) -> Result<(), Fail> {
-    let alloc = rt.alloc();
+/// The lines with what the texts are answered.
+fn answers(rt: &(impl Threads + Sync), alloc: Global) -> Result<String, Fail> {
     let mut lines = String::new(alloc);
     for line in POSITIONS.lines() {
         let positions = question_of(line)?;
-        let answer = answer(&rt, alloc, positions)?;
+        let answer = answer(rt, alloc, positions)?;
         push_line(&mut lines, positions, &answer)?;
     }
+    Ok(lines)
+}
+
+#[test]
+fn positions_far_apart(rt: HostRuntime) -> Result<(), Fail> {
+    let lines = answers(&rt, rt.alloc())?;
     check_same(&rt, &lines, POSITIONS);
     Ok(())
 }

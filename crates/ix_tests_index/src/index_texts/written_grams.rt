@@ -23,11 +23,16 @@ fn written(rt: &impl Abort, alloc: Global, table: &str) -> Result<String, Fail> 
     let mut lines = String::new(alloc);
     for line in table.lines() {
         let terms = question_of(line)?;
-        let sample = format!(in alloc; "|d:{terms}")?;
-        let text = coded_text(rt, alloc, &sample)?;
-        push_line(&mut lines, terms, &grams_in(alloc, &text)?)?;
+        let grams = grams_of(rt, alloc, terms)?;
+        push_line(&mut lines, terms, &grams)?;
     }
     Ok(lines)
+}
+
+fn grams_of(rt: &impl Abort, alloc: Global, terms: &str) -> Result<String, Fail> {
+    let sample = format!(in alloc; "|d:{terms}")?;
+    let text = coded_text(rt, alloc, &sample)?;
+    grams_in(alloc, &text)
 }
 
 /// The grams of a text, or `none` where the section is empty. The trailer has 56 bytes, and its fifth length is theirs.

@@ -41,6 +41,29 @@ pub(super) fn answered(alloc: Global, index: &Index<'_>, query: &Query) -> Resul
     Ok(answer(alloc, index, query)?)
 }
 
+/// What the query of a text finds by a scan.
+fn scanned_text(
+    rt: &impl Abort,
+    alloc: Global,
+    documents: &[Doc<'_>],
+    stop: &StopList,
+    text: &str,
+) -> Result<Vec<u32>, Fail> {
+    let query = parsed(alloc, text, stop)?;
+    scanned(rt, alloc, documents, stop, &query)
+}
+
+/// What the query of a text finds by an index.
+fn answered_text(
+    alloc: Global,
+    index: &Index<'_>,
+    text: &str,
+    stop: &StopList,
+) -> Result<Vec<u32>, Fail> {
+    let query = parsed(alloc, text, stop)?;
+    answered(alloc, index, &query)
+}
+
 /// The names of the documents of some numbers, with a space before each.
 fn names_of(alloc: Global, documents: &[Doc<'_>], numbers: &[u32]) -> Result<String, Fail> {
     let mut line = String::new(alloc);
@@ -78,8 +101,7 @@ fn scanned_row(
     stop: &StopList,
     query: &str,
 ) -> Result<String, Fail> {
-    let tree = parsed(alloc, query, stop)?;
-    let numbers = scanned(rt, alloc, documents, stop, &tree)?;
+    let numbers = scanned_text(rt, alloc, documents, stop, query)?;
     let names = names_of(alloc, documents, &numbers)?;
     Ok(format!(in alloc; "{query} =>{names}")?)
 }
@@ -92,8 +114,7 @@ fn answered_row(
     query: &str,
     stop: &StopList,
 ) -> Result<String, Fail> {
-    let tree = parsed(alloc, query, stop)?;
-    let numbers = answered(alloc, index, &tree)?;
+    let numbers = answered_text(alloc, index, query, stop)?;
     let names = names_in(rt, alloc, index, &numbers)?;
     Ok(format!(in alloc; "{query} =>{names}")?)
 }
