@@ -1,5 +1,5 @@
 -- The documents are those of the text.
-use Rattle.ix.specs.BuiltIndexes.{RefusesText, no_collection}
+use Rattle.ix.specs.BuiltIndexes.{no_collection}
 use Rattle.ix.proofs.BuildLemmas.{text_built, text_merged, text_unbuilt, unbuilt_unsaved, unbuilt_up}
 use Rattle.ix.proofs.FileLemmas.{handed_up}
 use Rattle.ix.proofs.command.build.build_text.Goals as goal

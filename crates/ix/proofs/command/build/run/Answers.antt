@@ -1,5 +1,5 @@
 -- What was read of the collection file makes the index of the whole file.
-use Rattle.ix.specs.BuiltIndexes.{BuildsText, RefusesText, no_stop_list, no_file}
+use Rattle.ix.specs.BuiltIndexes.{RefusesText, no_stop_list, no_file}
 use Rattle.std.proofs.lemmas.Result.{on_ok_weaker}
 use Rattle.ix.proofs.BuildLemmas.{built_of_files, refused_of_files}
 use Rattle.ix.proofs.FileLemmas.{err_weaker, handed_up}
