@@ -18,6 +18,8 @@ use Rattle.ix_live.specs.declared.live_error.LiveError.TheVariants as live
 use Rattle.ix_script.specs.ScriptErrors.{script_error_name, script_error_number}
 use Rattle.ix_script.specs.declared.run_error.RunError.{RunError}
 use Rattle.ix_script.specs.declared.run_error.RunError.TheVariants as running
+use Rattle.ix.specs.declared.files.WriteFault.{WriteFault}
+use Rattle.ix.specs.declared.files.WriteFault.TheVariants as write_fault
 use Rattle.ix.specs.declared.refusal.Refusal.{Refusal}
 use Rattle.ix.specs.declared.refusal.Refusal.TheVariants as refusal
 
@@ -73,6 +75,12 @@ abbrev pub IsUnsaved : Text → Refusal → Type 0
 IsUnsaved path (refusal.Write named) = named.now ≡ path
 IsUnsaved path (refusal.Engine engine.Memory) = Unit {0}
 IsUnsaved path _ = ⊥
+
+-- the refusal tells which of both it was, as the fault says
+abbrev pub TellsFault : Text → WriteFault → Refusal → Type 0
+TellsFault path write_fault.Refused (refusal.Write named) = named.now ≡ path
+TellsFault path write_fault.Refused _ = ⊥
+TellsFault path write_fault.Memory told = told ≡ refusal.Engine engine.Memory
 
 -- ---- its line
 

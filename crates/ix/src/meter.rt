@@ -1,4 +1,5 @@
 //! How far a build has come, shown to a person who waits for it.
+ghost use Rattle.std.specs.Prelude.{◌≡◌, ◌≤◌, ◌*◌, ◌/◌, ◌-◌, ◌^◌, min, max};
 
 use ix_build::Watch;
 use std::sync::atomic::{AtomicUsize, Ordering};
@@ -45,7 +46,10 @@ impl<R: Eprint + Sync> Watch for Meter<'_, R> {
     }
 }
 
-/// How many of a hundred parts so many blocks are.
-fn share_of(done: usize, blocks: usize) -> usize {
+/// How many of a hundred parts the blocks that are done make, rounded down. A product that 64 bits do not hold is cut off.
+fn share_of(done: usize, blocks: usize) -> usize
+    ensures exact { result ≡ min (min done blocks * 100) (2 ^ 64 - 1) / max blocks 1 }
+    ensures most { result ≤ 100 }
+{
     done.min(blocks).saturating_mul(100) / blocks.max(1)
 }

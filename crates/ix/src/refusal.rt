@@ -30,11 +30,12 @@ pub enum Refusal<'a> {
 }
 
 impl<'a> Refusal<'a> {
-    ghost use Rattle.ix.specs.Refusals.{IsUnsaved, TellsLive, TellsStep};
+    ghost use Rattle.ix.specs.Refusals.{IsUnsaved, TellsFault, TellsLive, TellsStep};
 
-    /// The refusal of a file that was not written.
+    /// The refusal of a file that was not written: `Write` of its path, or `Memory`, as the fault says.
     pub fn unsaved(path: &'a str, fault: WriteFault) -> Refusal<'a>
-        ensures { IsUnsaved path.entry.now result }
+        ensures unsaved { IsUnsaved path.entry.now result }
+        ensures fault { TellsFault path.entry.now fault result }
     {
         match fault {
             WriteFault::Refused => Refusal::Write(path),

@@ -16,4 +16,4 @@ returns-in-Ok-close-clause-saved g c =
     }
 
 pub returns-in-Err-close-clause-refused : goal.returns-in-Err-close-clause-refused
-returns-in-Err-close-clause-refused g c = refuses_unsaved _ _ _ c.unsaved-in-Err-close.ensures
+returns-in-Err-close-clause-refused g c = refuses_unsaved _ _ _ c.unsaved-in-Err-close.ensures.unsaved

@@ -19,4 +19,4 @@ returns-in-Ok-clause-upgraded g c =
 pub returns-clause-refused : goal.returns-clause-refused
 returns-clause-refused g c =
     let opened = c.in_ok-volume.ensures.opened in
-    unsaved opened.version opened.collection opened.held c.unsaved.ensures
+    unsaved opened.version opened.collection opened.held c.unsaved.ensures.unsaved
