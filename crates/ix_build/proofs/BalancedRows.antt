@@ -3,7 +3,7 @@ use Rattle.std.proofs.Common.{◌≡◌, ◌-◌, ◌*◌, ◌^◌, refl}
 use Rattle.ix_build.specs.declared.plan.Cut.TheVariants.{Docs, Bytes}
 use Rattle.ix_build.specs.Balanced.{blocks_among, share, balanced}
 
--- Workers, bytes of texts, and how many blocks they have at least.
+-- Workers, bytes of texts, and among how many blocks these are shared out.
 pub two_workers : blocks_among 2 100000000 ≡ 16
 two_workers = refl
 

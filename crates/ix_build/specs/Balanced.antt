@@ -1,19 +1,19 @@
--- The cut of a collection whose runs are kept in memory: that of the plan, or a finer one, so that each of several workers has
--- several blocks.
+-- The cut of a collection whose runs are kept in memory: that of the plan, or a finer one, so that no worker waits long for the
+-- others.
 use Rattle.std.specs.Prelude.{ℕ, ◌+◌, ◌-◌, ◌*◌, ◌/◌, ◌^◌, nat_lt, min, List, length, if◌then◌else◌}
 use Rattle.ix_text.specs.Collections.{NamedText}
 use Rattle.ix_text.specs.Sizes.{text_bytes}
 use Rattle.ix_build.specs.declared.plan.Cut.{Cut}
 use Rattle.ix_build.specs.declared.plan.Cut.TheVariants.{Docs, Bytes}
 
--- How many blocks so many workers have at least of texts of so many bytes: eight each, but no more than the bytes have whole
--- parts of 2 ^ 19.
+-- Among how many blocks texts of so many bytes are shared out for so many workers: eight for each, or as many as the bytes have
+-- whole parts of 2 ^ 19, where these are fewer.
 abbrev pub blocks_among : ℕ → ℕ → ℕ
 blocks_among workers bytes = min (workers * 8) (bytes / 2 ^ 19)
 
--- How many of so many a block has where they are shared out among so many blocks: the same number each, rounded up, and one at
--- least. Where there are no two blocks to share them out among it is the greatest number that a cut has, and so it is where the
--- share is greater.
+-- How many of so many a block has where they are shared out among so many blocks: the same number each, rounded up, so that
+-- fewer blocks may do, and one at least. Where there are no two blocks to share them out among it is the greatest number that a
+-- cut has, and so it is where the share is greater.
 abbrev pub share : ℕ → ℕ → ℕ
 share count blocks = if nat_lt blocks 2 then 2 ^ 32 - 1 else min (2 ^ 32 - 1) ((count - 1) / blocks + 1)
 

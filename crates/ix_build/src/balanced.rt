@@ -8,11 +8,11 @@ ghost use Rattle.ix_build.specs.Blocks.{IsNoCoarser, cut_number};
 use crate::plan::Cut;
 use ix_text::Doc;
 
-/// Where there are several workers, each has so many blocks if the texts are long enough: so all of them end at about the
-/// same time, although some blocks take longer than others.
+/// For each of several workers a collection is shared out among so many blocks, if its texts are long enough: so all of them
+/// end at about the same time, although some blocks take longer than others.
 const BLOCKS_EACH: usize = 8;
 
-/// But there are no more blocks than texts of this many bytes, since each run takes its part of the merge.
+/// But among no more blocks than there are texts of this many bytes, since each run takes its part of the merge.
 const LEAST_BYTES: usize = 1 << 19;
 
 /// The cut into blocks, or a finer one where some of several workers would have too few of its blocks.
@@ -45,7 +45,7 @@ fn text_bytes(docs: &[Doc<'_>]) -> usize
     bytes
 }
 
-/// How many blocks so many workers have at least of texts of so many bytes.
+/// Among how many blocks texts of so many bytes are shared out for so many workers.
 fn blocks_among(workers: usize, bytes: usize) -> usize
     ensures exact { result ≡ blocks_among workers bytes }
 {
