@@ -94,7 +94,7 @@ def inverting_files(crate):
 
 build = functions_of("ix_build")
 for start, goal in [
-    ("build", "invert_all"), ("build", "merge_into"), ("build_with_files", "build"), ("build_with_files", "build_over"),
+    ("build", "invert_all"), ("build", "merge_into"), ("build", "build_watched"), ("build_with_files", "build_watched"), ("build_with_files", "build_over"),
     ("invert_all", "work_all"), ("build_by", "work_all"), ("build_over", "work_all"),
 ]:
     check(f"`{start}` of ix_build reaches `{goal}`", reaches(build, start, goal))
@@ -104,10 +104,10 @@ check("ix_build inverts in the bodies of its makers' `make` alone",
 made = [(file, own) for file, own, body in build for _ in re.findall(r"\.make\(", body)]
 check("ix_build asks a maker at one place alone, in the workers' loop", made == [("worker.rt", "work")], made)
 
-program = functions_of("ix")
-inverting = inverting_files("ix")
-check("ix inverts in the command `run` alone", inverting == ["command/run_file.rt"], inverting)
-building = [f for f in program if f[0] == "command/build.rt"]
+program = functions_of("ix_command")
+inverting = inverting_files("ix_command")
+check("ix_command inverts in the command `run` alone", inverting == ["commands/run_file.rt"], inverting)
+building = [f for f in program if f[0] == "commands/build.rt"]
 for goal in ["invert_all", "merge_into", "build_with_files"]:
     check(f"the command `build` reaches `{goal}`", reaches(building, "run", goal))
 

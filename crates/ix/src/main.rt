@@ -1,21 +1,12 @@
 //! The program `ix`: asks a collection of named documents, or an index of one.
 #![tactic(auto)]
 
-mod command;
-mod command_line;
-mod files;
-mod help;
-mod index_file;
 mod meter;
-mod refusal;
-mod refuse;
 
-use command::command;
 use ix_ask::EngineRefusal;
 use ix_build::{RunFiles, SystemFiles, Watch};
+use ix_command::{Refusal, command, refuse};
 use meter::Meter;
-use refusal::Refusal;
-use refuse::refuse;
 use std::alloc::AllocError;
 use std::env;
 use std::io::{ErrorKind, Input, IsTerminal, Write};

@@ -1,5 +1,0 @@
-use Rattle.ix.proofs.BuildLemmas.{inverting_refused}
-use Rattle.ix.proofs.command.build.invert.Goals as goal
-
-pub returns-in-Err-clause-refused : goal.returns-in-Err-clause-refused
-returns-in-Err-clause-refused g c = λ path. inverting_refused c.args.plan.now c.args.documents.now c.in-Err.error c.in-Err.ensures.refused

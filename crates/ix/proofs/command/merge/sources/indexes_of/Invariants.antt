@@ -1,6 +1,0 @@
--- the indexes so far
-use Rattle.std.proofs.Common.{◌≡◌, take}
-use Rattle.ix.proofs.command.merge.sources.indexes_of.Given as goal
-
-abbrev pub invariant-loop-volume : goal.invariant-loop-volume
-invariant-loop-volume l = l.indexes.items ≡ take l.volume-index l.volumes

@@ -1,0 +1,31 @@
+-- What was done of a line, or refused of it, by what its own command says.
+use Rattle.std.proofs.Common.{◌≡◌, ℕ, List, Option, Some, None, Result, Ok, Err, OnOk, IfOk, IfErr, refl, subst, sym}
+use Rattle.std.specs.Io.KnownBytes.{Keeps}
+use Rattle.ix_command.specs.Files.{Holding, Keeping}
+use Rattle.ix_command.specs.Statuses.{IsDone, IsLineRefused}
+use Rattle.ix_line.specs.declared.line.Line.{Line}
+use Rattle.ix_command.specs.declared.refusal.Refusal.{Refusal}
+
+keeps_itself : (known : Option (List ℕ)) → Keeps known known
+keeps_itself None = tt
+keeps_itself (Some bytes) = refl
+
+-- what is done of a line, or refused of it, is so of the line that it is
+module _ (holds saves : Holding) (kept : Keeping) (old new : Option (List ℕ)) (line made : Line) (is : line ≡ made) where
+  pub done_of : (result : Result ℕ Refusal) → IfOk result (IsDone holds saves kept made old new) → IfOk result (IsDone holds saves kept line old new)
+  done_of result done = subst (λ (l : Line). IfOk result (IsDone holds saves kept l old new)) (sym is) done
+
+module _ (holds : Holding) (old new : Option (List ℕ)) (line made : Line) (is : line ≡ made) where
+  pub refused_of : (result : Result ℕ Refusal) → IfErr result (IsLineRefused holds made old new) → IfErr result (IsLineRefused holds line old new)
+  refused_of result refused = subst (λ (l : Line). IfErr result (IsLineRefused holds l old new)) (sym is) refused
+
+-- a command that writes one file, and leaves the standard output
+pub file_done : {T : Type 0} (P : Type 0) (known : Option (List ℕ)) (done : Result T Refusal) (result : Result ℕ Refusal) → OnOk done (result ≡ Ok 1) → IfErr done (λ refusal. result ≡ Err refusal) → OnOk done P
+    → IfOk result (λ count. P × Keeps known known × (count ≡ 1))
+file_done P known (Ok x) result one refused holds = subst (λ (r : Result ℕ Refusal). IfOk r (λ count. P × Keeps known known × (count ≡ 1))) (sym one) (holds, keeps_itself known, refl)
+file_done P known (Err refusal) result one refused holds = subst (λ (r : Result ℕ Refusal). IfOk r (λ count. P × Keeps known known × (count ≡ 1))) (sym refused) tt
+
+pub file_refused : {T : Type 0} (P : Refusal → Type 0) (known : Option (List ℕ)) (done : Result T Refusal) (result : Result ℕ Refusal) → OnOk done (result ≡ Ok 1) → IfErr done (λ refusal. result ≡ Err refusal) → IfErr done P
+    → IfErr result (λ refusal. P refusal × Keeps known known)
+file_refused P known (Ok x) result one refused because = subst (λ (r : Result ℕ Refusal). IfErr r (λ refusal. P refusal × Keeps known known)) (sym one) tt
+file_refused P known (Err refusal) result one refused because = subst (λ (r : Result ℕ Refusal). IfErr r (λ told. P told × Keeps known known)) (sym refused) (because, keeps_itself known)

@@ -1,0 +1,9 @@
+pub mod BuildLemmas
+pub mod Doing
+pub mod FileLemmas
+pub mod IndexLemmas
+pub mod MergedFileLemmas
+pub mod RunFileLemmas
+pub mod RunLemmas
+pub mod Saving
+pub mod Upgrading

@@ -1,0 +1,12 @@
+pub mod AskedFiles
+pub mod BuiltIndexes
+pub mod Files
+pub mod IndexFiles
+pub mod LiveScripts
+pub mod MergeInputs
+pub mod MergedRuns
+pub mod Refusals
+pub mod SavedIndexes
+pub mod Statuses
+pub mod Upgrades
+pub mod WrittenRuns

@@ -1,0 +1,124 @@
+-- Refusals: what each of them tells, and the line that is printed.
+use Rattle.std.specs.Prelude.{◌≡◌, ℕ, ◌⊎◌, ◌/◌, ◌%◌, [], ◌∷◌, ◌++◌, flat_map, Option, Some, IfSome, codes, if◌then◌else◌, encode_utf8, string_bytes}
+use Rattle.std.specs.Char.{digit_char, is_control}
+use Rattle.std.specs.Str.{chars}
+use Rattle.clap.specs.Walk.{Text}
+use Rattle.ix_text.specs.Sinks.{AppendsFront}
+use Rattle.ix_ask.specs.declared.asking.AskError.{AskError}
+use Rattle.ix_ask.specs.declared.asking.AskError.TheVariants as asking
+use Rattle.ix_ask.specs.declared.searching.SearchError.{SearchError}
+use Rattle.ix_ask.specs.declared.searching.SearchError.TheVariants as searching
+use Rattle.ix_ask.specs.declared.listing.ListingError.{ListingError}
+use Rattle.ix_ask.specs.declared.listing.ListingError.TheVariants as listing
+use Rattle.ix_ask.specs.EngineRefusals.{error_text, line_of}
+use Rattle.ix_ask.specs.declared.refusal.EngineRefusal.TheVariants as engine
+use Rattle.ix_live.specs.LiveErrors.{live_error_name, live_error_number}
+use Rattle.ix_live.specs.declared.live_error.LiveError.{LiveError}
+use Rattle.ix_live.specs.declared.live_error.LiveError.TheVariants as live
+use Rattle.ix_script.specs.ScriptErrors.{script_error_name, script_error_number}
+use Rattle.ix_script.specs.declared.run_error.RunError.{RunError}
+use Rattle.ix_script.specs.declared.run_error.RunError.TheVariants as running
+use Rattle.ix_command.specs.declared.files.WriteFault.{WriteFault}
+use Rattle.ix_command.specs.declared.files.WriteFault.TheVariants as write_fault
+use Rattle.ix_command.specs.declared.refusal.Refusal.{Refusal}
+use Rattle.ix_command.specs.declared.refusal.Refusal.TheVariants as refusal
+
+-- ---- what a refusal tells
+
+-- the refusal tells the error in its own area, with what it wraps; what cannot be written is the standard output
+abbrev pub Tells : AskError → Refusal → Type 0
+Tells (asking.Collection error) told = told ≡ refusal.Engine (engine.Collection error)
+Tells (asking.Query error) told = told ≡ refusal.Engine (engine.Query error)
+Tells (asking.Build error) told = told ≡ refusal.Engine (engine.Build error)
+Tells (asking.Open error) told = told ≡ refusal.Engine (engine.Index error)
+Tells asking.Write (refusal.Write path) = path.now ≡ codes "-"
+Tells asking.Write _ = ⊥
+Tells asking.Memory told = told ≡ refusal.Engine engine.Memory
+
+-- the same of a question to an index
+abbrev pub TellsSearch : SearchError → Refusal → Type 0
+TellsSearch (searching.Query error) told = told ≡ refusal.Engine (engine.Query error)
+TellsSearch searching.Write (refusal.Write path) = path.now ≡ codes "-"
+TellsSearch searching.Write _ = ⊥
+TellsSearch searching.Memory told = told ≡ refusal.Engine engine.Memory
+
+-- the same of a listing of terms
+abbrev pub TellsListing : ListingError → Refusal → Type 0
+TellsListing (listing.Pattern error) told = told ≡ refusal.Engine (engine.Pattern error)
+TellsListing listing.Write (refusal.Write path) = path.now ≡ codes "-"
+TellsListing listing.Write _ = ⊥
+TellsListing listing.Memory told = told ≡ refusal.Engine engine.Memory
+
+-- the same of a live index: what was not built is told as it is of `build`
+abbrev pub TellsLive : LiveError → Refusal → Type 0
+TellsLive (live.Build error) told = told ≡ refusal.Engine (engine.Build error)
+TellsLive error told = told ≡ refusal.Live error
+
+-- the same of the steps of a script; where there is no memory for the path of a file, want of it is told
+abbrev pub TellsStep : RunError → Refusal → Type 0
+TellsStep (running.Unread path) (refusal.ReadAdded named) = string_bytes named ≡ path.now
+TellsStep (running.Unread path) told = told ≡ refusal.Engine engine.Memory
+TellsStep (running.Collection error) told = told ≡ refusal.Engine (engine.Collection error)
+TellsStep (running.Live error) told = TellsLive error told
+TellsStep running.Write (refusal.Write path) = path.now ≡ codes "-"
+TellsStep running.Write _ = ⊥
+TellsStep running.Memory told = told ≡ refusal.Engine engine.Memory
+
+-- the refusal tells that the file of this path cannot be read, or that memory ran out
+abbrev pub IsUnread : Text → Refusal → Type 0
+IsUnread path (refusal.Read named) = named.now ≡ path
+IsUnread path (refusal.Engine engine.Memory) = Unit {0}
+IsUnread path _ = ⊥
+
+-- the refusal tells that the file of this path cannot be written, or that memory ran out
+abbrev pub IsUnsaved : Text → Refusal → Type 0
+IsUnsaved path (refusal.Write named) = named.now ≡ path
+IsUnsaved path (refusal.Engine engine.Memory) = Unit {0}
+IsUnsaved path _ = ⊥
+
+-- the refusal tells which of both it was, as the fault says
+abbrev pub TellsFault : Text → WriteFault → Refusal → Type 0
+TellsFault path write_fault.Refused (refusal.Write named) = named.now ≡ path
+TellsFault path write_fault.Refused _ = ⊥
+TellsFault path write_fault.Memory told = told ≡ refusal.Engine engine.Memory
+
+-- ---- its line
+
+-- what the engine refused, as it tells it; and the refusals of files and of words
+abbrev pub text_of : Refusal → Option Text
+text_of refusal.Arguments = Some (codes "arguments refused")
+text_of (refusal.Engine told) = line_of told
+text_of (refusal.Read path) = Some (codes "file 1: Read(" ++ path.now ++ codes ")")
+text_of (refusal.ReadAdded path) = Some (codes "file 1: Read(" ++ string_bytes path ++ codes ")")
+text_of (refusal.Write path) = Some (codes "file 2: Write(" ++ path.now ++ codes ")")
+text_of (refusal.NotUtf8 path) = Some (codes "file 3: NotUtf8(" ++ path.now ++ codes ")")
+text_of (refusal.Script error) = Some (error_text (codes "script ") (script_error_number error) (script_error_name error))
+text_of (refusal.Live error) = Some (error_text (codes "live ") (live_error_number error) (live_error_name error))
+
+-- a control character as `\x` and two hexadecimal digits, and any other as it is
+abbrev pub shown_char : ℕ → Text
+shown_char c =
+    if is_control c then codes "\\x" ++ (encode_utf8 (digit_char (c / 16)) ++ encode_utf8 (digit_char (c % 16)))
+    else encode_utf8 c
+
+-- the text with its control characters shown
+unfoldable pub shown : Text → Text
+shown text = flat_map shown_char (chars text)
+
+-- the line of the refusal, where its text is stated
+abbrev pub IsLineOf : Refusal → Text → Type 0
+IsLineOf told line = IfSome (text_of told) (λ text. line ≡ codes "ix: " ++ (shown text ++ 10 ∷ []))
+
+-- the error output gained the line of this refusal, or a beginning of it where a write was refused
+pub record GainsLine (told : Refusal) (old new : Option Text) : Type 0 where
+  pub line : Text
+  pub spelled : IsLineOf told line
+  pub gained : AppendsFront old new line
+
+-- the line of want of memory
+abbrev pub out_of_memory_line : Text
+out_of_memory_line = codes "ix: memory 1: Memory" ++ 10 ∷ []
+
+-- The refusal was told; where there is no memory for its line, it is told as want of memory.
+abbrev pub IsTold : Refusal → Option Text → Option Text → Type 0
+IsTold told old new = GainsLine told old new ⊎ AppendsFront old new out_of_memory_line

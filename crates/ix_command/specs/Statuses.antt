@@ -1,0 +1,108 @@
+-- What an exit status says: that help was printed, that a command was done, or why it was refused. The words are those of
+-- the command line with `help X` spelled as `X --help`.
+use Rattle.std.specs.Prelude.{◌≡◌, ◌≢◌, ℕ, ◌⊎◌, ◌<◌, List, Option, codes}
+use Rattle.std.specs.Borrow.{Bor}
+use Rattle.std.specs.Io.KnownBytes.{Appends, Keeps}
+use Rattle.clap.specs.Walk.{Text}
+use Rattle.clap.specs.Faults.{fault_of}
+use Rattle.clap.specs.Words.{IsAmong}
+use Rattle.clap.specs.declared.error.kind.ErrorKind.{ErrorKind}
+use Rattle.clap.specs.declared.error.kind.ErrorKind.TheVariants.{DisplayHelp}
+use Rattle.ix_text.specs.Sinks.{AppendsFront}
+use Rattle.ix_command.specs.AskedFiles.{IsAnsweredFromFiles, IsAskRefused}
+use Rattle.ix_command.specs.BuiltIndexes.{IsBuilt, IsBuildRefused}
+use Rattle.ix_line.specs.Commands.{ix_app}
+use Rattle.ix_command.specs.Files.{Holding, Keeping}
+use Rattle.ix_line.specs.Help.{AsksForHelp, as_flag, help_of}
+use Rattle.ix_command.specs.IndexFiles.{IsListingRefused, IsPrintedFromFile, IsSearchRefused, IsSearchedFromFile}
+use Rattle.ix_line.specs.Lines.{CutsTwice, Reads, texts_of}
+use Rattle.ix_command.specs.LiveScripts.{IsLiveRefused, IsLived}
+use Rattle.ix_command.specs.MergedRuns.{IsMerged, IsMergeRefused}
+use Rattle.ix_command.specs.Refusals.{IsTold}
+use Rattle.ix_command.specs.Upgrades.{IsUpgradeRefused, IsUpgraded}
+use Rattle.ix_command.specs.WrittenRuns.{IsRunRefused, IsRunSaved}
+use Rattle.ix_line.specs.declared.line.Line.{Line}
+use Rattle.ix_line.specs.declared.line.Line.TheVariants.{Ask, Build, Live, Merge, Run, Search, Terms, Upgrade}
+use Rattle.ix_ask.specs.declared.refusal.EngineRefusal.TheVariants as engine
+use Rattle.ix_command.specs.declared.refusal.Refusal.{Refusal}
+use Rattle.ix_command.specs.declared.refusal.Refusal.TheVariants as refusal
+
+-- the words, with `help X` spelled as `X --help`
+abbrev pub spelled : List (Bor Text) → List Text
+spelled words = as_flag (texts_of words)
+
+-- the words ask for help, and it was printed: the standard output gained it, and nothing else
+pub record IsHelped (words : List Text) (old new : Option Text) : Type 0 where
+  pub asked : AsksForHelp words
+  pub printed : Appends old new (help_of words)
+
+-- What the line asks for was done, and so much was found; where it asks for a file, one was saved, and nothing was printed.
+abbrev pub IsDone : Holding → Holding → Keeping → Line → Option Text → Option Text → ℕ → Type 0
+IsDone holds saves kept (Ask stop_file plan collection query) old new count = IsAnsweredFromFiles holds stop_file collection.now query.now old new count
+IsDone holds saves kept (Build stop_file plan collection index) old new count =
+    IsBuilt holds saves kept stop_file plan collection.now index.now × Keeps old new × (count ≡ 1)
+IsDone holds saves kept (Live stop_file plan searchers script) old new count = IsLived holds stop_file script.now old new count
+IsDone holds saves kept (Search index query) old new count = IsSearchedFromFile holds index.now query.now old new count
+IsDone holds saves kept (Terms index pattern) old new count = IsPrintedFromFile holds index.now pattern.now old new count
+IsDone holds saves kept (Run stop_file first collection run) old new count =
+    IsRunSaved holds saves stop_file first collection.now run.now × Keeps old new × (count ≡ 1)
+IsDone holds saves kept (Merge index inputs) old new count =
+    IsMerged holds saves (texts_of inputs.items) index.now × Keeps old new × (count ≡ 1)
+IsDone holds saves kept (Upgrade old_file new_file) old new count =
+    IsUpgraded holds saves old_file.now new_file.now × Keeps old new × (count ≡ 1)
+
+-- what the line asks for was refused for this reason, and leaves this of the standard output
+abbrev pub IsLineRefused : Holding → Line → Option Text → Option Text → Refusal → Type 0
+IsLineRefused holds (Ask stop_file plan collection query) old new told =
+    IsAskRefused holds stop_file plan.workers collection.now query.now old new told
+IsLineRefused holds (Build stop_file plan collection index) old new told =
+    IsBuildRefused holds stop_file plan collection.now index.now told × Keeps old new
+IsLineRefused holds (Live stop_file plan searchers script) old new told = IsLiveRefused holds stop_file plan.workers script.now old new told
+IsLineRefused holds (Search index query) old new told = IsSearchRefused holds index.now query.now old new told
+IsLineRefused holds (Terms index pattern) old new told = IsListingRefused holds index.now pattern.now old new told
+IsLineRefused holds (Run stop_file first collection run) old new told = IsRunRefused holds stop_file first collection.now run.now told × Keeps old new
+IsLineRefused holds (Merge index inputs) old new told =
+    IsMergeRefused holds (texts_of inputs.items) index.now told × Keeps old new
+IsLineRefused holds (Upgrade old_file new_file) old new told = IsUpgradeRefused holds old_file.now new_file.now told × Keeps old new
+
+-- the words are a line that was done, and something was found
+pub record FindsSome (holds saves : Holding) (kept : Keeping) (words : List Text) (old new : Option Text) : Type 0 where
+  pub line : Line
+  pub count : ℕ
+  pub read : Reads words line
+  pub some : 0 < count
+  pub done : IsDone holds saves kept line old new count
+
+-- the words are a line that was done, and nothing was found
+pub record FindsNone (holds saves : Holding) (kept : Keeping) (words : List Text) (old new : Option Text) : Type 0 where
+  pub line : Line
+  pub read : Reads words line
+  pub done : IsDone holds saves kept line old new 0
+
+-- the words have a fault, and not only that they ask for help, or they cut into blocks in two ways
+abbrev pub AreMistaken : List Text → Type 0
+AreMistaken words = ((kind : ErrorKind) × IsAmong kind (fault_of ix_app words) × (kind ≢ DisplayHelp)) ⊎ CutsTwice words
+
+-- The refusal tells that the standard output cannot be written, which gained a beginning of the text.
+abbrev pub IsUnwritten : Text → Option Text → Option Text → Refusal → Type 0
+IsUnwritten text old new (refusal.Write path) = (path.now ≡ codes "-") × AppendsFront old new text
+IsUnwritten text old new _ = ⊥
+
+-- Why words that are no line were refused, and what that leaves of the standard output: they are mistaken, memory ran out,
+-- or the help that they ask for cannot be written.
+abbrev pub IsLineless : List Text → Option Text → Option Text → Refusal → Type 0
+IsLineless words old new refusal.Arguments = AreMistaken words × Keeps old new
+IsLineless words old new (refusal.Engine engine.Memory) = Keeps old new
+IsLineless words old new told = AsksForHelp words × IsUnwritten (help_of words) old new told
+
+-- The words were refused for this reason, and this is left of the standard output: they are no line, or what their line
+-- asks for was refused.
+pub data IsRefusedFor (holds : Holding) (words : List Text) (old new : Option Text) (told : Refusal) : Type 0 where
+  lineless : IsLineless words old new told → IsRefusedFor holds words old new told
+  undone : (line : Line) → Reads words line → IsLineRefused holds line old new told → IsRefusedFor holds words old new told
+
+-- The words were refused for one reason, and the error output gained the line that tells it.
+pub record IsRefused (holds : Holding) (words : List Text) (old new err_old err_new : Option Text) : Type 0 where
+  pub told : Refusal
+  pub reason : IsRefusedFor holds words old new told
+  pub line : IsTold told err_old err_new

@@ -1,0 +1,265 @@
+//! What the program does for the words of its command line.
+//!
+//! A command is a file below, with its own contract; here is what all of them share: the words are
+//! read, help is printed, and a refusal is told.
+
+ghost use Rattle.std.specs.Prelude.{◌≡◌, ◌≢◌, ◌≤◌, ◌⊎◌, IfOk, IfErr, OnOk};
+ghost use Rattle.std.specs.Io.KnownBytes.{Appends, Keeps};
+ghost use Rattle.ix_command.specs.Files.{AnyBytes, keeping_of};
+ghost use Rattle.ix_line.specs.Lines.{Refuses, texts_of};
+ghost use Rattle.ix_command.specs.Statuses.{FindsNone, FindsSome, IsDone, IsHelped, IsLineRefused};
+ghost use Rattle.ix_command.specs.Statuses.{IsLineless, IsUnwritten, IsRefused, IsRefusedFor, spelled};
+
+mod ask;
+mod build;
+mod live;
+mod merge;
+mod run_file;
+mod search;
+mod terms;
+mod upgrade;
+
+use crate::files::{FileSource, FileTarget, HostFiles};
+use crate::refusal::Refusal;
+use crate::refusing::refuse;
+use ix_ask::EngineRefusal;
+use ix_build::{RunFiles, Watch};
+use ix_line::{Line, LineError, help_on, read_line, with_help_as_flag};
+use ix_text::{flush, put_all};
+use std::alloc::{AllocError, Global};
+use std::io::{Input, Write};
+use std::rt::Files;
+use std::sync::Wait;
+use std::thread::Threads;
+
+/// Something was found or written, or help was asked for.
+const FOUND: u8 = 0;
+
+/// Nothing was found.
+const NOTHING: u8 = 1;
+
+/// How much a command that writes a file has done.
+const ONE_FILE: usize = 1;
+
+/// [`command_over`] the files of the system, of whose bytes nothing is known. Those of the runs come
+/// from the caller, since files that are shared among threads are made at one runtime alone.
+pub fn command<
+    R: Files + Input + AllocGlobal + Threads + Wait + Sync,
+    S: RunFiles,
+    V: Watch,
+    W: Write,
+    E: Write,
+>(rt: &R, runs: &S, watch: &V, words: &[&str], out: &mut W, err: &mut E) -> u8
+    ensures status { result ≤ 2 }
+    ensures found { result ≡ 0 →
+        IsHelped (spelled words.now) (W.contents out.old) (W.contents out.new)
+        ⊎ FindsSome AnyBytes AnyBytes (keeping_of S.Reader.remaining (S.back runs.now))
+        (spelled words.now) (W.contents out.old) (W.contents out.new) }
+    ensures nothing { result ≡ 1 →
+        FindsNone AnyBytes AnyBytes (keeping_of S.Reader.remaining (S.back runs.now))
+        (spelled words.now) (W.contents out.old) (W.contents out.new) }
+    ensures quiet { result ≢ 2 → Keeps (E.contents err.old) (E.contents err.new) }
+    ensures refused { result ≡ 2 →
+        IsRefused AnyBytes (spelled words.now) (W.contents out.old) (W.contents out.new)
+        (E.contents err.old) (E.contents err.new) }
+{
+    command_over(
+        rt,
+        rt.alloc(),
+        &HostFiles { rt },
+        runs,
+        watch,
+        words,
+        out,
+        err,
+    )
+}
+
+/// Does what the words after the program's name ask for, with the files that they name, and answers
+/// the exit status: 0 where something was found, a file was written or help was printed, 1 where
+/// nothing was found, 2 where it was refused. A folder in which runs are to be kept is one of `runs`, and
+/// `watch` is told of each block of the command `build`.
+///
+/// What was found goes to `out`, and so does help, and nothing else does. A refusal is one line on
+/// `err`, and whether that line could be written is not answered. A refusal leaves `out` as it was,
+/// but where a write was refused: a beginning of the names, or of the help that was asked for, is
+/// out then.
+pub fn command_over<
+    R: Threads + Wait + Sync,
+    F: FileSource + FileTarget,
+    S: RunFiles,
+    V: Watch,
+    W: Write,
+    E: Write,
+>(
+    rt: &R,
+    alloc: Global,
+    files: &F,
+    runs: &S,
+    watch: &V,
+    words: &[&str],
+    out: &mut W,
+    err: &mut E,
+) -> u8
+    ensures status { result ≤ 2 }
+    ensures found { result ≡ 0 →
+        IsHelped (spelled words.now) (W.contents out.old) (W.contents out.new)
+        ⊎ FindsSome (F.holds files.now) (F.saved files.now)
+        (keeping_of S.Reader.remaining (S.back runs.now)) (spelled words.now)
+        (W.contents out.old) (W.contents out.new) }
+    ensures nothing { result ≡ 1 →
+        FindsNone (F.holds files.now) (F.saved files.now)
+        (keeping_of S.Reader.remaining (S.back runs.now)) (spelled words.now)
+        (W.contents out.old) (W.contents out.new) }
+    ensures quiet { result ≢ 2 → Keeps (E.contents err.old) (E.contents err.new) }
+    ensures refused { result ≡ 2 →
+        IsRefused (F.holds files.now) (spelled words.now)
+        (W.contents out.old) (W.contents out.new) (E.contents err.old) (E.contents err.new) }
+{
+    let words = match with_help_as_flag(alloc, words) {
+        Ok(words) => words,
+        Err(AllocError) => return refuse(alloc, err, &Refusal::Engine(EngineRefusal::Memory)),
+    };
+    match run(rt, alloc, files, runs, watch, words.as_slice(), out) {
+        Ok(status) => status,
+        Err(refusal) => refuse(alloc, err, &refusal),
+    }
+}
+
+/// Does what the words ask for, but for telling a refusal.
+fn run<'a, R: Threads + Wait + Sync, F: FileSource + FileTarget, S: RunFiles, V: Watch, W: Write>(
+    rt: &R,
+    alloc: Global,
+    files: &F,
+    runs: &S,
+    watch: &V,
+    words: &'a [&'a str],
+    out: &mut W,
+) -> Result<u8, Refusal<'a>>
+    ensures status { IfOk result (λ status. status ≤ 1) }
+    ensures found { IfOk result (λ status. status ≡ 0 →
+        IsHelped (texts_of words.entry.now) (W.contents out.old) (W.contents out.new)
+        ⊎ FindsSome (F.holds files.now) (F.saved files.now)
+        (keeping_of S.Reader.remaining (S.back runs.now)) (texts_of words.entry.now)
+        (W.contents out.old) (W.contents out.new)) }
+    ensures nothing { IfOk result (λ status. status ≡ 1 →
+        FindsNone (F.holds files.now) (F.saved files.now)
+        (keeping_of S.Reader.remaining (S.back runs.now)) (texts_of words.entry.now)
+        (W.contents out.old) (W.contents out.new)) }
+    ensures refused { IfErr result (IsRefusedFor (F.holds files.now) (texts_of words.entry.now)
+        (W.contents out.old) (W.contents out.new)) }
+{
+    match read_line(alloc, words) {
+        Ok(line) => {
+            let count = do_line(rt, alloc, files, runs, watch, line, out)?;
+            Ok(if count == 0 { NOTHING } else { FOUND })
+        }
+        Err(error) => {
+            answer_without_line(words, error, out)?;
+            Ok(FOUND)
+        }
+    }
+}
+
+/// Does a line that was read, and answers how much was found.
+fn do_line<
+    'a,
+    R: Threads + Wait + Sync,
+    F: FileSource + FileTarget,
+    S: RunFiles,
+    V: Watch,
+    W: Write,
+>(
+    rt: &R,
+    alloc: Global,
+    files: &F,
+    runs: &S,
+    watch: &V,
+    line: Line<'a>,
+    out: &mut W,
+) -> Result<usize, Refusal<'a>>
+    ensures done { IfOk result (IsDone (F.holds files.now) (F.saved files.now)
+        (keeping_of S.Reader.remaining (S.back runs.now)) line.entry
+        (W.contents out.old) (W.contents out.new)) }
+    ensures refused { IfErr result (IsLineRefused (F.holds files.now) line.entry
+        (W.contents out.old) (W.contents out.new)) }
+{
+    match line {
+        Line::Ask {
+            stop,
+            plan,
+            collection,
+            query,
+        } => ask::run(rt, alloc, files, stop, &plan, collection, query, out),
+        Line::Search { index, query } => { search::run(rt, alloc, files, index, query, out) },
+        Line::Terms { index, pattern } => { terms::run(rt, alloc, files, index, pattern, out) },
+        Line::Build {
+            stop,
+            plan,
+            collection,
+            index,
+        } => one_file(build::run(
+            rt, alloc, files, runs, watch, stop, &plan, collection, index,
+        )),
+        Line::Live {
+            stop,
+            plan,
+            searchers,
+            script,
+        } => live::run(rt, alloc, files, stop, &plan, &searchers, script, out),
+        Line::Run {
+            stop,
+            first,
+            collection,
+            run,
+        } => one_file(run_file::run(alloc, files, stop, first, collection, run)),
+        Line::Merge { index, inputs } => one_file(merge::run(rt, alloc, files, index, &inputs)),
+        Line::Upgrade { old, new } => one_file(upgrade::run(rt, alloc, files, old, new)),
+    }
+}
+
+/// How much a command has done that writes one file, or its refusal.
+fn one_file<'a>(done: Result<(), Refusal<'a>>) -> Result<usize, Refusal<'a>>
+    ensures done { OnOk done.entry (result ≡ Ok 1) }
+    ensures refused { IfErr done.entry (λ refusal. result ≡ Err refusal) }
+{
+    match done {
+        Ok(()) => Ok(ONE_FILE),
+        Err(refusal) => Err(refusal),
+    }
+}
+
+/// Prints the help that words which are no line ask for, or refuses them for their error.
+fn answer_without_line<'a, W: Write>(
+    words: &[&str],
+    error: LineError,
+    out: &mut W,
+) -> Result<(), Refusal<'a>>
+    requires { Refuses (texts_of words.now) error }
+    ensures helped { OnOk result
+        (IsHelped (texts_of words.now) (W.contents out.old) (W.contents out.new)) }
+    ensures refused { IfErr result
+        (IsLineless (texts_of words.now) (W.contents out.old) (W.contents out.new)) }
+{
+    if error.help().is_some() {
+        return print_help(help_on(words), out);
+    }
+    match error {
+        LineError::Clap(_) => Err(Refusal::Arguments),
+        LineError::Both => Err(Refusal::Arguments),
+        LineError::Memory => Err(Refusal::Engine(EngineRefusal::Memory)),
+    }
+}
+
+/// Prints a help text, and flushes.
+fn print_help<'a, W: Write>(text: &str, out: &mut W) -> Result<(), Refusal<'a>>
+    ensures printed { OnOk result (Appends (W.contents out.old) (W.contents out.new) text.now) }
+    ensures refused { IfErr result
+        (IsUnwritten text.now (W.contents out.old) (W.contents out.new)) }
+{
+    if put_all(out, text.as_bytes()).is_ok() && flush(out).is_ok() {
+        Ok(())
+    } else {
+        Err(Refusal::Write("-"))
+    }
+}

@@ -1,0 +1,14 @@
+//! The commands of the program: what is done for the words of a command line, with the files that they name, and the one line
+//! by which a refusal is told.
+#![tactic(auto)]
+
+mod commands;
+mod files;
+mod index_file;
+mod refusal;
+mod refusing;
+
+pub use commands::{command, command_over};
+pub use files::{FileSource, FileTarget, HostFiles, ReadFault, WriteFault};
+pub use refusal::Refusal;
+pub use refusing::refuse;

@@ -1,0 +1,136 @@
+//! The one line by which the program says why it refused.
+
+use crate::files::WriteFault;
+use ix_ask::{AskError, EngineRefusal, ListingError, SearchError};
+use ix_live::LiveError;
+use ix_script::{RunError, ScriptError};
+use std::alloc::{AllocError, Global};
+use std::fmt;
+
+/// Why the program refused, in the area that it is told in. It prints as area, number and name, as
+/// in `query 2: Unexpected(2)`.
+#[derive(Debug, Drop)]
+pub enum Refusal<'a> {
+    /// The words of the command line are refused.
+    Arguments,
+    /// A text breaks a rule, or the engine did not do its work.
+    Engine(EngineRefusal),
+    /// The file of this path cannot be read.
+    Read(&'a str),
+    /// The file of this path, which a script names, cannot be read.
+    ReadAdded(String),
+    /// The file of this path cannot be written; `-` is the standard output.
+    Write(&'a str),
+    /// The file of this path is not UTF-8.
+    NotUtf8(&'a str),
+    /// The text is no script.
+    Script(ScriptError),
+    /// The live index refused what a script asks for.
+    Live(LiveError),
+}
+
+impl<'a> Refusal<'a> {
+    ghost use Rattle.ix_command.specs.Refusals.{IsUnsaved, TellsFault, TellsLive, TellsStep};
+
+    /// The refusal of a file that was not written: `Write` of its path, or `Memory`, as the fault says.
+    pub fn unsaved(path: &'a str, fault: WriteFault) -> Refusal<'a>
+        ensures unsaved { IsUnsaved path.entry.now result }
+        ensures fault { TellsFault path.entry.now fault result }
+    {
+        match fault {
+            WriteFault::Refused => Refusal::Write(path),
+            WriteFault::Memory => Refusal::Engine(EngineRefusal::Memory),
+        }
+    }
+
+    /// The refusal of steps of a script that were stopped; of the paths that a script names it has a
+    /// copy.
+    pub fn stopped(alloc: Global, error: RunError<'_>) -> Refusal<'a>
+        ensures { TellsStep error.entry result }
+    {
+        match error {
+            RunError::Unread(path) => match String::from_str(alloc, path) {
+                Ok(path) => Refusal::ReadAdded(path),
+                Err(AllocError) => Refusal::Engine(EngineRefusal::Memory),
+            },
+            RunError::Collection(error) => Refusal::Engine(EngineRefusal::Collection(error)),
+            RunError::Live(error) => Refusal::of_live(error),
+            RunError::Write => Refusal::Write("-"),
+            RunError::Memory => Refusal::Engine(EngineRefusal::Memory),
+        }
+    }
+
+    /// The refusal of a live index.
+    fn of_live(error: LiveError) -> Refusal<'a>
+        ensures { TellsLive error result }
+    {
+        match error {
+            LiveError::Build(error) => Refusal::Engine(EngineRefusal::Build(error)),
+            error => Refusal::Live(error),
+        }
+    }
+}
+
+impl fmt::Display for Refusal<'_> {
+    ghost use Rattle.ix_command.specs.Refusals.{text_of};
+
+    ghost output = { text_of };
+
+    fn fmt<W: fmt::Write>(&self, f: &mut fmt::Formatter<W>) -> fmt::Result {
+        match self {
+            Refusal::Arguments => write!(f, "arguments refused"),
+            Refusal::Engine(refusal) => write!(f, "{refusal}"),
+            Refusal::Read(path) => write!(f, "file 1: Read({path})"),
+            Refusal::ReadAdded(path) => write!(f, "file 1: Read({path})"),
+            Refusal::Write(path) => write!(f, "file 2: Write({path})"),
+            Refusal::NotUtf8(path) => write!(f, "file 3: NotUtf8({path})"),
+            Refusal::Script(error) => write!(f, "script {}: {error}", error.number()),
+            Refusal::Live(error) => write!(f, "live {}: {error}", error.number()),
+        }
+    }
+}
+
+impl From<AskError> for Refusal<'_> {
+    ghost use Rattle.ix_command.specs.Refusals.{Tells};
+
+    ghost from_gives = { Tells };
+
+    fn from(error: AskError) -> Self {
+        match error {
+            AskError::Collection(error) => Refusal::Engine(EngineRefusal::Collection(error)),
+            AskError::Query(error) => Refusal::Engine(EngineRefusal::Query(error)),
+            AskError::Build(error) => Refusal::Engine(EngineRefusal::Build(error)),
+            AskError::Open(error) => Refusal::Engine(EngineRefusal::Index(error)),
+            AskError::Write => Refusal::Write("-"),
+            AskError::Memory => Refusal::Engine(EngineRefusal::Memory),
+        }
+    }
+}
+
+impl From<SearchError> for Refusal<'_> {
+    ghost use Rattle.ix_command.specs.Refusals.{TellsSearch};
+
+    ghost from_gives = { TellsSearch };
+
+    fn from(error: SearchError) -> Self {
+        match error {
+            SearchError::Query(error) => Refusal::Engine(EngineRefusal::Query(error)),
+            SearchError::Write => Refusal::Write("-"),
+            SearchError::Memory => Refusal::Engine(EngineRefusal::Memory),
+        }
+    }
+}
+
+impl From<ListingError> for Refusal<'_> {
+    ghost use Rattle.ix_command.specs.Refusals.{TellsListing};
+
+    ghost from_gives = { TellsListing };
+
+    fn from(error: ListingError) -> Self {
+        match error {
+            ListingError::Pattern(error) => Refusal::Engine(EngineRefusal::Pattern(error)),
+            ListingError::Write => Refusal::Write("-"),
+            ListingError::Memory => Refusal::Engine(EngineRefusal::Memory),
+        }
+    }
+}

@@ -1,0 +1,10 @@
+pub mod Building
+pub mod EachLemmas
+pub mod HelpLemmas
+pub mod Matched
+pub mod NoFault
+pub mod Numbers
+pub mod Plans
+pub mod Rows
+pub mod Uses
+pub mod Walks

@@ -1,0 +1,26 @@
+-- Both operands of `ask` are required, and its numbers are in their ranges.
+use Rattle.std.proofs.Common.{codes, lit<, refl}
+use Rattle.ix_line.specs.Commands.{ix_app, ix_built}
+use Rattle.ix_line.proofs.Numbers.{number_in_given}
+use Rattle.ix_line.proofs.Rows.{operand_given}
+use Rattle.ix_line.proofs.line.ask_line.Goals as goal
+
+pub read_plan-requires-clause-block : goal.read_plan-requires-clause-block
+unfolding ix_app
+read_plan-requires-clause-block c = number_in_given ix_built (codes "ask") (codes "block") _ 1 268435456 (lit< tt) refl c.requires
+
+pub read_plan-requires-clause-bytes : goal.read_plan-requires-clause-bytes
+unfolding ix_app
+read_plan-requires-clause-bytes c = number_in_given ix_built (codes "ask") (codes "bytes") _ 1 268435456 (lit< tt) refl c.requires
+
+pub read_plan-requires-clause-workers : goal.read_plan-requires-clause-workers
+unfolding ix_app
+read_plan-requires-clause-workers c = number_in_given ix_built (codes "ask") (codes "workers") _ 1 64 (lit< tt) refl c.requires
+
+pub operand-requires : goal.operand-requires
+unfolding ix_app
+operand-requires c = operand_given ix_built (codes "ask") _ _ refl c.requires
+
+pub operand-requires-2 : goal.operand-requires-2
+unfolding ix_app
+operand-requires-2 c = operand_given ix_built (codes "ask") _ _ refl c.requires

@@ -1,0 +1,52 @@
+//! One field of a line, read from the matches of its command.
+ghost use Rattle.std.specs.Prelude.{◌≡◌, IfOk, IfSome, IsSome};
+ghost use Rattle.clap.specs.Words.{all_of, first_of, found_of, one_of, rows_of};
+ghost use Rattle.ix_line.specs.Lines.{HasNumberOr, HasOperand, HasOperands, HasText, IsNumberText};
+ghost use Rattle.ix_line.specs.Lines.{given_number};
+
+use clap::ArgMatches;
+use std::alloc::{AllocError, Global};
+
+/// The value of an option, where the words give it.
+pub fn option<'a>(matches: &ArgMatches<'a>, id: &str) -> Option<&'a str>
+    ensures { HasText id.now (rows_of (found_of matches.now)) result }
+{
+    matches.get_str(id)
+}
+
+/// The number of an option, where the words give it.
+pub fn number_option(matches: &ArgMatches<'_>, id: &str) -> Option<u32>
+    requires { IfSome (one_of id.now (rows_of (found_of matches.now))) IsNumberText }
+    ensures { result ≡ given_number id.now (rows_of (found_of matches.now)) }
+{
+    matches.get_one::<u32>(id)
+}
+
+/// The number of an option, or another one where the words do not give it.
+pub fn number_or(matches: &ArgMatches<'_>, id: &str, otherwise: u32) -> u32
+    requires { IfSome (one_of id.now (rows_of (found_of matches.now))) IsNumberText }
+    ensures { HasNumberOr id.now otherwise (rows_of (found_of matches.now)) result }
+{
+    number_option(matches, id).unwrap_or(otherwise)
+}
+
+/// An operand that the words give.
+pub fn operand<'a>(matches: &ArgMatches<'a>, id: &str) -> &'a str
+    requires { IsSome (first_of id.now (rows_of (found_of matches.now))) }
+    ensures { HasOperand id.now (rows_of (found_of matches.now)) result }
+{
+    matches.get_str(id).unwrap()
+}
+
+/// The operands that the words give up to their end.
+pub fn operands<'a>(
+    alloc: Global,
+    matches: &ArgMatches<'a>,
+    id: &str,
+) -> Result<Vec<&'a str>, AllocError>
+    requires { IsSome (all_of id.now (rows_of (found_of matches.now))) }
+    ensures { IfOk result (λ list.
+        HasOperands id.now (rows_of (found_of matches.now)) list.items) }
+{
+    Vec::from_slice(alloc, matches.get_strs(id).unwrap())
+}
