@@ -147,11 +147,12 @@ impl<'a, W: Write> IndexWriter<'a, W> {
         ensures front { (before : Option (List ℕ)) (told : Told) (postings : List Posting) →
             WasTold W.contents before self.old told
             → MayList told postings documents next bytes.now
-            → OnErr result (AppendsFront before (W.contents (sink self.new)) (settled_front (with_postings told postings))) }
+            → OnErr result (AppendsFront before (W.contents (sink self.new))
+            (settled_front (with_postings told postings))) }
         ensures ready { OnOk result (IsReady self.old) }
         ensures refused { OnErr result (Answers self.new PutError.Failed) }
-        ensures failed { (error : PutError) → Answers self.old error
-            → (result ≡ Err error) × Keeps (W.contents (sink self.old)) (W.contents (sink self.new)) }
+        ensures failed { (error : PutError) → Answers self.old error → (result ≡ Err error)
+            × Keeps (W.contents (sink self.old)) (W.contents (sink self.new)) }
         ensures error { IsReady self.old → IfErr result (λ error. (error ≡ PutError.Write)
             ⊎ (error ≡ PutError.Memory)) }
         ensures memory { IfErr result (λ error. error ≡ PutError.Memory →

@@ -55,7 +55,8 @@ pub(crate) fn read_posting<R: Read>(
         (rest : List ℕ) → HasTokens tokens.now rows → HoldsNumbers marks.old numbers
         → PostingFits rows next posting → IsFree rows numbers posting
         → length (posting_bytes (posting.0 + 1 - next) posting) ≤ limit
-        → known_left R.remaining input.old ≡ Some (posting_bytes (posting.0 + 1 - next) posting ++ rest)
+        → known_left R.remaining input.old
+        ≡ Some (posting_bytes (posting.0 + 1 - next) posting ++ rest)
         → MatchResult result (λ read. (read.0 ≡ posting.0) × (positions.new.items ≡ posting.1)
         × (known_left R.remaining input.new ≡ Some rest)) IsRefusal }
 {
@@ -105,7 +106,8 @@ fn read_any_posting<R: Read>(
         (rest : List ℕ) → HasTokens tokens.now rows → HoldsNumbers marks.old numbers
         → PostingFits rows next posting → IsFree rows numbers posting
         → length (posting_bytes (posting.0 + 1 - next) posting) ≤ limit
-        → known_left R.remaining input.old ≡ Some (posting_bytes (posting.0 + 1 - next) posting ++ rest)
+        → known_left R.remaining input.old
+        ≡ Some (posting_bytes (posting.0 + 1 - next) posting ++ rest)
         → MatchResult result (λ read. (read.0 ≡ posting.0) × (positions.new.items ≡ posting.1)
         × (known_left R.remaining input.new ≡ Some rest)) IsRefusal }
 {

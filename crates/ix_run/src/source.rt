@@ -76,7 +76,8 @@ pub trait Source {
         ensures current { current self.new ≡ current self.old }
         ensures given { IfOk result (λ found. MatchOption found
             (is_drained self.new × EndsPostings yields gives self.old self.new)
-            (λ document. GivesPosting yields gives self.old self.new (document, positions.new.items))) }
+            (λ document. GivesPosting yields gives self.old self.new
+            (document, positions.new.items))) }
         ensures drained { is_drained self.old → result ≡ Ok None }
         ensures fault { IfErr result (faults self.old) }
         ensures no_more_faults { OnOk result (KeepsFaults faults self.old self.new) };
@@ -133,15 +134,19 @@ pub trait Source {
     ghost drained_without_term: { (source : Self) → current source ≡ None → is_drained source };
 
     // What was given so far is the front of a lawful dictionary.
-    ghost given_lawfully: { (source : Self) (finished : List DictionaryEntry) (at_hand : Option DictionaryEntry)
+    ghost given_lawfully: { (source : Self) (finished : List DictionaryEntry)
+        (at_hand : Option DictionaryEntry)
         → gives source finished at_hand → IsLawfulFront (heading source) finished at_hand };
 
     // The entry at hand is that of the term at hand.
-    ghost given_of_term: { (source : Self) (finished : List DictionaryEntry) (at_hand : Option DictionaryEntry)
-        → gives source finished at_hand → option_map (λ entry. entry.term) at_hand ≡ current source };
+    ghost given_of_term: { (source : Self) (finished : List DictionaryEntry)
+        (at_hand : Option DictionaryEntry)
+        → gives source finished at_hand
+        → option_map (λ entry. entry.term) at_hand ≡ current source };
 
     // What was given so far and what is yielded yet are a lawful whole.
-    ghost yielded_lawfully: { (source : Self) (finished : List DictionaryEntry) (at_hand : Option DictionaryEntry)
+    ghost yielded_lawfully: { (source : Self) (finished : List DictionaryEntry)
+        (at_hand : Option DictionaryEntry)
         (postings : List Posting) (entries : List DictionaryEntry)
         → gives source finished at_hand → yields source postings entries
         → AreWhole (heading source) (closed finished at_hand postings ++ entries) };

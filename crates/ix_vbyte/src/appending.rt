@@ -119,7 +119,8 @@ pub fn push_posting(
         ≡ out.old.items ++ posting_bytes (document + 1 - next) (document, positions.now)) }
     ensures err { OnErr result (out.new.items ≡ out.old.items) }
     ensures full { OnErr result (vec_capacity out.old
-        < vec_len out.old + length (posting_bytes (document + 1 - next) (document, positions.now))) }
+        < vec_len out.old
+        + length (posting_bytes (document + 1 - next) (document, positions.now))) }
     ensures capacity { vec_capacity out.old ≤ vec_capacity out.new }
 {
     if let [position] = positions {
@@ -140,7 +141,8 @@ fn push_single(out: &mut Vec<u8>, next: u32, document: u32, position: u32) -> Re
         ≡ out.old.items ++ posting_bytes (document + 1 - next) (document, position ∷ [])) }
     ensures err { OnErr result (out.new.items ≡ out.old.items) }
     ensures full { OnErr result (vec_capacity out.old
-        < vec_len out.old + length (posting_bytes (document + 1 - next) (document, position ∷ []))) }
+        < vec_len out.old
+        + length (posting_bytes (document + 1 - next) (document, position ∷ []))) }
     ensures capacity { vec_capacity out.old ≤ vec_capacity out.new }
 {
     let gap = document + 1 - next;
@@ -170,7 +172,8 @@ fn push_long_single(
         ≡ out.old.items ++ posting_bytes (document + 1 - next) (document, position ∷ [])) }
     ensures err { OnErr result (out.new.items ≡ out.old.items) }
     ensures full { OnErr result (vec_capacity out.old
-        < vec_len out.old + length (posting_bytes (document + 1 - next) (document, position ∷ []))) }
+        < vec_len out.old
+        + length (posting_bytes (document + 1 - next) (document, position ∷ []))) }
     ensures capacity { vec_capacity out.old ≤ vec_capacity out.new }
 {
     push_any_posting(out, next, document, &[position])
@@ -191,7 +194,8 @@ fn push_any_posting(
         ≡ out.old.items ++ posting_bytes (document + 1 - next) (document, positions.now)) }
     ensures err { OnErr result (out.new.items ≡ out.old.items) }
     ensures full { OnErr result (vec_capacity out.old
-        < vec_len out.old + length (posting_bytes (document + 1 - next) (document, positions.now))) }
+        < vec_len out.old
+        + length (posting_bytes (document + 1 - next) (document, positions.now))) }
     ensures capacity { vec_capacity out.old ≤ vec_capacity out.new }
 {
     let start = out.len();

@@ -235,7 +235,8 @@ impl<'a> Postings<'a> {
 impl<'a> Iterator for Postings<'a> {
     type Item = Posting<'a>;
 
-    ghost next_gives = { YieldsFirstBy (λ posting. (posting.document, posting.positions)) (λ postings. postings) };
+    ghost next_gives = { YieldsFirstBy (λ posting. (posting.document, posting.positions))
+        (λ postings. postings) };
 
     ghost remaining = { item_count (λ postings. postings) };
 

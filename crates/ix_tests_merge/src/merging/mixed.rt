@@ -36,7 +36,10 @@ impl<'a, 'b> Source for Mixed<'a, 'b> {
 
     ghost current = { elim [ Held s ↦ s.term | Other s ↦ term_of_source s ] };
 
-    ghost yields = { elim [ Held s ↦ HasLeft s | Other s ↦ SourceMayYield ⟦<&'static [u8] as Read>⟧.remaining s ] };
+    ghost yields = { elim [
+      | Held s ↦ HasLeft s
+      | Other s ↦ SourceMayYield ⟦<&'static [u8] as Read>⟧.remaining s
+    ] };
 
     ghost gives = { elim [ Held s ↦ HasGiven s | Other s ↦ SourceHasGiven s ] };
 
@@ -44,7 +47,10 @@ impl<'a, 'b> Source for Mixed<'a, 'b> {
 
     ghost is_ended = { elim [ Held s ↦ IsAtEnd s | Other s ↦ SourceIsEnded s ] };
 
-    ghost faults = { elim [ Held s ↦ λ error. (¬ (IsAtEnd s)) × (error ≡ Memory) | Other s ↦ SourceMayFault ⟦<&'static [u8] as Read>⟧.remaining s ] };
+    ghost faults = { elim [
+      | Held s ↦ λ error. (¬ (IsAtEnd s)) × (error ≡ Memory)
+      | Other s ↦ SourceMayFault ⟦<&'static [u8] as Read>⟧.remaining s
+    ] };
 
     fn head(&self) -> &RunHead {
         match self {
@@ -94,13 +100,26 @@ impl<'a, 'b> Source for Mixed<'a, 'b> {
         }
     }
 
-    ghost drained_without_term = { elim [ Held s ↦ λ none some. absurd (some none) | Other s ↦ source_drained_without_term s ] };
+    ghost drained_without_term = { elim [
+      | Held s ↦ λ none some. absurd (some none)
+      | Other s ↦ source_drained_without_term s
+    ] };
 
-    ghost given_lawfully = { elim [ Held s ↦ λ finished at_hand given. given.lawful | Other s ↦ source_given_lawfully s ] };
+    ghost given_lawfully = { elim [
+      | Held s ↦ λ finished at_hand given. given.lawful
+      | Other s ↦ source_given_lawfully s
+    ] };
 
-    ghost given_of_term = { elim [ Held s ↦ λ finished at_hand given. given.of_term | Other s ↦ source_given_of_term s ] };
+    ghost given_of_term = { elim [
+      | Held s ↦ λ finished at_hand given. given.of_term
+      | Other s ↦ source_given_of_term s
+    ] };
 
-    ghost yielded_lawfully = { elim [ Held s ↦ λ finished at_hand postings entries given left. given.completed postings entries left | Other s ↦ source_yielded_lawfully ⟦<&'static [u8] as Read>⟧.remaining s ] };
+    ghost yielded_lawfully = { elim [
+      | Held s ↦ λ finished at_hand postings entries given left.
+          given.completed postings entries left
+      | Other s ↦ source_yielded_lawfully ⟦<&'static [u8] as Read>⟧.remaining s
+    ] };
 }
 
 /// Documents as a run, as its text and as an index text that counts them from 0.
