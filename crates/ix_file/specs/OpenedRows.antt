@@ -1,14 +1,8 @@
 -- The rows of the documents, as an opened index holds them: each name stands where it is, in DOCS.
-use Rattle.std.specs.Prelude.{ℕ, ◌+◌, ◌^◌, ◌≤◌, List, ◌++◌, map, length, sum_by, slice_range, All}
+use Rattle.std.specs.Prelude.{ℕ, ◌+◌, ◌^◌, ◌≤◌, List, map, length, sum_by, slice_range, All}
 use Rattle.ix_text.specs.Collections.{IsName}
 use Rattle.ix_text.specs.Parts.{DocumentRow}
-use Rattle.ix_vbyte.specs.Code.{code_of}
-use Rattle.ix_vbyte.specs.Texts.{counted}
 use Rattle.ix_file.specs.declared.open.documents.Row.{Row}
-
--- what DOCS has of a document
-abbrev pub row_bytes : DocumentRow → List ℕ
-row_bytes row = counted row.name ++ code_of row.tokens
 
 -- the row that an entry of the table stands for, in this section
 abbrev pub row_in : List ℕ → Row → DocumentRow

@@ -5,7 +5,7 @@ use Rattle.ix_vbyte.specs.Code.{code_of}
 use Rattle.ix_vbyte.specs.Gaps.{gaps_of}
 use Rattle.ix_vbyte.specs.Postings.{codes_of, list_bytes}
 use Rattle.ix_vbyte.specs.Texts.{counted}
-use Rattle.ix_text.specs.Parts.{DictionaryEntry, DocumentRow, GramEntry}
+use Rattle.ix_text.specs.Parts.{DictionaryEntry, DocumentRow, GramEntry, row_bytes}
 
 -- the two versions of the index text, which differ in the dictionary and in their marks
 pub data Version : Type 0 where
@@ -22,7 +22,7 @@ stop_section stop = flat_map counted stop
 
 -- DOCS: each document's name and the number of its tokens
 unfoldable pub documents_section : List DocumentRow → List ℕ
-documents_section rows = flat_map (λ row. counted row.name ++ code_of row.tokens) rows
+documents_section rows = flat_map (row_bytes code_of) rows
 
 -- behind a term: the number of its documents, and of the bytes of its list
 abbrev pub entry_counts : DictionaryEntry → List ℕ

@@ -8,11 +8,12 @@ use Rattle.std.specs.Int.{to_le_bytes, w32}
 use Rattle.std.specs.Io.KnownBytes.{Consumes}
 use Rattle.std.specs.List.{flat_map, sum_by}
 use Rattle.std.specs.Prelude.{codes}
+use Rattle.ix_vbyte.specs.Code.{code_of}
 use Rattle.ix_text.specs.Collections.{IsName}
-use Rattle.ix_text.specs.Parts.{DocumentRow}
+use Rattle.ix_text.specs.Parts.{DocumentRow, row_bytes}
 use Rattle.ix_run.specs.Heads.{Heading}
 use Rattle.ix_run.specs.Pieces.{EachFits, RowFits}
-use Rattle.ix_run.specs.RunText.{heading_bytes, head_bytes, stop_bytes, row_bytes}
+use Rattle.ix_run.specs.RunText.{heading_bytes, head_bytes, stop_bytes}
 
 -- ---- rows that fit one another
 
@@ -53,16 +54,16 @@ few_from_fits rows fits = subst (λ (xs : List DocumentRow). sum_by tokens_of xs
 
 -- what stands behind the magic, behind the first number, behind the second, and behind the stop terms
 abbrev pub after_magic : Heading → List ℕ → List ℕ
-after_magic heading rest = to_le_bytes w32 heading.first ++ (to_le_bytes w32 (length heading.rows) ++ (stop_bytes heading.stop ++ (flat_map row_bytes heading.rows ++ rest)))
+after_magic heading rest = to_le_bytes w32 heading.first ++ (to_le_bytes w32 (length heading.rows) ++ (stop_bytes heading.stop ++ (flat_map (row_bytes code_of) heading.rows ++ rest)))
 
 abbrev pub after_first : Heading → List ℕ → List ℕ
-after_first heading rest = to_le_bytes w32 (length heading.rows) ++ (stop_bytes heading.stop ++ (flat_map row_bytes heading.rows ++ rest))
+after_first heading rest = to_le_bytes w32 (length heading.rows) ++ (stop_bytes heading.stop ++ (flat_map (row_bytes code_of) heading.rows ++ rest))
 
 abbrev pub after_numbers : Heading → List ℕ → List ℕ
-after_numbers heading rest = stop_bytes heading.stop ++ (flat_map row_bytes heading.rows ++ rest)
+after_numbers heading rest = stop_bytes heading.stop ++ (flat_map (row_bytes code_of) heading.rows ++ rest)
 
 abbrev pub after_stop : Heading → List ℕ → List ℕ
-after_stop heading rest = flat_map row_bytes heading.rows ++ rest
+after_stop heading rest = flat_map (row_bytes code_of) heading.rows ++ rest
 
 head_parts : (heading : Heading) (rest : List ℕ) → heading_bytes heading ++ rest ≡ codes "PIIXRUN1" ++ after_magic heading rest
 unfolding head_bytes
@@ -72,10 +73,10 @@ pub known_parts : (a : Option (List ℕ)) (heading : Heading) (rest : List ℕ) 
 known_parts a heading rest e = e ∙ ap (λ (bytes : List ℕ). Some bytes) (head_parts heading rest)
 
 pub head_taken : (a b c d e f : Option (List ℕ)) (heading : Heading) → Consumes a b (codes "PIIXRUN1") → Consumes b c (to_le_bytes w32 heading.first) → Consumes c d (to_le_bytes w32 (length heading.rows))
-    → Consumes d e (stop_bytes heading.stop) → Consumes e f (flat_map row_bytes heading.rows) → Consumes a f (heading_bytes heading)
+    → Consumes d e (stop_bytes heading.stop) → Consumes e f (flat_map (row_bytes code_of) heading.rows) → Consumes a f (heading_bytes heading)
 head_taken a b c d e f heading one two three four five =
     let stop = stop_bytes heading.stop in
-    let rows = flat_map row_bytes heading.rows in
+    let rows = flat_map (row_bytes code_of) heading.rows in
     let count = to_le_bytes w32 (length heading.rows) in
     let first = to_le_bytes w32 heading.first in
     let whole = Consumes-trans a b f (codes "PIIXRUN1") (first ++ (count ++ (stop ++ rows))) one

@@ -1,13 +1,12 @@
 -- A document's row at the front of what is left.
 use Rattle.std.proofs.Common.{◌≡◌, ℕ, ◌^◌, ◌<◌, ◌≤◌, List, ◌++◌, Option, Some, IfSome, ap, ap₂, ◌∙◌, arith, append_assoc}
 use Rattle.ix_text.specs.Collections.{IsName}
-use Rattle.ix_text.specs.Parts.{DocumentRow}
+use Rattle.ix_text.specs.Parts.{DocumentRow, row_bytes}
 use Rattle.ix_text.specs.Terms.{IsTerm}
 use Rattle.ix_vbyte.specs.Code.{code_of}
 use Rattle.ix_vbyte.specs.Texts.{counted}
 use Rattle.ix_vbyte.proofs.Values.{length-code_of}
 use Rattle.ix_run.specs.CodeFaults.{IsCodeFault}
-use Rattle.ix_run.specs.RunText.{row_bytes}
 use Rattle.ix_run.specs.RunTextErrors.{IsRefusal}
 use Rattle.ix_run.specs.declared.run_text_error.RunTextError.{RunTextError}
 use Rattle.ix_run.proofs.SpelledLemmas.{code_refused}
@@ -16,7 +15,7 @@ pub term_from_name : (name : List ℕ) → IsName name → IsTerm name
 term_from_name name is = record { text = is.characters; some_byte = is.some_byte; short = is.short }
 
 -- the name stands first, and the code of the tokens behind it
-pub row_parts : (a : Option (List ℕ)) (row : DocumentRow) (rest : List ℕ) → a ≡ Some (row_bytes row ++ rest) → a ≡ Some (counted row.name ++ (code_of row.tokens ++ rest))
+pub row_parts : (a : Option (List ℕ)) (row : DocumentRow) (rest : List ℕ) → a ≡ Some (row_bytes code_of row ++ rest) → a ≡ Some (counted row.name ++ (code_of row.tokens ++ rest))
 row_parts a row rest e = e ∙ ap (λ (bytes : List ℕ). Some bytes) (append_assoc (counted row.name) (code_of row.tokens) rest)
 
 -- the code of the tokens is refused for want of a read alone

@@ -4,7 +4,7 @@ use Rattle.std.proofs.lemmas.List.{append_assoc, append-nil, append_cancel_left}
 use Rattle.std.proofs.lemmas.Nat.{from_le_bytes-to_le_bytes_4}
 use Rattle.std.specs.Int.{from_le_bytes, to_le_bytes, w32}
 use Rattle.ix_text.specs.Collections.{Collection}
-use Rattle.ix_text.specs.Parts.{Parts, DictionaryEntry, DocumentRow, ArePartsOf}
+use Rattle.ix_text.specs.Parts.{Parts, DictionaryEntry, DocumentRow, ArePartsOf, row_bytes}
 use Rattle.ix_text.specs.PartsLaws.{AreLawful}
 use Rattle.ix_text.proofs.PartsLawful.{lawful_parts, postings_below}
 use Rattle.ix_text.proofs.PartsLemmas.{same_collection, same_entry_fields, same_parts_fields, same_row_fields}
@@ -16,11 +16,11 @@ use Rattle.ix_vbyte.proofs.Postings.{list_apart}
 use Rattle.ix_vbyte.proofs.Sizes.{postings_from}
 use Rattle.ix_vbyte.proofs.Texts.{counted-apart, counted_number-apart, counted_texts_apart}
 use Rattle.ix_vbyte.proofs.Values.{code_of-apart}
-use Rattle.ix_run.specs.RunText.{IsRunText, row_bytes, term_bytes, head_bytes, run_layout}
+use Rattle.ix_run.specs.RunText.{IsRunText, term_bytes, head_bytes, run_layout}
 
 -- ---- rows and terms
 
-row_apart : (one other : DocumentRow) (xs ys : List ℕ) → row_bytes one ++ xs ≡ row_bytes other ++ ys → (one ≡ other) × (xs ≡ ys)
+row_apart : (one other : DocumentRow) (xs ys : List ℕ) → row_bytes code_of one ++ xs ≡ row_bytes code_of other ++ ys → (one ≡ other) × (xs ≡ ys)
 row_apart one other xs ys e =
     let r = counted_number-apart one.name other.name one.tokens other.tokens xs ys e in
     (same_row_fields one other r.0 r.1, r.2)
@@ -79,10 +79,10 @@ four_apart m n xs ys few small e =
     (sym (from_le_bytes-to_le_bytes_4 m (omega arith)) ∙ ap (from_le_bytes w32) r.0 ∙ from_le_bytes-to_le_bytes_4 n (omega arith), r.1)
 
 -- the layout with the first piece in front of all the others
-spread : (first : ℕ) (parts : Parts) (xs : List ℕ) → run_layout first parts ++ xs ≡ codes "PIIXRUN1" ++ (to_le_bytes w32 first ++ (to_le_bytes w32 (length parts.rows) ++ (code_of (length parts.stop) ++ (flat_map counted parts.stop ++ (flat_map row_bytes parts.rows ++ (flat_map term_bytes parts.entries ++ 128 ∷ xs))))))
+spread : (first : ℕ) (parts : Parts) (xs : List ℕ) → run_layout first parts ++ xs ≡ codes "PIIXRUN1" ++ (to_le_bytes w32 first ++ (to_le_bytes w32 (length parts.rows) ++ (code_of (length parts.stop) ++ (flat_map counted parts.stop ++ (flat_map (row_bytes code_of) parts.rows ++ (flat_map term_bytes parts.entries ++ 128 ∷ xs))))))
 unfolding run_layout head_bytes
 spread first parts xs =
-    regroup (codes "PIIXRUN1") (to_le_bytes w32 first) (to_le_bytes w32 (length parts.rows)) (code_of (length parts.stop)) (flat_map counted parts.stop) (flat_map row_bytes parts.rows) (flat_map term_bytes parts.entries) (128 ∷ []) xs
+    regroup (codes "PIIXRUN1") (to_le_bytes w32 first) (to_le_bytes w32 (length parts.rows)) (code_of (length parts.stop)) (flat_map counted parts.stop) (flat_map (row_bytes code_of) parts.rows) (flat_map term_bytes parts.entries) (128 ∷ []) xs
   where
     regroup : (a b c d e f g h i : List ℕ) → a ++ b ++ c ++ d ++ e ++ f ++ g ++ h ++ i ≡ a ++ (b ++ (c ++ (d ++ (e ++ (f ++ (g ++ (h ++ i)))))))
     regroup a b c d e f g h i = simp append_assoc
@@ -100,7 +100,7 @@ layout_apart first start one other xs ys is also e =
     let row_counts = four_apart (length one.rows) (length other.rows) _ _ is.few also.few firsts.1 in
     let stop_counts = code_of-apart (length one.stop) (length other.stop) _ _ row_counts.1 in
     let stops = counted_texts_apart one.stop other.stop _ _ stop_counts.0 stop_counts.1 in
-    let rows = pieces_apart (λ (row : DocumentRow). Unit {0}) row_bytes (λ row more us vs _ _ same. row_apart row more us vs same) one.rows other.rows _ _ (λ k d h. tt) (λ k d h. tt) row_counts.0 stops.1 in
+    let rows = pieces_apart (λ (row : DocumentRow). Unit {0}) (row_bytes code_of) (λ row more us vs _ _ same. row_apart row more us vs same) one.rows other.rows _ _ (λ k d h. tt) (λ k d h. tt) row_counts.0 stops.1 in
     let entries = pieces_before_end IsTold term_bytes Ends term_apart term_goes_on one.entries other.entries (128 ∷ xs) (128 ∷ ys) is.terms also.terms (end_mark xs) (end_mark ys) rows.1 in
     record { firsts = firsts.0; parts = same_parts_fields one other stops.0 rows.0 entries.0; rests = cc (entries.1) }
 

@@ -2,15 +2,11 @@
 use Rattle.std.specs.Prelude.{◌≡◌, ℕ, ◌+◌, ◌^◌, ◌≤◌, List, [], ◌∷◌, ◌++◌, length, flat_map, codes}
 use Rattle.std.specs.Int.{to_le_bytes, w32}
 use Rattle.ix_text.specs.Collections.{Collection, IsLawful}
-use Rattle.ix_text.specs.Parts.{Parts, DictionaryEntry, DocumentRow, ArePartsOf}
+use Rattle.ix_text.specs.Parts.{Parts, DictionaryEntry, ArePartsOf, row_bytes}
 use Rattle.ix_run.specs.Heads.{Heading, parts_with}
 use Rattle.ix_vbyte.specs.Code.{code_of}
 use Rattle.ix_vbyte.specs.Postings.{list_bytes}
 use Rattle.ix_vbyte.specs.Texts.{counted}
-
--- a document: its name and the number of its tokens
-abbrev pub row_bytes : DocumentRow → List ℕ
-row_bytes row = counted row.name ++ code_of row.tokens
 
 -- a term: the number of its documents and of the bytes of its list, and the list; documents counted from 0 within the run
 abbrev pub term_bytes : DictionaryEntry → List ℕ
@@ -29,7 +25,7 @@ head_bytes first parts =
     ++ to_le_bytes w32 (length parts.rows)
     ++ code_of (length parts.stop)
     ++ flat_map counted parts.stop
-    ++ flat_map row_bytes parts.rows
+    ++ flat_map (row_bytes code_of) parts.rows
 
 -- the front of a run that has this heading
 abbrev pub heading_bytes : Heading → List ℕ

@@ -2,13 +2,12 @@
 use Rattle.std.specs.Prelude.{◌≡◌, ℕ, ◌+◌, ◌-◌, ◌^◌, ◌≤◌, ◌<◌, ◌⊎◌, List, [], ◌∷◌, ◌++◌, map, length, flat_map, codes}
 use Rattle.std.specs.Int.{to_le_bytes, w32}
 use Rattle.ix_text.specs.Collections.{Collection, IsLawful, token_total}
-use Rattle.ix_text.specs.Parts.{Parts, DictionaryEntry, DocumentRow, Posting, ArePartsOf}
+use Rattle.ix_text.specs.Parts.{Parts, DictionaryEntry, DocumentRow, Posting, ArePartsOf, row_bytes}
 use Rattle.ix_vbyte.specs.Code.{code_of}
 use Rattle.ix_vbyte.specs.Gaps.{next_after}
 use Rattle.ix_vbyte.specs.Postings.{documents_of, list_bytes}
 use Rattle.ix_vbyte.specs.Texts.{counted}
 use Rattle.ix_run.specs.Heads.{row_of_doc}
-use Rattle.ix_run.specs.RunText.{row_bytes}
 use Rattle.ix_run.specs.declared.head.RunHead.{RunHead}
 use Rattle.ix_run.specs.declared.coded_terms.CodedTerm.{CodedTerm}
 
@@ -66,7 +65,7 @@ value_bytes value = counted value.term ++ code_of value.documents ++ counted val
 abbrev pub front_bytes : RunValue → List ℕ
 front_bytes run =
     codes "PIIXRUN1" ++ to_le_bytes w32 run.first ++ to_le_bytes w32 (length run.rows) ++ code_of (length run.stop)
-    ++ flat_map counted run.stop ++ flat_map row_bytes run.rows
+    ++ flat_map counted run.stop ++ flat_map (row_bytes code_of) run.rows
 
 -- the run text of a run
 unfoldable pub run_bytes : RunValue → List ℕ

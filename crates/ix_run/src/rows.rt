@@ -1,12 +1,12 @@
 //! Reading the documents of a run text.
 ghost use Rattle.std.specs.Prelude.{◌≡◌, ◌≤◌, ◌+◌, ◌^◌, ◌↔◌, ◌++◌, List, ℕ, length, flat_map, map, string_bytes, All, Some, IsTrue, IfOk, IfErr, MatchResult};
 ghost use Rattle.std.specs.Io.KnownBytes.{Consumes};
+ghost use Rattle.ix_vbyte.specs.Code.{code_of};
 ghost use Rattle.ix_text.specs.Collections.{IsName, IsNameByte};
-ghost use Rattle.ix_text.specs.Parts.{DocumentRow};
+ghost use Rattle.ix_text.specs.Parts.{DocumentRow, row_bytes};
 ghost use Rattle.ix_run.specs.Heads.{row_of_doc};
 ghost use Rattle.ix_run.specs.Inputs.{known_left};
 ghost use Rattle.ix_run.specs.Pieces.{ArePiecesRead, EachFits, RowFits};
-ghost use Rattle.ix_run.specs.RunText.{row_bytes};
 ghost use Rattle.ix_run.specs.RunTextErrors.{IsRefusal};
 
 use crate::heading::{CODE_LIMIT, read_counted_text};
@@ -23,12 +23,12 @@ pub(crate) fn read_rows<R: Read>(
     count: u32,
 ) -> Result<Vec<RunDoc>, RunTextError>
     ensures read { IfOk result (λ docs.
-        ArePiecesRead row_bytes RowFits (known_left R.remaining input.old)
+        ArePiecesRead (row_bytes code_of) RowFits (known_left R.remaining input.old)
         (known_left R.remaining input.new) (map row_of_doc docs.items) count) }
     ensures all { IfOk result (λ docs. length docs.items ≡ count) }
     ensures refused { IfErr result (λ error. (rows : List DocumentRow) (rest : List ℕ)
         → length rows ≡ count → EachFits RowFits rows
-        → known_left R.remaining input.old ≡ Some (flat_map row_bytes rows ++ rest)
+        → known_left R.remaining input.old ≡ Some (flat_map (row_bytes code_of) rows ++ rest)
         → IsRefusal error) }
 {
     let mut docs = Vec::new(alloc);
@@ -52,12 +52,12 @@ fn read_row<R: Read>(
     requires { before ≤ 2 ^ 28 }
     ensures taken { IfOk result (λ doc.
         Consumes (known_left R.remaining input.old) (known_left R.remaining input.new)
-        (row_bytes (row_of_doc doc))) }
+        (row_bytes code_of (row_of_doc doc))) }
     ensures name { IfOk result (λ doc. IsName (string_bytes doc.name)) }
     ensures few { IfOk result (λ doc. before + doc.tokens ≤ 2 ^ 28) }
     ensures accepted { (row : DocumentRow) (rest : List ℕ) → IsName row.name
         → before + row.tokens ≤ 2 ^ 28
-        → known_left R.remaining input.old ≡ Some (row_bytes row ++ rest)
+        → known_left R.remaining input.old ≡ Some (row_bytes code_of row ++ rest)
         → MatchResult result (λ doc. (row_of_doc doc ≡ row)
         × (known_left R.remaining input.new ≡ Some rest)) IsRefusal }
 {

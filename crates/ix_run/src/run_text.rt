@@ -2,9 +2,9 @@
 
 ghost use Rattle.std.specs.Prelude.{◌≡◌, ◌^◌, ◌<◌, ◌++◌, ◌∷◌, [], All, map, length, flat_map, codes, string_bytes};
 ghost use Rattle.std.specs.Int.{to_le_bytes, w32};
+ghost use Rattle.ix_text.specs.Parts.{row_bytes};
 ghost use Rattle.ix_vbyte.specs.Code.{code_of};
 ghost use Rattle.ix_vbyte.specs.Texts.{counted};
-ghost use Rattle.ix_run.specs.RunText.{row_bytes};
 ghost use Rattle.ix_run.specs.Heads.{row_of_doc};
 ghost use Rattle.ix_run.specs.Runs.{IsShort, front_bytes, head_value, run_bytes, term_shown, value_bytes};
 ghost use Rattle.ix_run.specs.Writing.{Writes};
@@ -42,7 +42,7 @@ fn put_counted<W: Write>(out: &mut W, text: &[u8]) -> Result<(), WriteRefused>
 fn put_row<W: Write>(out: &mut W, doc: &RunDoc) -> Result<(), WriteRefused>
     requires { IsShort (string_bytes doc.now.name) }
     ensures { Writes result (W.contents out.old) (W.contents out.new)
-        (row_bytes (row_of_doc doc.now)) }
+        (row_bytes code_of (row_of_doc doc.now)) }
 {
     put_counted(out, doc.name.as_bytes())?;
     put_code(out, doc.tokens)
@@ -52,7 +52,7 @@ fn put_row<W: Write>(out: &mut W, doc: &RunDoc) -> Result<(), WriteRefused>
 fn put_rows<W: Write>(out: &mut W, docs: &[RunDoc]) -> Result<(), WriteRefused>
     requires { All (λ doc. IsShort (string_bytes doc.name)) docs.now }
     ensures { Writes result (W.contents out.old) (W.contents out.new)
-        (flat_map row_bytes (map row_of_doc docs.now)) }
+        (flat_map (row_bytes code_of) (map row_of_doc docs.now)) }
 {
     for doc in docs {
         put_row(out, doc)?;

@@ -1,5 +1,5 @@
 -- What the parts of an index or of a run say of a collection (IIR 1.2, 2.4.2, 3.2.2), without a byte of a format.
-use Rattle.std.specs.Prelude.{◌≡◌, ℕ, ◌<◌, ◌↔◌, List, map, length, All, Contains}
+use Rattle.std.specs.Prelude.{◌≡◌, ℕ, ◌<◌, ◌↔◌, List, ◌++◌, map, length, All, Contains}
 use Rattle.std.specs.List.Sorted.{IsStrictlyIncreasing}
 use Rattle.ix_text.specs.ByteOrder.{IsAscending}
 use Rattle.ix_text.specs.Collections.{Collection, Document, IsVocabulary, HasPosting, HasGram}
@@ -17,6 +17,10 @@ pub record DictionaryEntry : Type 0 where
 pub record DocumentRow : Type 0 where
   pub name : List ℕ
   pub tokens : ℕ
+
+-- a row as formats have it, numbers coded so: the name behind the number of its bytes, and the number of the tokens
+abbrev pub row_bytes : (ℕ → List ℕ) → DocumentRow → List ℕ
+row_bytes code row = (code (length row.name) ++ row.name) ++ code row.tokens
 
 -- the stop terms, the rows of the documents, and the dictionary
 pub record Parts : Type 0 where

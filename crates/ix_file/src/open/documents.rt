@@ -1,9 +1,10 @@
 //! The documents of an index text.
 ghost use Rattle.std.specs.Prelude.{◌≡◌, ◌≢◌, ◌⊎◌, ◌↔◌, ℕ, ◌+◌, ◌^◌, ◌<◌, ◌≤◌, ◌++◌, List, length, IsTrue, All, IfOk, IfErr, OnErr};
+ghost use Rattle.ix_vbyte.specs.Code.{code_of};
 ghost use Rattle.ix_vbyte.specs.Texts.{counted};
 ghost use Rattle.ix_text.specs.Collections.{IsName, IsNameByte};
-ghost use Rattle.ix_text.specs.Parts.{DocumentRow};
-ghost use Rattle.ix_file.specs.OpenedRows.{AreRows, IsNameRow, row_bytes, row_in, rows_in};
+ghost use Rattle.ix_text.specs.Parts.{DocumentRow, row_bytes};
+ghost use Rattle.ix_file.specs.OpenedRows.{AreRows, IsNameRow, row_in, rows_in};
 ghost use Rattle.ix_file.specs.Sections.{documents_section};
 ghost use Rattle.ix_file.specs.declared.open_error.OpenError.TheVariants.{Memory};
 
@@ -63,10 +64,10 @@ fn read_row<'a>(section: &[u8], left: &'a [u8]) -> Result<(Row, &'a [u8]), OpenE
     requires { (before : List ℕ) × (section.now ≡ before ++ left.now) }
     ensures name { IfOk result (λ read. IsName (row_in section.now read.0).name) }
     ensures placed { IfOk result (λ read. IsNameRow section.now read.0) }
-    ensures found { IfOk result (λ read. left.now ≡ row_bytes (row_in section.now read.0)
+    ensures found { IfOk result (λ read. left.now ≡ row_bytes code_of (row_in section.now read.0)
         ++ read.1.now) }
     ensures refused { OnErr result ((row : DocumentRow) (rest : List ℕ) → IsName row.name →
-        row.tokens < 2 ^ 32 → left.now ≢ row_bytes row ++ rest) }
+        row.tokens < 2 ^ 32 → left.now ≢ row_bytes code_of row ++ rest) }
 {
     let (name, behind) = read_name(left)?;
     let (tokens, rest) = read_number(Section::Documents, behind)?;

@@ -4,10 +4,11 @@ use Rattle.std.proofs.lemmas.List.{length-map}
 use Rattle.std.proofs.lemmas.Result.{err_from_is_err_and}
 use Rattle.std.specs.Int.{to_le_bytes, w32}
 use Rattle.std.specs.Io.KnownBytes.{Consumes}
+use Rattle.ix_text.specs.Parts.{row_bytes}
+use Rattle.ix_vbyte.specs.Code.{code_of}
 use Rattle.ix_run.specs.Heads.{Heading, IsLawfulHeading, row_of_doc}
 use Rattle.ix_run.specs.Inputs.{known_left}
 use Rattle.ix_run.specs.Pieces.{RowFits}
-use Rattle.ix_run.specs.RunText.{row_bytes}
 use Rattle.ix_run.proofs.HeadLemmas.{after_magic, after_first, after_numbers, after_stop, known_parts, head_taken, same_heading, fits_from_rows, names_from_fits, few_from_fits}
 use Rattle.ix_run.proofs.PieceLemmas.{pieces_all}
 use Rattle.ix_run.proofs.heading.read_head.Goals as goal
@@ -92,6 +93,6 @@ returns-clause-accepted g c heading rest lawful e =
     let four = c.in_ok-stop.ensures.accepted heading.stop (after_stop heading rest) lawful.stop three.1 in
     let rows = map row_of_doc c.in_ok-docs.docs.items in
     let full : length rows ≡ c.in_ok-count.count = omega (arith, length-map c.in_ok-docs.docs.items row_of_doc, c.in_ok-docs.ensures.all) in
-    let five = pieces_all row_bytes RowFits (known_left g.R.Read.remaining c.read_stop_list.new.input) (known_left g.R.Read.remaining c.read_rows.new.input) rows c.in_ok-count.count c.in_ok-docs.ensures.read full
+    let five = pieces_all (row_bytes code_of) RowFits (known_left g.R.Read.remaining c.read_stop_list.new.input) (known_left g.R.Read.remaining c.read_rows.new.input) rows c.in_ok-count.count c.in_ok-docs.ensures.read full
     heading.rows rest (sym three.0) (fits_from_rows heading.rows lawful.names lawful.few_tokens) four.1 in
     (same_heading c.in_ok-first.first c.in_ok-stop.stop rows heading two.0 four.0 five.0, five.1)

@@ -2,10 +2,10 @@ use Rattle.std.proofs.Common.{◌≡◌, codes, ◌++◌, flat_map, length, map,
 use Rattle.std.proofs.lemmas.List.{length-map}
 use Rattle.std.proofs.lemmas.List.Elements.{All-weaker}
 use Rattle.std.specs.Int.{to_le_bytes, w32}
+use Rattle.ix_text.specs.Parts.{row_bytes}
 use Rattle.ix_text.specs.Terms.{IsTerm}
 use Rattle.ix_vbyte.specs.Code.{code_of}
 use Rattle.ix_vbyte.specs.Texts.{counted}
-use Rattle.ix_run.specs.RunText.{row_bytes}
 use Rattle.ix_run.specs.Heads.{row_of_doc}
 use Rattle.ix_run.specs.Runs.{IsShort}
 use Rattle.ix_text.proofs.SinkLemmas.{appends_then}
@@ -22,7 +22,7 @@ returns-in_err-put_numbers g c =
     let numbers = codes "PIIXRUN1" ++ to_le_bytes w32 c.args.head.now.first ++ to_le_bytes w32 (length (map row_of_doc c.args.head.now.docs.items)) in
     let count = code_of (length c.args.head.now.stop) in
     let stop = flat_map counted c.args.head.now.stop in
-    let rows = flat_map row_bytes (map row_of_doc c.args.head.now.docs.items) in
+    let rows = flat_map (row_bytes code_of) (map row_of_doc c.args.head.now.docs.items) in
     let size : length c.as_slice-docs.result.now ≡ length (map row_of_doc c.args.head.now.docs.items) = ap length c.as_slice-docs.ensures.value ∙ sym (length-map c.args.head.now.docs.items row_of_doc) in
     writes_refused _ _ _ _ c.from_residual.ensures.0
     (front_more _ _ (numbers ++ count ++ stop) rows (front_more _ _ (numbers ++ count) stop (front_more _ _ numbers count (rw size at c.in_err-put_numbers.ensures))))
@@ -32,7 +32,7 @@ returns-in_err-put_code g c =
     let numbers = codes "PIIXRUN1" ++ to_le_bytes w32 c.args.head.now.first ++ to_le_bytes w32 (length (map row_of_doc c.args.head.now.docs.items)) in
     let count = code_of (length c.args.head.now.stop) in
     let stop = flat_map counted c.args.head.now.stop in
-    let rows = flat_map row_bytes (map row_of_doc c.args.head.now.docs.items) in
+    let rows = flat_map (row_bytes code_of) (map row_of_doc c.args.head.now.docs.items) in
     let size : length c.as_slice-docs.result.now ≡ length (map row_of_doc c.args.head.now.docs.items) = ap length c.as_slice-docs.ensures.value ∙ sym (length-map c.args.head.now.docs.items row_of_doc) in
     let counts : length c.terms-stop.result.now ≡ length c.args.head.now.stop = sym (length-map c.terms-stop.result.now string_bytes) ∙ ap length c.terms-stop.ensures.value in
     writes_refused _ _ _ _ c.from_residual-in_err-put_code.ensures.0
@@ -43,7 +43,7 @@ returns-in_err-put_texts g c =
     let numbers = codes "PIIXRUN1" ++ to_le_bytes w32 c.args.head.now.first ++ to_le_bytes w32 (length (map row_of_doc c.args.head.now.docs.items)) in
     let count = code_of (length c.args.head.now.stop) in
     let stop = flat_map counted c.args.head.now.stop in
-    let rows = flat_map row_bytes (map row_of_doc c.args.head.now.docs.items) in
+    let rows = flat_map (row_bytes code_of) (map row_of_doc c.args.head.now.docs.items) in
     let size : length c.as_slice-docs.result.now ≡ length (map row_of_doc c.args.head.now.docs.items) = ap length c.as_slice-docs.ensures.value ∙ sym (length-map c.args.head.now.docs.items row_of_doc) in
     let counts : length c.terms-stop.result.now ≡ length c.args.head.now.stop = sym (length-map c.terms-stop.result.now string_bytes) ∙ ap length c.terms-stop.ensures.value in
     writes_refused _ _ _ _ c.from_residual-in_err-put_texts.ensures.0
@@ -55,7 +55,7 @@ returns g c =
     let numbers = codes "PIIXRUN1" ++ to_le_bytes w32 c.args.head.now.first ++ to_le_bytes w32 (length (map row_of_doc c.args.head.now.docs.items)) in
     let count = code_of (length c.args.head.now.stop) in
     let stop = flat_map counted c.args.head.now.stop in
-    let rows = flat_map row_bytes (map row_of_doc c.args.head.now.docs.items) in
+    let rows = flat_map (row_bytes code_of) (map row_of_doc c.args.head.now.docs.items) in
     let size : length c.as_slice-docs.result.now ≡ length (map row_of_doc c.args.head.now.docs.items) = ap length c.as_slice-docs.ensures.value ∙ sym (length-map c.args.head.now.docs.items row_of_doc) in
     let counts : length c.terms-stop.result.now ≡ length c.args.head.now.stop = sym (length-map c.terms-stop.result.now string_bytes) ∙ ap length c.terms-stop.ensures.value in
     writes_then c.put_rows.result _ _ _ (numbers ++ count ++ stop) rows
