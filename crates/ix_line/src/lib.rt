@@ -15,6 +15,7 @@ pub use help::{
     HELP, HELP_ON_ASK, HELP_ON_BUILD, HELP_ON_LIVE, HELP_ON_MERGE, HELP_ON_RUN, HELP_ON_SEARCH,
     HELP_ON_TERMS, HELP_ON_UPGRADE, help_on, with_help_as_flag,
 };
+pub use ix_build::Plan;
 pub use line::{Line, read_line};
 pub use searchers::Searchers;
 pub use worked::worked_lines;
