@@ -18,3 +18,7 @@ pub use Rattle.ix_run_text.specs.RunReaders
 pub use Rattle.ix_run_text.specs.RunText
 pub use Rattle.ix_run_text.specs.RunTextErrors
 pub use Rattle.ix_run_text.specs.Sources
+pub use Rattle.ix_run_text.specs.declared.head.RunHead
+pub use Rattle.ix_run_text.specs.declared.listed.ListError
+pub use Rattle.ix_run_text.specs.declared.run_reader.RunReader
+pub use Rattle.ix_run_text.specs.declared.run_text_error.RunTextError
