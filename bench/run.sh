@@ -5,7 +5,7 @@
 . "$(dirname "$0")/prelude.sh"
 needs rt python3
 
-copy_crates ix_text ix_vbyte ix_run
+copy_crates ix_text ix_vbyte ix_run_text ix_run
 add_program run ix_run ix_text anyhow
 build run_bench
 

@@ -14,9 +14,9 @@ use Rattle.ix_run.specs.RunReaders.{heading_read}
 use Rattle.ix_run.specs.RunText.{IsRunText, heading_bytes, run_layout}
 use Rattle.ix_run.specs.RunTextErrors.{IsRefusal}
 use Rattle.ix_run.specs.Sources.{AreWhole, IsUnread}
-use Rattle.ix_run.specs.declared.run_reader.RunReader.{RunReader}
-use Rattle.ix_run.specs.declared.run_text_error.RunTextError.{RunTextError}
-use Rattle.ix_run.specs.declared.run_text_error.RunTextError.TheVariants as run_text_error
+use Rattle.ix_run.specs.RunReader.{RunReader}
+use Rattle.ix_run.specs.RunTextError.{RunTextError}
+use Rattle.ix_run.specs.RunTextError.TheVariants as run_text_error
 use Rattle.ix_merge.specs.Pieces.{ArePiecesOf, MayYieldPiece, Piece, WritesConcatenation}
 use Rattle.ix_ask.specs.Merging.{AreBegun, AreReading, AreRunTexts, BeginsRun, IsMergeOf, IsReading, RefusesHead, left_in, texts_behind}
 

@@ -14,8 +14,8 @@ use Rattle.ix_run.specs.RunReaders.{heading_read}
 use Rattle.ix_run.specs.RunSources.{heading_shown}
 use Rattle.ix_run.specs.RunText.{IsRunText, run_layout}
 use Rattle.ix_run.specs.Runs.{RunValue}
-use Rattle.ix_run.specs.declared.head.RunHead.{RunHead}
-use Rattle.ix_run.specs.declared.run_reader.RunReader.{RunReader}
+use Rattle.ix_run.specs.RunHead.{RunHead}
+use Rattle.ix_run.specs.RunReader.{RunReader}
 use Rattle.ix_run.proofs.RunTold.{run_told}
 use Rattle.ix_merge.specs.Pieces.{IsConcatenation, LeavesFront, MayYieldPiece, Piece, heading_of_piece}
 use Rattle.ix_merge.specs.Refusals.{IsRefusal}

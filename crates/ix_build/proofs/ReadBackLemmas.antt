@@ -10,10 +10,10 @@ use Rattle.ix_run.specs.Heads.{Heading, heading_of}
 use Rattle.ix_run.specs.Reading.{HasRead}
 use Rattle.ix_run.specs.RunReaders.{heading_read}
 use Rattle.ix_run.specs.Sources.{IsUnread}
-use Rattle.ix_run.specs.declared.head.RunHead.{RunHead}
-use Rattle.ix_run.specs.declared.run_reader.RunReader.{RunReader}
-use Rattle.ix_run.specs.declared.run_text_error.RunTextError.{RunTextError}
-use Rattle.ix_run.specs.declared.run_text_error.RunTextError.TheVariants as text
+use Rattle.ix_run.specs.RunHead.{RunHead}
+use Rattle.ix_run.specs.RunReader.{RunReader}
+use Rattle.ix_run.specs.RunTextError.{RunTextError}
+use Rattle.ix_run.specs.RunTextError.TheVariants as text
 use Rattle.ix_merge.specs.Refusals.{IsRefusal}
 use Rattle.ix_merge.specs.declared.merge_error.MergeError.{MergeError}
 use Rattle.ix_merge.specs.declared.merge_error.MergeError.TheVariants as merge

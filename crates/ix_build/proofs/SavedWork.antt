@@ -8,7 +8,7 @@ use Rattle.std.proofs.lemmas.List.Concat.{flat_map-cons}
 use Rattle.std.proofs.lemmas.Option.{none-some, same_Some}
 use Rattle.ix_board.proofs.Closings.{got-All}
 use Rattle.ix_text.specs.Collections.{NamedText}
-use Rattle.ix_run.specs.declared.head.RunHead.{RunHead}
+use Rattle.ix_run.specs.RunHead.{RunHead}
 use Rattle.ix_build.specs.declared.errors.MakeError.{MakeError}
 use Rattle.ix_build.specs.declared.errors.MakeError.TheVariants as make
 use Rattle.ix_build.specs.declared.maker.Asked.{Asked}

@@ -3,9 +3,9 @@ use Rattle.std.proofs.Common.{◌≡◌, ℕ, List, Option, Result, Ok, Err, IfE
 use Rattle.std.specs.Io.KnownBytes.{Keeps}
 use Rattle.ix_run.specs.Faults.{MayFault}
 use Rattle.ix_run.specs.Heads.{Heading}
-use Rattle.ix_run.specs.declared.run_reader.RunReader.{RunReader}
-use Rattle.ix_run.specs.declared.run_text_error.RunTextError.{RunTextError}
-use Rattle.ix_run.specs.declared.run_text_error.RunTextError.TheVariants as text
+use Rattle.ix_run.specs.RunReader.{RunReader}
+use Rattle.ix_run.specs.RunTextError.{RunTextError}
+use Rattle.ix_run.specs.RunTextError.TheVariants as text
 use Rattle.ix_merge.specs.Refusals.{MayFaultAt, TellsFault}
 use Rattle.ix_merge.specs.declared.merge_error.MergeError.{MergeError}
 use Rattle.ix_merge.specs.declared.merge_error.MergeError.TheVariants as merge

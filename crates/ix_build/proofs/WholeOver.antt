@@ -7,7 +7,7 @@ use Rattle.ix_text.specs.Sizes.{AreSmall}
 use Rattle.ix_text.proofs.SizeLemmas.{tokens_no_more_than_bytes}
 use Rattle.ix_merge.specs.Endings.{WritesIndexText}
 use Rattle.ix_run.specs.Heads.{heading_of}
-use Rattle.ix_run.specs.declared.head.RunHead.{RunHead}
+use Rattle.ix_run.specs.RunHead.{RunHead}
 use Rattle.ix_merge.specs.Pieces.{LeavesFront}
 use Rattle.ix_build.specs.AlikeFronts.{LeavesAlikeFront, WritesAlike}
 use Rattle.ix_build.specs.Blocks.{AreBounds, IsBlockPlace}

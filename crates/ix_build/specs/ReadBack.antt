@@ -8,9 +8,9 @@ use Rattle.ix_run.specs.Reading.{HasRead, MayYield}
 use Rattle.ix_run.specs.RunReaders.{heading_read}
 use Rattle.ix_run.specs.RunText.{run_layout}
 use Rattle.ix_run.specs.Sources.{IsUnread}
-use Rattle.ix_run.specs.declared.run_reader.RunReader.{RunReader}
-use Rattle.ix_run.specs.declared.run_text_error.RunTextError.{RunTextError}
-use Rattle.ix_run.specs.declared.run_text_error.RunTextError.TheVariants as text
+use Rattle.ix_run.specs.RunReader.{RunReader}
+use Rattle.ix_run.specs.RunTextError.{RunTextError}
+use Rattle.ix_run.specs.RunTextError.TheVariants as text
 use Rattle.ix_merge.specs.Pieces.{WritesConcatenation}
 use Rattle.ix_merge.specs.Refusals.{IsRefusal}
 use Rattle.ix_merge.specs.declared.merge_error.MergeError.{MergeError}

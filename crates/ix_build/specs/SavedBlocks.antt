@@ -1,7 +1,7 @@
 -- Blocks whose runs were saved, and why they were not.
 use Rattle.std.specs.Prelude.{◌≡◌, ℕ, ◌+◌, ◌<◌, List, length, Some, slice_get}
 use Rattle.ix_text.specs.Collections.{NamedText}
-use Rattle.ix_run.specs.declared.head.RunHead.{RunHead}
+use Rattle.ix_run.specs.RunHead.{RunHead}
 use Rattle.ix_build.specs.SavingMakers.{IsHeadOfBlock}
 use Rattle.ix_build.specs.Stores.{AreSavedInPart, IsLowestUnsaved, new_places}
 use Rattle.ix_build.specs.declared.build_error.BuildError.{BuildError}

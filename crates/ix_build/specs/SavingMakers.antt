@@ -6,7 +6,7 @@ use Rattle.ix_text.specs.Docs.{named_text}
 use Rattle.ix_run.specs.Heads.{heading_of}
 use Rattle.ix_run.specs.RunSources.{heading_shown}
 use Rattle.ix_run.specs.Runs.{RunValue}
-use Rattle.ix_run.specs.declared.head.RunHead.{RunHead}
+use Rattle.ix_run.specs.RunHead.{RunHead}
 use Rattle.ix_build.specs.BlockMakers.{IsMakerOf}
 use Rattle.ix_build.specs.BlockRuns.{IsRunOfBlock}
 use Rattle.ix_build.specs.Shares.{gained}

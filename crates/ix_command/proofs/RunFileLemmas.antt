@@ -9,9 +9,9 @@ use Rattle.ix_run.specs.RunReaders.{heading_read}
 use Rattle.ix_run.specs.RunText.{heading_bytes, head_bytes, run_layout}
 use Rattle.ix_run.specs.RunTextErrors.{IsRefusal}
 use Rattle.ix_run.specs.Sources.{AreWhole, IsUnread}
-use Rattle.ix_run.specs.declared.run_reader.RunReader.{RunReader}
-use Rattle.ix_run.specs.declared.run_text_error.RunTextError.{RunTextError}
-use Rattle.ix_run.specs.declared.run_text_error.RunTextError.TheVariants as run_text_error
+use Rattle.ix_run.specs.RunReader.{RunReader}
+use Rattle.ix_run.specs.RunTextError.{RunTextError}
+use Rattle.ix_run.specs.RunTextError.TheVariants as run_text_error
 use Rattle.ix_command.specs.MergeInputs.{IsOpened}
 use Rattle.ix_command.specs.MergedRuns.{LacksHead, RefusesHead}
 

@@ -12,8 +12,8 @@ use Rattle.ix_run.specs.RunSources.{heading_shown, unread}
 use Rattle.ix_run.specs.RunText.{run_layout}
 use Rattle.ix_run.specs.Runs.{run_value}
 use Rattle.ix_run.specs.Sources.{IsUnread}
-use Rattle.ix_run.specs.declared.run_reader.RunReader.{RunReader}
-use Rattle.ix_run.specs.declared.run_text_error.RunTextError.TheVariants.{TooLarge}
+use Rattle.ix_run.specs.RunReader.{RunReader}
+use Rattle.ix_run.specs.RunTextError.TheVariants.{TooLarge}
 use Rattle.ix_merge.specs.declared.any_source.AnySource.{AnySource}
 use Rattle.ix_merge.specs.declared.any_source.AnySource.TheVariants as source
 use Rattle.ix_merge.specs.declared.merge_error.MergeError.TheVariants as merge_error

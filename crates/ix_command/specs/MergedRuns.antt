@@ -7,8 +7,8 @@ use Rattle.ix_run.specs.Heads.{Heading, IsLawfulHeading}
 use Rattle.ix_run.specs.RunText.{IsRunText, heading_bytes}
 use Rattle.ix_run.specs.RunTextErrors.{IsRefusal as IsOtherRefusal}
 use Rattle.ix_run.specs.Sources.{Yielding}
-use Rattle.ix_run.specs.declared.run_text_error.RunTextError.{RunTextError}
-use Rattle.ix_run.specs.declared.run_text_error.RunTextError.TheVariants.{TooLarge}
+use Rattle.ix_run.specs.RunTextError.{RunTextError}
+use Rattle.ix_run.specs.RunTextError.TheVariants.{TooLarge}
 use Rattle.ix_merge.specs.Pieces.{ArePiecesOf, IsConcatenation, Piece, heading_of_piece}
 use Rattle.ix_merge.specs.Refusals.{IsRefusal}
 use Rattle.ix_merge.specs.declared.merge_error.MergeError.TheVariants as merge_error

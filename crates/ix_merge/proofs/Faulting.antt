@@ -5,8 +5,8 @@ use Rattle.std.proofs.lemmas.List.{get_or_default, get_or-set_same, get_or-set_o
 use Rattle.std.proofs.lemmas.Option.{slice_get-get_or}
 use Rattle.ix_run.specs.Faults.{IsListFault}
 use Rattle.ix_run.specs.Sources.{Faulting, KeepsFaults}
-use Rattle.ix_run.specs.declared.listed.ListError.{ListError}
-use Rattle.ix_run.specs.declared.listed.ListError.TheVariants as list
+use Rattle.ix_run.specs.ListError.{ListError}
+use Rattle.ix_run.specs.ListError.TheVariants as list
 use Rattle.ix_run.specs.Heads.{Heading}
 use Rattle.ix_merge.specs.Headings.{IsCoverFault, IsOfHeadings}
 use Rattle.ix_merge.specs.Merging.{IsOfWriter, IsRefusalAt, IsRefusalOf, KeepFaults, told_of_list}

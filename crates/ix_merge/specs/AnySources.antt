@@ -7,8 +7,8 @@ use Rattle.ix_run.specs.Reading.{HasRead, IsDrained, IsEnded, MayYield, term_of}
 use Rattle.ix_run.specs.RunReaders.{heading_read}
 use Rattle.ix_run.specs.RunSources.{HasGiven, HasLeft, IsAtEnd, IsAtEndOfTerm}
 use Rattle.ix_run.specs.Sources.{AreWhole, IsLawfulFront, closed}
-use Rattle.ix_run.specs.declared.run_text_error.RunTextError.{RunTextError}
-use Rattle.ix_run.specs.declared.run_text_error.RunTextError.TheVariants.{Memory}
+use Rattle.ix_run.specs.RunTextError.{RunTextError}
+use Rattle.ix_run.specs.RunTextError.TheVariants.{Memory}
 use Rattle.ix_merge.specs.declared.any_source.AnySource.{AnySource}
 use Rattle.ix_merge.specs.declared.any_source.AnySource.TheVariants.{Run, Index}
 

@@ -6,8 +6,8 @@ use Rattle.ix_file.specs.Writers.{WasTold}
 use Rattle.ix_file.specs.declared.sections.WriterSections.{WriterSections}
 use Rattle.ix_file.specs.declared.writer.IndexWriter.{IndexWriter}
 use Rattle.ix_run.specs.Heads.{Heading}
-use Rattle.ix_run.specs.declared.listed.ListError.{ListError}
-use Rattle.ix_run.specs.declared.listed.ListError.TheVariants as list
+use Rattle.ix_run.specs.ListError.{ListError}
+use Rattle.ix_run.specs.ListError.TheVariants as list
 use Rattle.ix_run.specs.Sources.{Faulting, Yielding}
 use Rattle.ix_merge.specs.Covers.{times_covered}
 use Rattle.ix_merge.specs.Merged.{HasMergedAll}

@@ -86,9 +86,9 @@ impl<'a> IndexSource<'a> {
 
 impl<'a> Source for IndexSource<'a> {
     ghost use Rattle.std.specs.Prelude.{◌≡◌, ◌≤◌, ℕ, List, Some, None, Ok, false, IsOk, IsSome, IfOk, IfErr, OnErr, OnOk, MatchBool, MatchOption};
-    ghost use Rattle.ix_run.specs.RunSources.{HasGiven, HasLeft, IsAtEnd, IsAtEndOfTerm};
+    ghost use Rattle.ix_run.specs.RunSources.{HasGiven, HasLeft, IsAtEnd, IsAtEndOfTerm, MayLackMemory};
     ghost use Rattle.ix_run.specs.Sources.{BeginsTerm, EndsPostings, EndsTerms, GivesList, GivesPosting, KeepsFaults};
-    ghost use Rattle.ix_run.specs.Faults.{IsListFault, MayLackMemory};
+    ghost use Rattle.ix_run.specs.Faults.{IsListFault};
 
     type Error = Memory;
 

@@ -12,9 +12,9 @@ use Rattle.ix_run.specs.CodedTerms.{AreTermsOf}
 use Rattle.ix_run.specs.Dictionaries.{HoldsTokens, tokens_in}
 use Rattle.ix_run.specs.DocumentEnds.{ends_of}
 use Rattle.ix_run.specs.Inverted.{IsLawfulDocument, document_of, documents_of, occurrences_of, tokens_of}
-use Rattle.ix_run.specs.Heads.{row_of_doc}
+use Rattle.ix_run_text.specs.Heads.{row_of_doc}
 use Rattle.ix_run.specs.Runs.{IsRunOf, IsTooLarge, RunValue, TermValue}
-use Rattle.ix_run.specs.declared.head.RunDoc.{RunDoc}
+use Rattle.ix_run_text.specs.declared.head.RunDoc.{RunDoc}
 use Rattle.ix_run.proofs.Inverting.{are_parts, parts_of, terms_shown}
 use Rattle.ix_run.proofs.Numbering.{length_held}
 use Rattle.ix_run.proofs.SpanLemmas.{ends_of-push, tokens_in-push}

@@ -13,17 +13,17 @@ use Rattle.ix_vbyte.specs.Gaps.{Ascends, next_after}
 use Rattle.ix_vbyte.specs.Postings.{ArePostings, IsPosting, documents_of, list_bytes, posting_bytes}
 use Rattle.ix_vbyte.proofs.Gaps.{Ascends-pop, length-Ascends, next_after-push}
 use Rattle.ix_vbyte.proofs.Postings.{list_bytes_from-push}
-use Rattle.ix_run.specs.Heads.{Heading, heading_of, parts_with}
-use Rattle.ix_run.specs.Reading.{BeginsFirst, Faces, GivesFirst, HasRead, IsDrained, MayYield, heading_from, term_of}
+use Rattle.ix_run_text.specs.Heads.{Heading, heading_of, parts_with}
+use Rattle.ix_run_text.specs.Reading.{BeginsFirst, Faces, GivesFirst, HasRead, IsDrained, MayYield, heading_from, term_of}
 use Rattle.ix_run.specs.RunFiles.{GivesTerm, HasBegun, ReadsAll}
 use Rattle.ix_run.specs.RunSources.{heading_shown}
-use Rattle.ix_run.specs.RunText.{IsRunText, run_layout}
+use Rattle.ix_run_text.specs.RunText.{IsRunText, run_layout}
 use Rattle.ix_run.specs.Runs.{IsRun, IsRunOf, RunValue, TermValue, coded, last_document, run_bytes, run_value}
-use Rattle.ix_run.specs.Sources.{AreWhole, BeginsTerm, EndsPostings, EndsTerms, GivesPosting, closed, entry_with, extended}
-use Rattle.ix_run.specs.declared.run_reader.RunReader.{RunReader}
-use Rattle.ix_run.proofs.ReadFronts.{extended-nil}
+use Rattle.ix_run_text.specs.Sources.{AreWhole, BeginsTerm, EndsPostings, EndsTerms, GivesPosting, closed, entry_with, extended}
+use Rattle.ix_run_text.specs.declared.run_reader.RunReader.{RunReader}
+use Rattle.ix_run_text.proofs.ReadFronts.{extended-nil}
 use Rattle.ix_run.proofs.RunSizes.{spelled}
-use Rattle.ix_run.proofs.WholeLists.{codable}
+use Rattle.ix_run_text.proofs.WholeLists.{codable}
 
 -- What a loop over the postings of a term keeps: those that were given, coded.
 pub record TakesList {R : Type 0} (remaining : R → Option (List ℕ)) (old now : RunReader R) (next documents : ℕ) (list : List ℕ) : Type 0 where

@@ -13,7 +13,7 @@ use Rattle.ix_vbyte.proofs.Sizes.{list_short}
 use Rattle.ix_run.proofs.RunSources.{run_coded}
 use Rattle.std.proofs.lemmas.List.Sums.{get_or-le-sum_by}
 use Rattle.ix_text.proofs.CollectionTold.{some_position}
-use Rattle.ix_run.specs.RunText.{IsRunText, head_bytes, run_layout}
+use Rattle.ix_run_text.specs.RunText.{IsRunText, head_bytes, run_layout}
 use Rattle.ix_run.specs.Runs.{IsRun, IsRunOf, IsShort, RunValue, TermValue, coded, run_bytes, run_value, value_bytes}
 
 All-at : {A : Type 0} (P : A → Type 0) (xs : List A) (i : ℕ) (x : A) → slice_get xs i ≡ Some x → All P xs → P x

@@ -11,12 +11,12 @@ use Rattle.ix_vbyte.specs.Gaps.{next_after}
 use Rattle.ix_vbyte.specs.Postings.{ArePostings, documents_of, list_bytes, list_bytes_from, shifted}
 use Rattle.ix_vbyte.specs.Walking.{IsCodedList}
 use Rattle.ix_vbyte.proofs.Gaps.{length-Ascends, next_after-le}
-use Rattle.ix_run.specs.Heads.{Heading, parts_with}
+use Rattle.ix_run_text.specs.Heads.{Heading, parts_with}
 use Rattle.ix_run.specs.Runs.{IsRunOf, RunValue, TermValue, coded, last_document, run_value}
 use Rattle.ix_run.specs.RunSources.{AreCoded, EndsAt, HasGiven, HasLeft, IsAtEndOfTerm, IsAtPlace, SourceValue, heading_shown, unread}
-use Rattle.ix_run.specs.Sources.{AreWhole, BeginsTerm, EndsPostings, EndsTerms, GivesList, GivesPosting, closed, entry_with, extended}
-use Rattle.ix_run.proofs.Fronts.{front_lawful}
-use Rattle.ix_run.proofs.WholeLists.{codable, list_below, postings_behind, shift_after, shift_postings}
+use Rattle.ix_run_text.specs.Sources.{AreWhole, BeginsTerm, EndsPostings, EndsTerms, GivesList, GivesPosting, closed, entry_with, extended}
+use Rattle.ix_run_text.proofs.Fronts.{front_lawful}
+use Rattle.ix_run_text.proofs.WholeLists.{codable, list_below, postings_behind, shift_after, shift_postings}
 
 -- what is none is nothing
 some_none : {A : Type 0} {P : Type 0} (o : Option A) (x : A) → o ≡ Some x → o ≡ None → P

@@ -1,11 +1,11 @@
 -- A run text that is read to its end, and kept coded.
 use Rattle.std.specs.Prelude.{◌≡◌, ℕ, ◌<◌, ◌++◌, List, [], length, map, string_bytes, Option, Some}
 use Rattle.ix_text.specs.Parts.{DictionaryEntry, Posting}
-use Rattle.ix_run.specs.Reading.{Faces, HasRead, IsDrained, MayYield, term_of}
+use Rattle.ix_run_text.specs.Reading.{Faces, HasRead, IsDrained, MayYield, term_of}
 use Rattle.ix_run.specs.Runs.{TermValue, coded}
-use Rattle.ix_run.specs.Sources.{entry_with, extended}
+use Rattle.ix_run_text.specs.Sources.{entry_with, extended}
 use Rattle.ix_run.specs.declared.run_file.ReadTerm.{ReadTerm}
-use Rattle.ix_run.specs.declared.run_reader.RunReader.{RunReader}
+use Rattle.ix_run_text.specs.declared.run_reader.RunReader.{RunReader}
 
 -- a term that was read, as its value
 abbrev pub read_shown : ReadTerm → TermValue

@@ -1,11 +1,12 @@
 -- A run in memory as a source of its postings: what is left of it.
 use Rattle.std.specs.Prelude.{◌≡◌, ◌≢◌, ℕ, ◌+◌, ◌-◌, ◌^◌, ◌<◌, List, [], ◌∷◌, ◌++◌, map, length, All, Option, None, option_map}
+use Rattle.std.specs.declared.alloc.AllocError.{AllocError}
 use Rattle.ix_text.specs.Parts.{DictionaryEntry, Posting}
 use Rattle.ix_vbyte.specs.Gaps.{next_after}
 use Rattle.ix_vbyte.specs.Postings.{ArePostings, documents_of}
-use Rattle.ix_run.specs.Heads.{Heading}
+use Rattle.ix_run_text.specs.Heads.{Heading}
 use Rattle.ix_run.specs.Runs.{RunValue, TermValue, coded}
-use Rattle.ix_run.specs.Sources.{AreWhole, IsLawfulFront, closed}
+use Rattle.ix_run_text.specs.Sources.{AreWhole, IsLawfulFront, closed}
 
 -- the heading, the terms that are left, the term at hand, and the postings of it that are left
 pub record SourceValue : Type 0 where
@@ -48,6 +49,10 @@ IsAtEndOfTerm source = source.term ≢ None → source.postings ≡ []
 -- no term is left, and none is at hand
 abbrev pub IsAtEnd : SourceValue → Type 0
 IsAtEnd source = (source.terms ≡ []) × (source.term ≡ None)
+
+-- A run in memory has one error, and none at its end.
+abbrev pub MayLackMemory : SourceValue → AllocError → Type 0
+MayLackMemory source error = ¬ (IsAtEnd source)
 
 -- The first of the postings has more positions than this.
 pub record FirstExceeds (room : ℕ) (postings : List Posting) : Type 0 where

@@ -7,8 +7,8 @@ use Rattle.ix_vbyte.specs.Code.{code_of}
 use Rattle.ix_vbyte.specs.Gaps.{next_after}
 use Rattle.ix_vbyte.specs.Postings.{documents_of, list_bytes}
 use Rattle.ix_vbyte.specs.Texts.{counted}
-use Rattle.ix_run.specs.Heads.{row_of_doc}
-use Rattle.ix_run.specs.declared.head.RunHead.{RunHead}
+use Rattle.ix_run_text.specs.Heads.{row_of_doc}
+use Rattle.ix_run_text.specs.declared.head.RunHead.{RunHead}
 use Rattle.ix_run.specs.declared.coded_terms.CodedTerm.{CodedTerm}
 
 -- a term, the number of its documents, the last of them, and the bytes of its list

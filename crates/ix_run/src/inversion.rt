@@ -6,16 +6,16 @@ ghost use Rattle.ix_text.specs.Docs.{named_text};
 ghost use Rattle.ix_text.specs.Parts.{row_of};
 ghost use Rattle.ix_run.specs.Dictionaries.{HoldsTokens, tokens_in};
 ghost use Rattle.ix_run.specs.DocumentEnds.{ends_of};
-ghost use Rattle.ix_run.specs.Heads.{row_of_doc};
+ghost use Rattle.ix_run_text.specs.Heads.{row_of_doc};
 ghost use Rattle.ix_run.specs.Inverted.{IsLawfulDocument, documents_of, tokens_of};
 ghost use Rattle.ix_run.specs.Runs.{IsRunOf, IsTooLarge};
 
 use crate::coding::code_terms;
 use crate::dictionary::Dictionary;
 use crate::errors::RunError;
-use crate::head::{RunDoc, RunHead};
 use crate::run::Run;
 use crate::seen_words::no_words;
+use ix_run_text::{RunDoc, RunHead};
 use ix_text::{Doc, MAX_DOCUMENTS, Memory, StopList};
 use std::alloc::Global;
 

@@ -2,9 +2,9 @@
 
 use crate::coded_terms::CodedTerms;
 use crate::errors::WriteError;
-use crate::head::RunHead;
 use crate::run_source::RunSource;
 use crate::run_text::put_run;
+use ix_run_text::RunHead;
 use std::io::Write;
 use std::marker::Model;
 
@@ -31,10 +31,10 @@ impl Run {
     ghost use Rattle.ix_text.specs.Collections.{Collection};
     ghost use Rattle.ix_text.specs.Sinks.{AppendsFront};
     ghost use Rattle.ix_text.specs.Parts.{ArePartsOf, DictionaryEntry};
-    ghost use Rattle.ix_run.specs.Heads.{heading_of, parts_with};
+    ghost use Rattle.ix_run_text.specs.Heads.{heading_of, parts_with};
     ghost use Rattle.ix_run.specs.RunSources.{HasGiven, HasLeft, heading_shown, unread};
-    ghost use Rattle.ix_run.specs.RunText.{IsRunText};
-    ghost use Rattle.ix_run.specs.Sources.{IsUnread};
+    ghost use Rattle.ix_run_text.specs.RunText.{IsRunText};
+    ghost use Rattle.ix_run_text.specs.Sources.{IsUnread};
     ghost use Rattle.ix_run.specs.Runs.{IsRun, IsRunOf, head_value, run_bytes};
 
     /// The run of these parts.

@@ -1,16 +1,16 @@
 //! A run text read to its end.
 ghost use Rattle.std.specs.Prelude.{◌≡◌, [], List, IsSome, IfOk, IfErr, map};
 ghost use Rattle.ix_text.specs.Parts.{DictionaryEntry, Posting};
-ghost use Rattle.ix_run.specs.Heads.{heading_of};
-ghost use Rattle.ix_run.specs.Reading.{Faces, HasRead, IsDrained, term_of};
+ghost use Rattle.ix_run_text.specs.Heads.{heading_of};
+ghost use Rattle.ix_run_text.specs.Reading.{Faces, HasRead, IsDrained, term_of};
 ghost use Rattle.ix_run.specs.RunFiles.{GivesTerm, HasBegun, ReadsAll};
-ghost use Rattle.ix_run.specs.RunTextErrors.{IsRefusal};
+ghost use Rattle.ix_run_text.specs.RunTextErrors.{IsRefusal};
 ghost use Rattle.ix_run.specs.RunFiles.{read_shown};
-ghost use Rattle.ix_run.specs.Sources.{IsUnread};
+ghost use Rattle.ix_run_text.specs.Sources.{IsUnread};
 
 use crate::coded_terms::{CodedTerm, CodedTerms};
-use crate::run_reader::RunReader;
-use crate::{Run, RunTextError, Source};
+use crate::run::Run;
+use ix_run_text::{RunReader, RunTextError, Source};
 use ix_vbyte::push_posting;
 use std::alloc::Global;
 use std::io::Read;
@@ -18,7 +18,7 @@ use std::io::Read;
 impl Run {
     ghost use Rattle.std.specs.Prelude.{ℕ, Some, MatchResult};
     ghost use Rattle.ix_text.specs.Collections.{Collection};
-    ghost use Rattle.ix_run.specs.RunText.{IsRunText};
+    ghost use Rattle.ix_run_text.specs.RunText.{IsRunText};
     ghost use Rattle.ix_run.specs.Runs.{IsRunOf, run_bytes};
 
     /// Reads a run text to its end and keeps it in memory, its lists coded.

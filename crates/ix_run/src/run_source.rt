@@ -1,7 +1,7 @@
 //! A run in memory as a source of its postings.
 
 use crate::coded_terms::TermWalk;
-use crate::{ListError, Listed, RunHead, Source};
+use ix_run_text::{ListError, Listed, RunHead, Source};
 use ix_text::Memory;
 use ix_vbyte::cursor::Postings;
 use std::marker::Model;
@@ -25,7 +25,7 @@ pub struct RunSource<'a> {
 
 impl<'a> Model for RunSource<'a> {
     ghost use Rattle.std.specs.Option.{option_copied};
-    ghost use Rattle.ix_run.specs.Heads.{heading_of};
+    ghost use Rattle.ix_run_text.specs.Heads.{heading_of};
     ghost use Rattle.ix_run.specs.RunSources.{EndsAt, IsAtPlace, SourceValue};
 
     ghost Value = { SourceValue };
@@ -49,7 +49,7 @@ impl<'a> Model for RunSource<'a> {
 
 impl<'a> RunSource<'a> {
     ghost use Rattle.std.specs.Prelude.{◌≡◌, [], None};
-    ghost use Rattle.ix_run.specs.Heads.{heading_of};
+    ghost use Rattle.ix_run_text.specs.Heads.{heading_of};
     ghost use Rattle.ix_run.specs.RunSources.{HasGiven};
 
     /// The source of a run of which nothing was asked yet.
@@ -84,9 +84,9 @@ impl<'a> Source for RunSource<'a> {
     ghost use Rattle.std.specs.Prelude.{OnOk, IfErr};
     ghost use Rattle.ix_vbyte.specs.Postings.{list_bytes_from, shifted};
     ghost use Rattle.std.specs.Prelude.{◌≡◌, ℕ, List, Some, None, Ok, false, IsOk, IsSome, IfOk, OnErr, MatchBool, MatchOption};
-    ghost use Rattle.ix_run.specs.RunSources.{FirstExceeds, HasGiven, HasLeft, IsAtEnd, IsAtEndOfTerm};
-    ghost use Rattle.ix_run.specs.Sources.{BeginsTerm, EndsPostings, EndsTerms, GivesList, GivesPosting, KeepsFaults};
-    ghost use Rattle.ix_run.specs.Faults.{IsListFault, MayLackMemory};
+    ghost use Rattle.ix_run.specs.RunSources.{FirstExceeds, HasGiven, HasLeft, IsAtEnd, IsAtEndOfTerm, MayLackMemory};
+    ghost use Rattle.ix_run_text.specs.Sources.{BeginsTerm, EndsPostings, EndsTerms, GivesList, GivesPosting, KeepsFaults};
+    ghost use Rattle.ix_run_text.specs.Faults.{IsListFault};
 
     type Error = Memory;
 

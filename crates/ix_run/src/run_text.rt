@@ -5,12 +5,12 @@ ghost use Rattle.std.specs.Int.{to_le_bytes, w32};
 ghost use Rattle.ix_text.specs.Parts.{row_bytes};
 ghost use Rattle.ix_vbyte.specs.Code.{code_of};
 ghost use Rattle.ix_vbyte.specs.Texts.{counted};
-ghost use Rattle.ix_run.specs.Heads.{row_of_doc};
+ghost use Rattle.ix_run_text.specs.Heads.{row_of_doc};
 ghost use Rattle.ix_run.specs.Runs.{IsShort, front_bytes, head_value, run_bytes, term_shown, value_bytes};
 ghost use Rattle.ix_run.specs.Writing.{Writes};
 
 use crate::coded_terms::{CodedTerm, CodedTerms};
-use crate::head::{RunDoc, RunHead};
+use ix_run_text::{RunDoc, RunHead};
 use ix_text::{WriteRefused, put_all};
 use ix_vbyte::encode;
 use std::io::Write;

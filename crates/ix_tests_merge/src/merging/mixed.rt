@@ -22,7 +22,7 @@ enum Mixed<'a, 'b> {
 
 impl<'a, 'b> Source for Mixed<'a, 'b> {
     ghost use Rattle.ix_run.specs.RunSources.{HasGiven, HasLeft, IsAtEnd, IsAtEndOfTerm};
-    ghost use Rattle.ix_run.specs.declared.run_text_error.RunTextError.TheVariants.{Memory};
+    ghost use Rattle.ix_run.specs.RunTextError.TheVariants.{Memory};
     ghost use Rattle.std.specs.Prelude.{◌≡◌};
     ghost use Rattle.ix_merge.specs.AnySources.{heading_of_source, term_of_source};
     ghost use Rattle.ix_merge.specs.AnySources.{SourceHasGiven, SourceIsDrained, SourceIsEnded, SourceMayFault, SourceMayYield};

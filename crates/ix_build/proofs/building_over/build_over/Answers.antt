@@ -3,7 +3,7 @@ use Rattle.std.proofs.Common.{◌≡◌, ℕ, List, length, map, refl, sym, subs
 use Rattle.std.specs.Prelude.{Some, slice_get, slice_set}
 use Rattle.std.proofs.lemmas.Option.{slice_get_read}
 use Rattle.std.proofs.lemmas.Result.{IfErr-at_err, IfErr-weaker, IfOk-at_ok, on_err_weaker, on_ok_weaker}
-use Rattle.ix_run.specs.declared.head.RunHead.{RunHead}
+use Rattle.ix_run.specs.RunHead.{RunHead}
 use Rattle.ix_text.specs.Collections.{NamedText}
 use Rattle.ix_text.specs.Docs.{named_text}
 use Rattle.ix_build.specs.Blocks.{AreBounds}

@@ -13,7 +13,7 @@ ghost use Rattle.ix_command.specs.declared.commands.merge.inputs.Input.TheVarian
 ghost use Rattle.ix_command.specs.declared.commands.merge.inputs.Part.TheVariants as part;
 ghost use Rattle.ix_command.specs.MergeInputs.{Adds, AreOpened, IsInput, IsNear, RefusesIndex};
 ghost use Rattle.ix_command.specs.MergeInputs.{RefusesMore};
-ghost use Rattle.ix_run.specs.declared.run_text_error.RunTextError.TheVariants.{Magic};
+ghost use Rattle.ix_run.specs.RunTextError.TheVariants.{Magic};
 
 use crate::files::{FileSource, ReadFault};
 use crate::index_file::open_index;

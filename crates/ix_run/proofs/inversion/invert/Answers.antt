@@ -4,7 +4,7 @@ use Rattle.std.proofs.lemmas.Result.{err_from_is_err_and}
 use Rattle.ix_text.specs.Collections.{collection_of}
 use Rattle.ix_text.specs.Docs.{named_text}
 use Rattle.ix_run.specs.Inverted.{document_of, documents_of}
-use Rattle.ix_run.specs.Heads.{row_of_doc}
+use Rattle.ix_run_text.specs.Heads.{row_of_doc}
 use Rattle.ix_run.specs.declared.errors.RunError.TheVariants.{TooLarge}
 use Rattle.ix_run.proofs.Blocks.{block_run, block_fits, length-tokens_in, numbers_too_large, tokens_too_large}
 use Rattle.ix_run.proofs.Numbering.{length_held}

@@ -1,4 +1,4 @@
-use Rattle.ix_run.specs.Heads.{row_of_doc}
+use Rattle.ix_run_text.specs.Heads.{row_of_doc}
 use Rattle.ix_text.specs.Parts.{row_bytes}
 use Rattle.ix_vbyte.specs.Code.{code_of}
 use Rattle.ix_text.proofs.SinkLemmas.{appends_nothing}

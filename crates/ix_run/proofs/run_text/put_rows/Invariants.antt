@@ -2,7 +2,7 @@ use Rattle.std.proofs.Common.{flat_map, map, take}
 use Rattle.std.specs.Io.KnownBytes.{Appends}
 use Rattle.ix_text.specs.Parts.{row_bytes}
 use Rattle.ix_vbyte.specs.Code.{code_of}
-use Rattle.ix_run.specs.Heads.{row_of_doc}
+use Rattle.ix_run_text.specs.Heads.{row_of_doc}
 use Rattle.ix_run.proofs.run_text.put_rows.Given as goal
 
 -- the elements so far are out

@@ -2,7 +2,7 @@ use Rattle.std.proofs.Common.{All, List, sym, subst}
 use Rattle.std.proofs.lemmas.List.Elements.{All-push}
 use Rattle.ix_run.specs.Reading.{HasRead}
 use Rattle.ix_run.specs.Sources.{IsUnread}
-use Rattle.ix_run.specs.declared.run_reader.RunReader.{RunReader}
+use Rattle.ix_run.specs.RunReader.{RunReader}
 use Rattle.ix_tests_merge.proofs.merging.opened.Goals as goal
 
 pub loop-reader-preserved : goal.loop-reader-preserved

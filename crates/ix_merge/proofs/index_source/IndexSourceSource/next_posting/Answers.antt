@@ -4,7 +4,7 @@ use Rattle.ix_run.specs.Heads.{heading_of}
 use Rattle.ix_run.specs.Runs.{coded}
 use Rattle.ix_run.specs.RunSources.{HasGiven, HasLeft, SourceValue}
 use Rattle.ix_run.specs.Sources.{GivesPosting}
-use Rattle.ix_run.proofs.Faulting.{going_fault, some_going}
+use Rattle.ix_run.proofs.Lacking.{going_fault, some_going}
 use Rattle.ix_run.proofs.RunSources.{place_next, step_given}
 use Rattle.ix_merge.proofs.index_source.IndexSourceSource.next_posting.Goals as goal
 

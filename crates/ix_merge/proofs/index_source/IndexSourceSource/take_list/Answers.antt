@@ -6,7 +6,7 @@ use Rattle.ix_run.specs.Runs.{coded, last_document}
 use Rattle.ix_run.specs.RunSources.{EndsAt, HasGiven, HasLeft, SourceValue}
 use Rattle.ix_run.specs.Sources.{GivesList}
 use Rattle.ix_run.proofs.ListSteps.{if_granted}
-use Rattle.ix_run.proofs.Faulting.{some_going}
+use Rattle.ix_run.proofs.Lacking.{some_going}
 use Rattle.ix_run.proofs.RunSources.{can_shift, no_postings, place_list, step_list, step_no_list}
 use Rattle.ix_merge.proofs.IndexSources.{ends_somewhere}
 use Rattle.ix_merge.proofs.index_source.IndexSourceSource.take_list.Goals as goal

@@ -1,10 +1,10 @@
 -- What the reader yielded as a whole is the run's dictionary: the bytes spell it, and it is all that they spell.
 use Rattle.std.proofs.Common.{◌≡◌, [], None, ap, sym, subst, ◌∙◌}
 use Rattle.std.proofs.lemmas.Result.{err_from_is_err_and}
-use Rattle.ix_run.specs.Heads.{Heading, heading_of, parts_with}
-use Rattle.ix_run.specs.RunText.{run_layout}
+use Rattle.ix_run_text.specs.Heads.{Heading, heading_of, parts_with}
+use Rattle.ix_run_text.specs.RunText.{run_layout}
 use Rattle.ix_run.specs.Runs.{IsRunOf, RunValue, head_value, run_bytes}
-use Rattle.ix_run.specs.Sources.{AreWhole}
+use Rattle.ix_run_text.specs.Sources.{AreWhole}
 use Rattle.ix_run.proofs.RunFiles.{is_run, run_accepted, run_exact}
 use Rattle.ix_run.proofs.run.Run.read.Goals as goal
 

@@ -1,6 +1,6 @@
 use Rattle.std.proofs.Common.{◌≡◌, [], List, None, sym, ap, subst, ◌∙◌}
 use Rattle.ix_text.specs.Parts.{ArePartsOf}
-use Rattle.ix_run.specs.Heads.{heading_of, parts_with}
+use Rattle.ix_run_text.specs.Heads.{heading_of, parts_with}
 use Rattle.ix_run.specs.Runs.{TermValue, head_value}
 use Rattle.ix_run.specs.RunSources.{HasGiven, HasLeft, SourceValue, unread}
 use Rattle.ix_run.proofs.RunSources.{run_unread, run_yields}

@@ -1,6 +1,6 @@
 use Rattle.std.proofs.Common.{arith}
 use Rattle.std.proofs.lemmas.List.{length-map}
-use Rattle.ix_run.specs.Heads.{row_of_doc}
+use Rattle.ix_run_text.specs.Heads.{row_of_doc}
 use Rattle.ix_run.specs.Runs.{IsShort, head_value}
 use Rattle.ix_text.specs.Parts.{DocumentRow}
 use Rattle.ix_run.proofs.RunSizes.{few_rows, short_lists, short_names, short_terms, run_text}

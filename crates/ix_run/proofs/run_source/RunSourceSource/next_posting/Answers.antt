@@ -1,9 +1,9 @@
 use Rattle.std.proofs.Common.{List, ℕ, IsSome, sym, ap, subst, ◌∙◌}
 use Rattle.std.specs.Option.{option_copied}
-use Rattle.ix_run.specs.Heads.{heading_of}
+use Rattle.ix_run_text.specs.Heads.{heading_of}
 use Rattle.ix_run.specs.RunSources.{HasGiven, HasLeft, SourceValue}
-use Rattle.ix_run.specs.Sources.{GivesPosting}
-use Rattle.ix_run.proofs.Faulting.{going_fault, some_going}
+use Rattle.ix_run_text.specs.Sources.{GivesPosting}
+use Rattle.ix_run.proofs.Lacking.{going_fault, some_going}
 use Rattle.ix_run.proofs.RunSources.{ends_next, place_next, step_given}
 use Rattle.ix_vbyte.proofs.GapCodes.{on_err_of}
 use Rattle.ix_run.proofs.run_source.RunSourceSource.next_posting.Goals as goal

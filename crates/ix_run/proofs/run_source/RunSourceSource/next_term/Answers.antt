@@ -1,9 +1,9 @@
 use Rattle.std.proofs.Common.{◌≡◌, List, [], Some, None, refl, sym, ap, subst, ◌∙◌}
 use Rattle.std.specs.Option.{option_copied}
-use Rattle.ix_run.specs.Heads.{heading_of}
+use Rattle.ix_run_text.specs.Heads.{heading_of}
 use Rattle.ix_run.specs.Runs.{TermValue, term_shown}
 use Rattle.ix_run.specs.RunSources.{HasGiven, HasLeft, IsAtEndOfTerm, IsAtPlace, SourceValue}
-use Rattle.ix_run.specs.Sources.{BeginsTerm, EndsTerms}
+use Rattle.ix_run_text.specs.Sources.{BeginsTerm, EndsTerms}
 use Rattle.ix_run.proofs.RunSources.{ends_begun, ends_none, first_list, no_postings, place_begun, place_ended, step_begun, step_ended}
 use Rattle.ix_run.proofs.run_source.RunSourceSource.next_term.Goals as goal
 

@@ -1,11 +1,11 @@
 -- The list that is left is that of the entry at hand, so that its documents can be counted from the head's first number.
 use Rattle.std.proofs.Common.{ℕ, ◌<◌, length, sym, subst, ◌∙◌, arith}
 use Rattle.std.specs.Option.{option_copied}
-use Rattle.ix_run.specs.Heads.{heading_of}
+use Rattle.ix_run_text.specs.Heads.{heading_of}
 use Rattle.ix_run.specs.RunSources.{HasGiven, HasLeft, SourceValue}
-use Rattle.ix_run.specs.Sources.{GivesList}
-use Rattle.ix_run.proofs.ListSteps.{if_granted}
-use Rattle.ix_run.proofs.Faulting.{some_going}
+use Rattle.ix_run_text.specs.Sources.{GivesList}
+use Rattle.ix_run_text.proofs.ListSteps.{if_granted}
+use Rattle.ix_run.proofs.Lacking.{some_going}
 use Rattle.ix_run.proofs.RunSources.{can_shift, ends_none, no_postings, place_list, step_list, step_no_list}
 use Rattle.ix_run.proofs.run_source.RunSourceSource.take_list.Goals as goal
 

@@ -1,6 +1,6 @@
 -- What the reader tells is what the file holds.
 use Rattle.std.proofs.Common.{◌∙◌, Err, ap, inl, refl, subst, sym}
-use Rattle.ix_run.specs.declared.run_text_error.RunTextError.TheVariants.{Magic}
+use Rattle.ix_run.specs.RunTextError.TheVariants.{Magic}
 use Rattle.ix_command.specs.MergedRuns.{RefusesInput, no_head, unread}
 use Rattle.ix_command.proofs.RunFileLemmas.{is_other_or_not, opened, refused}
 use Rattle.ix_command.proofs.commands.merge.inputs.open.Goals as goal

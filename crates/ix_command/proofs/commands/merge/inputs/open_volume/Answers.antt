@@ -1,6 +1,6 @@
 -- What begins neither as a run nor as an index is told as no run.
 use Rattle.std.proofs.Common.{inl, subst, sym}
-use Rattle.ix_run.specs.declared.run_text_error.RunTextError.TheVariants.{Magic}
+use Rattle.ix_run.specs.RunTextError.TheVariants.{Magic}
 use Rattle.ix_command.specs.MergedRuns.{RefusesInput, no_head}
 use Rattle.ix_command.proofs.commands.merge.inputs.open_volume.Goals as goal
 

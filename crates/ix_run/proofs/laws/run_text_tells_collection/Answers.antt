@@ -1,5 +1,0 @@
-use Rattle.ix_run.proofs.RunTold.{run_told}
-use Rattle.ix_run.proofs.laws.run_text_tells_collection.Goals as goal
-
-pub returns : goal.returns
-returns c = run_told

@@ -1,7 +1,0 @@
-use Rattle.std.proofs.Common.{map, take}
-use Rattle.ix_text.specs.TokenTables.{HasTokens}
-use Rattle.ix_run.specs.Heads.{row_of_doc}
-use Rattle.ix_run.proofs.token_counts.table_of.Given as goal
-
-abbrev pub invariant-loop-doc : goal.invariant-loop-doc
-invariant-loop-doc l = HasTokens l.table (map row_of_doc (take l.doc-index l.docs))

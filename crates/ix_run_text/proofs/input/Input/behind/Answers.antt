@@ -1,0 +1,11 @@
+-- The bytes of the buffer before a place.
+use Rattle.std.proofs.Common.{◌-◌, arith}
+use Rattle.ix_run_text.specs.Inputs.{passed}
+use Rattle.ix_run_text.proofs.Passing.{ends_at}
+use Rattle.ix_run_text.proofs.input.Input.behind.Goals as goal
+
+pub returns : goal.returns
+unfolding passed
+returns g c =
+    let input = c.args.self.now in
+    rw c.deref.ensures.value (ends_at input.buffer.items input.start (input.start - c.args.count) c.args.count (omega (arith, input.buffer.ok.0, input.within, input.ordered)) (omega arith))

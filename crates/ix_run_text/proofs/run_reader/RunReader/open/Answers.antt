@@ -1,0 +1,47 @@
+-- Nothing is buffered at first, so that what is left is what the reader has.
+use Rattle.std.proofs.Common.{ℕ, List, [], Some, string_bytes, ap, subst, sym, ◌∙◌}
+use Rattle.std.proofs.lemmas.Result.{err_from_is_err_and}
+use Rattle.ix_run_text.specs.Heads.{Heading, heading_of}
+use Rattle.ix_run_text.specs.Inputs.{known_left}
+use Rattle.ix_run_text.specs.Reading.{bytes_ahead, heading_from}
+use Rattle.ix_run_text.specs.Sources.{AreWhole}
+use Rattle.ix_run_text.proofs.ReadOpen.{opened_faces, opened_yields, text_heading, text_parts, text_whole, unread}
+use Rattle.ix_run_text.specs.RunReaders.{bytes_left}
+use Rattle.ix_run_text.proofs.run_reader.RunReader.open.Goals as goal
+
+pub returns-clause-taken : goal.returns-clause-taken
+unfolding bytes_left
+returns-clause-taken g c = rw c.in_ok-input.ensures at c.in_ok-head.ensures.taken
+
+pub returns-clause-lawful : goal.returns-clause-lawful
+returns-clause-lawful g c = c.in_ok-head.ensures.lawful
+
+pub returns-clause-accepted : goal.returns-clause-accepted
+unfolding bytes_left
+returns-clause-accepted g c heading rest lawful e = c.in_ok-head.ensures.accepted heading rest lawful (c.in_ok-input.ensures ∙ e)
+
+pub returns-clause-unread : goal.returns-clause-unread
+returns-clause-unread g c =
+    unread (heading_of c.in_ok-head.head) c.in_ok-marks.marks (string_bytes c.new-3.result) c.new-3.ensures.bytes c.in_ok-head.ensures.lawful c.in_ok-marks.ensures.none
+
+pub returns-clause-yields : goal.returns-clause-yields
+returns-clause-yields g c bytes entries known may =
+    opened_yields (heading_of c.in_ok-head.head) c.in_ok-marks.marks (string_bytes c.new-3.result) c.new-3.ensures.bytes
+    (known_left g.R.Read.remaining c.in_ok-input.input) (known_left g.R.Read.remaining c.read_head.new.input) bytes entries
+    c.in_ok-head.ensures.lawful c.in_ok-marks.ensures.none c.in_ok-head.ensures.taken (c.in_ok-input.ensures ∙ known) may
+
+pub returns-in_err-head-clause-faced : goal.returns-in_err-head-clause-faced
+returns-in_err-head-clause-faced g c first collection bytes is known =
+    let p = err_from_is_err_and c.from_residual-in_err-head.result c.from_residual-in_err-head.ensures.1 in
+    rw (p.1, p.2) (c.in_err-head.ensures.accepted (heading_from first is.parts) (bytes_ahead [] is.parts.entries) (text_heading first collection bytes is)
+    (c.in_ok-input.ensures ∙ known ∙ ap (λ (bs : List ℕ). Some bs) (text_parts first collection bytes is)))
+
+pub returns-clause-faced : goal.returns-clause-faced
+returns-clause-faced g c first collection bytes is known =
+    let found = c.in_ok-head.ensures.accepted (heading_from first is.parts) (bytes_ahead [] is.parts.entries) (text_heading first collection bytes is)
+    (c.in_ok-input.ensures ∙ known ∙ ap (λ (bs : List ℕ). Some bs) (text_parts first collection bytes is)) in (
+      found.0,
+      opened_faces (heading_of c.in_ok-head.head) c.in_ok-marks.marks (string_bytes c.new-3.result) c.new-3.ensures.bytes (known_left g.R.Read.remaining c.read_head.new.input) is.parts.entries
+          c.in_ok-head.ensures.lawful c.in_ok-marks.ensures.none
+          (subst (λ (h : Heading). AreWhole h is.parts.entries) (sym found.0) (text_whole first collection bytes is)) found.1,
+    )

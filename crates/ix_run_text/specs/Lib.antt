@@ -1,0 +1,15 @@
+pub mod CodeFaults
+pub mod Faults
+pub mod Heads
+pub mod Inputs
+pub mod Laws
+pub mod Orders
+pub mod Pieces
+pub mod ReadPostings
+pub mod ReadTables
+pub mod ReadTerms
+pub mod Reading
+pub mod RunReaders
+pub mod RunText
+pub mod RunTextErrors
+pub mod Sources

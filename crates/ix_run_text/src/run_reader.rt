@@ -1,0 +1,304 @@
+//! The exact reader of a run text: it takes the bytes of a run as they come, and accepts no others.
+ghost use Rattle.std.specs.Prelude.{◌≡◌, ◌≢◌, ◌+◌, ◌<◌, ◌≤◌, ◌^◌, ℕ, length, map, sum_by};
+ghost use Rattle.ix_text.specs.TokenMarks.{room};
+ghost use Rattle.ix_text.specs.TokenTables.{HasTokens};
+ghost use Rattle.ix_run_text.specs.Heads.{row_of_doc};
+ghost use Rattle.ix_run_text.specs.ReadTables.{HasTokens-prop};
+ghost use Rattle.ix_run_text.specs.declared.run_reader.Place.TheVariants.{AtTerm};
+
+use crate::heading::read_head;
+use crate::input::Input;
+use crate::list::read_posting;
+use crate::term::read_term;
+use crate::token_counts::{table_of, token_total};
+use crate::{RunHead, RunTextError};
+use ix_text::{TokenMarks, TokenTable};
+use std::alloc::Global;
+use std::io::Read;
+
+/// Where a reader stands among the terms.
+#[derive(Clone, Copy)]
+enum Place {
+    /// No term was asked for yet.
+    Begun,
+    /// A term is at hand.
+    AtTerm,
+    /// The end mark was taken, and no byte stands behind it.
+    Ended,
+    /// A call was refused.
+    Failed,
+}
+
+/// A run text as a source of its postings, as they come from a reader.
+///
+/// The errors come in the order of the bytes, as `next_term` and `next_posting` list them. After an error each later
+/// call is refused as `Failed`; an error of `next_posting` leaves the term at hand.
+#[derive(Drop)]
+pub struct RunReader<R> {
+    alloc: Global,
+    head: RunHead,
+    input: Input<R>,
+    // how many tokens stand before each document
+    tokens: TokenTable,
+    // the tokens that were told
+    marks: TokenMarks,
+    // the term that was read last
+    term: String,
+    // a term's bytes before they are known to be text
+    scratch: Vec<u8>,
+    // lent to lists for the positions of one posting
+    positions: Vec<u32>,
+    place: Place,
+    // one above the last document given of the term at hand
+    next: u32,
+    // how many postings of the term at hand are left
+    documents: u32,
+    // how many bytes they have
+    bytes: usize,
+    ghost table: { HasTokens tokens (map row_of_doc head.docs.items) } by { HasTokens-prop tokens (map row_of_doc head.docs.items) },
+    ghost few_documents: { length (map row_of_doc head.docs.items) ≤ 2 ^ 28 },
+    ghost few_tokens: { sum_by (λ row. row.tokens) (map row_of_doc head.docs.items) ≤ 2 ^ 28 },
+    ghost narrow: { room marks < sum_by (λ row. row.tokens) (map row_of_doc head.docs.items) + 64 },
+    ghost room: { sum_by (λ row. row.tokens) (map row_of_doc head.docs.items) ≤ room marks },
+    ghost near: { next ≤ 2 ^ 28 },
+    ghost listed: { documents ≡ 0 → bytes ≡ 0 },
+    ghost drained: { place ≢ AtTerm → documents ≡ 0 },
+}
+
+impl<R: Read + Drop> RunReader<R> {
+    ghost use Rattle.std.specs.Prelude.{◌≡◌, ◌≢◌, ◌+◌, ◌<◌, ◌++◌, [], ◌∷◌, List, ℕ, Some, None, Ok, Err, IsSome, IfErr, IfOk, IfSome, OnErr, OnOk, MatchBool, MatchOption, MatchResult, string_bytes};
+    ghost use Rattle.std.specs.Io.KnownBytes.{Consumes};
+    ghost use Rattle.ix_text.specs.Parts.{DictionaryEntry, Posting};
+    ghost use Rattle.ix_text.specs.Collections.{Collection};
+    ghost use Rattle.ix_run_text.specs.Heads.{Heading, IsLawfulHeading, heading_of, parts_with};
+    ghost use Rattle.ix_run_text.specs.RunReaders.{bytes_left, heading_read};
+    ghost use Rattle.ix_run_text.specs.RunText.{IsRunText, heading_bytes, run_layout};
+    ghost use Rattle.ix_run_text.specs.RunTextErrors.{IsRefusal};
+    ghost use Rattle.ix_run_text.specs.Reading.{BeginsFirst, Faces, GivesFirst, HasFailed, HasRead, IsDrained, MayYield, Skips, TookPosting, heading_from, postings_left, term_of};
+    ghost use Rattle.ix_run_text.specs.declared.run_reader.Place.TheVariants.{AtTerm, Ended, Failed};
+    ghost use Rattle.ix_run_text.specs.declared.run_text_error.RunTextError.TheVariants.{Failed as Refused};
+    ghost use Rattle.ix_run_text.specs.Sources.{AreWhole, BeginsTerm, EndsPostings, EndsTerms, GivesPosting, IsUnread, KeepsFaults};
+    ghost use Rattle.ix_run_text.specs.Faults.{MayFault};
+
+    /// Reads the head of a run text: its magic, its first document number and number of documents, its stop terms and
+    /// its documents.
+    ///
+    /// The errors come in the order of the bytes: `Magic` where the first eight bytes are others or are missing;
+    /// `Number` where a code is faulty or the input ends inside a number or a text; `TooLarge` where a number of
+    /// documents, stop terms or tokens is above 2^28; of each stop term `TermSize`, `Text` and `StopOrder`; of each
+    /// document `Name` and `Text`. `Read` where the reader refused, and `Memory`.
+    pub fn open(alloc: Global, reader: R) -> Result<RunReader<R>, RunTextError>
+        // What was taken is the head of a run that may be.
+        ensures taken { IfOk result (λ run.
+            Consumes (R.remaining reader) (bytes_left R.remaining run)
+            (heading_bytes (heading_read run))) }
+        ensures lawful { IfOk result (λ run. IsLawfulHeading (heading_read run)) }
+
+        // Nothing was given yet; what the reader yields from here on is what the bytes spell.
+        ensures unread { IfOk result (λ run. IsUnread HasRead run) }
+        ensures yields { (bytes : List ℕ) (entries : List DictionaryEntry)
+            → R.remaining reader ≡ Some bytes
+            → IfOk result (λ run. MayYield R.remaining run [] entries
+            → (bytes ≡ run_layout (heading_read run).first (parts_with (heading_read run) entries))
+            × AreWhole (heading_read run) entries) }
+
+        // Where such a head stands first, it is the one that is read, unless a read or memory is refused.
+        ensures accepted { (heading : Heading) (rest : List ℕ) → IsLawfulHeading heading
+            → R.remaining reader ≡ Some (heading_bytes heading ++ rest)
+            → MatchResult result (λ run. (heading_read run ≡ heading)
+            × (bytes_left R.remaining run ≡ Some rest)) IsRefusal }
+
+        // Of a run text of a lawful collection, its whole dictionary lies ahead then.
+        ensures faced { (first : ℕ) (collection : Collection) (bytes : List ℕ)
+            (is : IsRunText first collection bytes) → R.remaining reader ≡ Some bytes
+            → MatchResult result (λ run. (heading_read run ≡ heading_from first is.parts)
+            × Faces R.remaining run [] is.parts.entries) IsRefusal }
+    {
+        let mut input = Input::new(alloc, reader)?;
+        let head = read_head(alloc, &mut input)?;
+        let tokens = table_of(alloc, &head.docs)?;
+        let marks = TokenMarks::new(alloc, token_total(&head.docs))?;
+        Ok(RunReader {
+            alloc,
+            head,
+            input,
+            tokens,
+            marks,
+            term: String::new(alloc),
+            scratch: Vec::new(alloc),
+            positions: Vec::new(alloc),
+            place: Place::Begun,
+            next: 0,
+            documents: 0,
+            bytes: 0,
+        })
+    }
+
+    /// The head of the run. Takes no memory.
+    pub fn head(&self) -> &RunHead
+        ensures { heading_of result.now ≡ heading_read self.now }
+    {
+        &self.head
+    }
+
+    /// The head alone. What is left of the run is let go.
+    pub fn into_head(self) -> RunHead
+        ensures { heading_of result ≡ heading_read self }
+    {
+        self.head
+    }
+
+    /// Takes the next posting of the list at hand. After an error the place is as it was.
+    #[inline(always)]
+    fn posting(&mut self, positions: &mut Vec<u32>) -> Result<u32, RunTextError>
+        requires { 0 < self.old.documents }
+        ensures heading { heading_of self.new.head ≡ heading_of self.old.head }
+        ensures place { self.new.place ≡ self.old.place }
+        ensures term { self.new.term ≡ self.old.term }
+        ensures counted { OnOk result (self.new.documents + 1 ≡ self.old.documents) }
+        ensures given { IfOk result (λ document.
+            GivesPosting (MayYield R.remaining) HasRead self.old self.new
+            (document, positions.new.items)) }
+        ensures taken { IfOk result (λ document.
+            TookPosting self.old self.new (document, positions.new.items)) }
+        ensures accepted { (postings : List Posting) (entries : List DictionaryEntry)
+            → Faces R.remaining self.old postings entries
+            → MatchResult result (λ document. (rest : List Posting)
+            × (postings ≡ (document, positions.new.items) ∷ rest)
+            × Faces R.remaining self.new rest entries) IsRefusal }
+    {
+        let (document, taken) = read_posting(
+            &mut self.input,
+            self.bytes,
+            self.next,
+            &self.tokens,
+            &mut self.marks,
+            positions,
+        )?;
+        let documents = self.documents - 1;
+        let bytes = self.bytes - taken;
+        if documents == 0 && bytes > 0 {
+            return Err(RunTextError::ListLength);
+        }
+        self.next = document + 1;
+        self.documents = documents;
+        self.bytes = bytes;
+        Ok(document)
+    }
+
+    /// Takes the postings that are left of the list at hand. After an error the place is as it was.
+    fn skip(&mut self) -> Result<(), RunTextError>
+        ensures heading { heading_of self.new.head ≡ heading_of self.old.head }
+        ensures place { self.new.place ≡ self.old.place }
+        ensures term { self.new.term ≡ self.old.term }
+        ensures drained { OnOk result (self.new.documents ≡ 0) }
+        ensures skipped { OnOk result (Skips R.remaining self.old self.new) }
+        ensures accepted { (postings : List Posting) (entries : List DictionaryEntry)
+            → Faces R.remaining self.old postings entries
+            → MatchResult result (λ _. Faces R.remaining self.new [] entries) IsRefusal }
+    {
+        let mut positions = Vec::new(self.alloc);
+        while self.documents > 0 {
+            self.posting(&mut positions)?;
+        }
+        Ok(())
+    }
+
+    /// Goes on to the next term, over what is left of the list at hand. False: the end mark was taken. After an error
+    /// the place is as it was.
+    fn go_on(&mut self) -> Result<bool, RunTextError>
+        requires going { self.old.place ≢ Ended }
+        ensures heading { heading_of self.new.head ≡ heading_of self.old.head }
+        ensures begun { IfOk result (λ more. MatchBool more
+            ((self.new.place ≡ AtTerm)
+            × BeginsTerm (MayYield R.remaining) HasRead IsDrained self.old self.new
+            (string_bytes self.new.term))
+            ((self.new.place ≡ Ended)
+            × EndsTerms (MayYield R.remaining) HasRead IsDrained self.old self.new)) }
+        ensures accepted { (entries : List DictionaryEntry) (postings : List Posting)
+            → Faces R.remaining self.old postings entries
+            → MatchResult result (λ more.
+            MatchBool more (BeginsFirst R.remaining self.new entries) (entries ≡ [])) IsRefusal }
+    {
+        self.skip()?;
+        let found = read_term(
+            &mut self.input,
+            &self.head.stop,
+            &mut self.scratch,
+            &mut self.term,
+        )?;
+        let Some(counts) = found else {
+            self.place = Place::Ended;
+            return Ok(false);
+        };
+        self.place = Place::AtTerm;
+        self.next = 0;
+        self.documents = counts.documents;
+        self.bytes = counts.bytes as usize;
+        Ok(true)
+    }
+
+    /// `next_posting`, of which it is known too which bytes it took.
+    #[inline(always)]
+    fn next_of_list(&mut self, positions: &mut Vec<u32>) -> Result<Option<u32>, RunTextError>
+        requires { IsSome (term_of self.old) }
+        ensures heading { heading_read self.new ≡ heading_read self.old }
+        ensures current { term_of self.new ≡ term_of self.old }
+        ensures given { IfOk result (λ found. MatchOption found
+            (IsDrained self.new × EndsPostings (MayYield R.remaining) HasRead self.old self.new)
+            (λ document. GivesPosting (MayYield R.remaining) HasRead self.old self.new
+            (document, positions.new.items))) }
+        ensures drained { IsDrained self.old → result ≡ Ok None }
+        ensures fault { IfErr result (MayFault R.remaining self.old) }
+        ensures no_more_faults { OnOk result
+            (KeepsFaults (MayFault R.remaining) self.old self.new) }
+
+        // Fewer are left.
+        ensures counted { IfOk result (λ found.
+            IfSome found (λ _. postings_left self.new < postings_left self.old)) }
+
+        // Where postings of a lawful dictionary lie ahead, the next one is given, unless a read or memory is refused.
+        ensures accepted { (postings : List Posting) (entries : List DictionaryEntry)
+            → Faces R.remaining self.old postings entries
+            → MatchResult result (λ found.
+            MatchOption found ((postings ≡ []) × Faces R.remaining self.new [] entries)
+            (λ document. GivesFirst R.remaining self.new
+            (document, positions.new.items) postings entries)) IsRefusal }
+
+        // What a refusal leaves.
+        ensures refused { OnErr result (HasFailed self.new) }
+        ensures failed { HasFailed self.old → result ≡ Err Refused }
+
+        // What it took.
+        ensures taken { IfOk result (λ found. IfSome found (λ document.
+            TookPosting self.old self.new (document, positions.new.items))) }
+    {
+        if matches!(self.place, Place::Failed) {
+            return Err(RunTextError::Failed);
+        }
+        if self.documents == 0 {
+            return Ok(None);
+        }
+        match self.posting(positions) {
+            Ok(document) => Ok(Some(document)),
+            Err(error) => {
+                self.fail();
+                Err(error)
+            }
+        }
+    }
+
+    /// From now on each call is refused.
+    fn fail(&mut self)
+        ensures place { self.new.place ≡ Failed }
+        ensures term { self.new.term ≡ self.old.term }
+        ensures heading { heading_of self.new.head ≡ heading_of self.old.head }
+    {
+        self.place = Place::Failed;
+        self.documents = 0;
+        self.bytes = 0;
+    }
+}
+
+mod listing;
+mod reading;

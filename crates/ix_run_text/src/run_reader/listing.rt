@@ -1,0 +1,76 @@
+//! The postings of a list, one by one into a list of a whole collection.
+
+use super::RunReader;
+use crate::copying::{TakenPosting, push_taken};
+use crate::{ListError, Listed, RunTextError};
+use std::io::Read;
+
+impl<R: Read + Drop> RunReader<R> {
+    ghost use Rattle.std.specs.Prelude.{◌≡◌, ◌≤◌, List, Some, IsSome, IfErr, IfOk, OnErr, OnOk};
+    ghost use Rattle.ix_text.specs.Parts.{DictionaryEntry};
+    ghost use Rattle.ix_run_text.specs.Reading.{HasRead, IsDrained, MayYield, term_of};
+    ghost use Rattle.ix_run_text.specs.RunReaders.{heading_read};
+    ghost use Rattle.ix_run_text.specs.Sources.{GivesList, KeepsFaults};
+    ghost use Rattle.ix_run_text.specs.Faults.{IsListFault, MayFault};
+
+    /// `take_list`, with room for the positions of one posting.
+    pub(super) fn take_postings(
+        &mut self,
+        next: u32,
+        positions: &mut Vec<u32>,
+        out: &mut Vec<u8>,
+    ) -> Result<Listed, ListError<RunTextError>>
+        requires at_hand { IsSome (term_of self.old) }
+        requires begun { (finished : List DictionaryEntry)
+            × ((entry : DictionaryEntry) × HasRead self.old finished (Some entry)) }
+        requires low { next ≤ (heading_read self.old).first }
+        ensures heading { heading_read self.new ≡ heading_read self.old }
+        ensures current { term_of self.new ≡ term_of self.old }
+        ensures drained { OnOk result (IsDrained self.new) }
+        ensures given { IfOk result (λ listed. GivesList (MayYield R.remaining) HasRead
+            self.old self.new (heading_read self.old).first next listed.documents listed.next
+            out.old.items out.new.items) }
+        ensures refused { OnErr result (out.new.items ≡ out.old.items) }
+        ensures fault { IfErr result (IsListFault (MayFault R.remaining self.old)) }
+        ensures no_more_faults { OnOk result
+            (KeepsFaults (MayFault R.remaining) self.old self.new) }
+    {
+        let first = self.head.first;
+        let start = out.len();
+        let mut listed = Listed { documents: 0, next };
+        'postings: loop {
+            let before = self.next;
+            let bytes = self.bytes;
+            match self.next_of_list(positions) {
+                Ok(None) => return Ok(listed),
+                Ok(Some(document)) => {
+                    let taken = TakenPosting {
+                        gap: document + 1 - before,
+                        bytes: bytes - self.bytes,
+                    };
+                    let document = first + document;
+                    if push_taken(
+                        &self.input,
+                        taken,
+                        listed.next,
+                        document,
+                        positions,
+                        out,
+                    ).is_err()
+                    {
+                        out.truncate(start);
+                        return Err(ListError::Memory);
+                    }
+                    listed = Listed {
+                        documents: listed.documents + 1,
+                        next: document + 1,
+                    };
+                }
+                Err(error) => {
+                    out.truncate(start);
+                    return Err(ListError::Source(error));
+                }
+            }
+        }
+    }
+}

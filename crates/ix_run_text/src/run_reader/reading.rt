@@ -1,0 +1,162 @@
+//! What a reader of a run text tells as a source: its terms, their postings, and its lists as they are coded.
+
+use super::{Place, RunReader};
+use crate::{ListError, Listed, RunHead, RunTextError, Source};
+use std::io::Read;
+use std::mem::replace;
+
+impl<R: Read + Drop> Source for RunReader<R> {
+    ghost use Rattle.std.specs.Prelude.{◌≡◌, ◌<◌, ◌≤◌, ◌∷◌, [], List, ℕ, Some, None, Ok, Err, false, IsSome, IfErr, IfOk, IfSome, OnErr, OnOk, MatchBool, MatchOption, MatchResult};
+    ghost use Rattle.ix_text.specs.Parts.{DictionaryEntry, Posting};
+    ghost use Rattle.ix_run_text.specs.Reading.{BeginsFirst, Faces, GivesFirst, HasFailed, HasRead, IsDrained, IsEnded, MayYield, postings_left, term_of};
+    ghost use Rattle.ix_run_text.specs.RunReaders.{heading_read};
+    ghost use Rattle.ix_run_text.specs.RunTextErrors.{IsRefusal};
+    ghost use Rattle.ix_run_text.specs.Sources.{BeginsTerm, EndsTerms, EndsPostings, GivesList, GivesPosting, KeepsFaults};
+    ghost use Rattle.ix_run_text.specs.Faults.{IsListFault, MayFault};
+    ghost use Rattle.ix_run_text.specs.declared.run_text_error.RunTextError.TheVariants.{Failed};
+
+    type Error = RunTextError;
+
+    ghost heading = { heading_read };
+
+    ghost current = { term_of };
+
+    ghost yields = { MayYield R.remaining };
+
+    ghost gives = { HasRead };
+
+    ghost is_drained = { IsDrained };
+
+    ghost is_ended = { IsEnded };
+
+    ghost faults = { MayFault R.remaining };
+
+    fn head(&self) -> &RunHead {
+        &self.head
+    }
+
+    /// Goes on to the next term, over the postings of the one at hand that were not asked for. False: there is none,
+    /// now and at each later call.
+    ///
+    /// Of the postings gone over the errors of `next_posting`; of the term, in this order, `TermSize` above 255 bytes,
+    /// `Text`, `TermOrder` where it does not stand above the term before, `StopIndexed` where it is a stop term, and
+    /// `Zero` where it has no document; `Number` where a code is faulty or the input ends inside a number or the term;
+    /// `Extra` where a byte stands behind the end mark; `Read` where the reader refused, and `Memory`; after any
+    /// error `Failed`.
+    fn next_term(&mut self) -> Result<bool, RunTextError>
+        ensures heading { heading_read self.new ≡ heading_read self.old }
+        ensures begun { IfOk result (λ more. MatchBool more
+            ((term : List ℕ) × (term_of self.new ≡ Some term)
+            × BeginsTerm (MayYield R.remaining) HasRead IsDrained self.old self.new term)
+            ((term_of self.new ≡ None) × IsEnded self.new
+            × EndsTerms (MayYield R.remaining) HasRead IsDrained self.old self.new)) }
+        ensures ended { IsEnded self.old → (result ≡ Ok false) × IsEnded self.new }
+        ensures fault { IfErr result (MayFault R.remaining self.old) }
+        ensures no_more_faults { OnOk result
+            (KeepsFaults (MayFault R.remaining) self.old self.new) }
+
+        // Where a lawful dictionary lies ahead, its next entry is begun, unless a read or memory is refused.
+        ensures accepted { (postings : List Posting) (entries : List DictionaryEntry)
+            → Faces R.remaining self.old postings entries
+            → MatchResult result (λ more.
+            MatchBool more (BeginsFirst R.remaining self.new entries) (entries ≡ [])) IsRefusal }
+
+        // What a refusal leaves.
+        ensures refused { OnErr result (HasFailed self.new) }
+        ensures failed { HasFailed self.old → result ≡ Err Failed }
+    {
+        match self.place {
+            Place::Failed => Err(RunTextError::Failed),
+            Place::Ended => Ok(false),
+            Place::Begun | Place::AtTerm => match self.go_on() {
+                Ok(more) => Ok(more),
+                Err(error) => {
+                    self.fail();
+                    Err(error)
+                }
+            },
+        }
+    }
+
+    fn term(&self) -> &str {
+        self.term.as_str()
+    }
+
+    /// The document of the next posting of the term at hand, whose positions are put into `positions` in place of what
+    /// it held. None: there is no further one, now and at each later call for this term.
+    ///
+    /// In the order of the bytes: `Number` where a code is faulty or the input ends inside it; `ListLength` where the
+    /// list ends inside a posting, before its last one, or behind it; `Zero` where a gap or the number of positions is
+    /// 0; `DocRange` where the run has no such document; `PositionRange` where the document has no such position;
+    /// `Doubled` where another term has that position; `Read` where the reader refused, and `Memory`; after any error
+    /// `Failed`.
+    #[inline]
+    fn next_posting(&mut self, positions: &mut Vec<u32>) -> Result<Option<u32>, RunTextError>
+        requires { IsSome (term_of self.old) }
+        ensures heading { heading_read self.new ≡ heading_read self.old }
+        ensures current { term_of self.new ≡ term_of self.old }
+        ensures given { IfOk result (λ found. MatchOption found
+            (IsDrained self.new × EndsPostings (MayYield R.remaining) HasRead self.old self.new)
+            (λ document. GivesPosting (MayYield R.remaining) HasRead self.old self.new
+            (document, positions.new.items))) }
+        ensures drained { IsDrained self.old → result ≡ Ok None }
+        ensures fault { IfErr result (MayFault R.remaining self.old) }
+        ensures no_more_faults { OnOk result
+            (KeepsFaults (MayFault R.remaining) self.old self.new) }
+
+        // Fewer are left.
+        ensures counted { IfOk result (λ found.
+            IfSome found (λ _. postings_left self.new < postings_left self.old)) }
+
+        // Where postings of a lawful dictionary lie ahead, the next one is given, unless a read or memory is refused.
+        ensures accepted { (postings : List Posting) (entries : List DictionaryEntry)
+            → Faces R.remaining self.old postings entries
+            → MatchResult result (λ found.
+            MatchOption found ((postings ≡ []) × Faces R.remaining self.new [] entries)
+            (λ document. GivesFirst R.remaining self.new
+            (document, positions.new.items) postings entries)) IsRefusal }
+
+        // What a refusal leaves.
+        ensures refused { OnErr result (HasFailed self.new) }
+        ensures failed { HasFailed self.old → result ≡ Err Failed }
+    {
+        self.next_of_list(positions)
+    }
+
+    /// Appends all postings of the term at hand that are left, coded as one list: their documents counted in the
+    /// whole collection, and the first gap taken from `next`, which is one above the document before them, or 0. Each
+    /// is checked as `next_posting` does it; of several positions the bytes are mostly copied.
+    ///
+    /// `ListError::Memory` where the list finds no room, and `ListError::Source` with the errors of `next_posting`. A
+    /// refusal leaves the term at hand, and `out` as it was; some postings of the term may have been passed.
+    fn take_list(&mut self, next: u32, out: &mut Vec<u8>) -> Result<Listed, ListError<RunTextError>>
+        requires at_hand { IsSome (term_of self.old) }
+        requires begun { (finished : List DictionaryEntry)
+            × ((entry : DictionaryEntry) × HasRead self.old finished (Some entry)) }
+        requires low { next ≤ (heading_read self.old).first }
+        ensures heading { heading_read self.new ≡ heading_read self.old }
+        ensures current { term_of self.new ≡ term_of self.old }
+        ensures drained { OnOk result (IsDrained self.new) }
+        ensures given { IfOk result (λ listed. GivesList (MayYield R.remaining) HasRead
+            self.old self.new (heading_read self.old).first next listed.documents listed.next
+            out.old.items out.new.items) }
+        ensures refused { OnErr result (out.new.items ≡ out.old.items) }
+        ensures fault { IfErr result (IsListFault (MayFault R.remaining self.old)) }
+        ensures no_more_faults { OnOk result
+            (KeepsFaults (MayFault R.remaining) self.old self.new) }
+    {
+        let mut positions = replace(&mut self.positions, Vec::new(self.alloc));
+        let listed = self.take_postings(next, &mut positions, out);
+        self.positions = positions;
+        listed
+    }
+
+    ghost drained_without_term = { λ reader none some. absurd (some none) };
+
+    ghost given_lawfully = { λ reader finished at_hand read. read.lawful };
+
+    ghost given_of_term = { λ reader finished at_hand read. read.of_term };
+
+    ghost yielded_lawfully = { λ reader finished at_hand postings entries read may.
+        may.whole finished at_hand read };
+}
