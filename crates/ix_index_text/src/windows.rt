@@ -19,7 +19,8 @@ pub struct Gram {
     pub third: char,
 }
 
-/// A gram of a term, and the term's number. The order of the characters is that of their UTF-8 bytes.
+/// A gram of a term, and the term's number: proofs of the writer speak of such pairs, and a reader counts them. The order
+/// of the characters is that of their UTF-8 bytes.
 #[derive(Clone, Copy, PartialEq, Eq, PartialOrd, Ord)]
 pub struct GramPair {
     /// The first character.
