@@ -20,8 +20,8 @@ pub use ix_index_text::{
 pub use ix_vbyte::VbError;
 pub use ix_vbyte::cursor::{Positions, Posting, Postings};
 pub use laws::{
-    index_text_has_bytes_for_entries, opened_grams_are_of_the_collection,
-    opened_parts_are_lawful, opened_postings_are_of_the_collection,
+    index_text_has_bytes_for_entries, opened_grams_are_of_the_collection, opened_parts_are_lawful,
+    opened_postings_are_of_the_collection,
 };
 pub use numbers::Numbers;
 pub use open_error::{OpenError, Section};
