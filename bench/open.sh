@@ -9,7 +9,7 @@ needs rt python3
 copy_crates ix_text ix_vbyte ix_index_text ix_file
 add_program open ix_file ix_vbyte anyhow
 if [ $# -eq 0 ]; then
-    add_program writer ix_index_text ix_file ix_text ix_vbyte anyhow
+    add_program writer ix_file ix_text ix_vbyte anyhow
     build writer_bench
     (cd "$work" && "$(built writer_bench)" > /dev/null)
     set -- "$work/ix_writer_bench"

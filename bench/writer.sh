@@ -6,7 +6,7 @@
 needs rt rustc
 
 copy_crates ix_text ix_vbyte ix_index_text ix_file
-add_program writer ix_index_text ix_file ix_text ix_vbyte anyhow
+add_program writer ix_file ix_text ix_vbyte anyhow
 build writer_bench
 rustc -C opt-level=3 -o "$work/plain" "$bench/writer/main.rs"
 

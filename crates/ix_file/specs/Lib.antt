@@ -30,6 +30,9 @@ pub use Rattle.ix_index_text.specs.Sections
 pub use Rattle.ix_index_text.specs.Telling
 pub use Rattle.ix_index_text.specs.Told
 pub use Rattle.ix_index_text.specs.Writers
+pub use Rattle.ix_index_text.specs.declared.row.DocRow
+pub use Rattle.ix_index_text.specs.declared.sections.WriterSections
+pub use Rattle.ix_index_text.specs.declared.writer.IndexWriter
 pub use Rattle.ix_vbyte.specs.Code
 pub use Rattle.ix_vbyte.specs.Gaps
 pub use Rattle.ix_vbyte.specs.Postings
