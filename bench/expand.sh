@@ -5,7 +5,7 @@
 . "$(dirname "$0")/prelude.sh"
 needs rt python3
 
-copy_crates ix_text ix_vbyte ix_file ix_gram
+copy_crates ix_text ix_vbyte ix_index_text ix_file ix_gram
 add_program expand ix_file ix_gram anyhow
 build expand_bench
 

@@ -5,7 +5,7 @@
 . "$(dirname "$0")/prelude.sh"
 needs rt python3
 
-copy_crates ix_text ix_vbyte ix_board ix_run_text ix_run ix_file ix_merge ix_build
+copy_crates ix_text ix_vbyte ix_board ix_run_text ix_run ix_index_text ix_file ix_merge ix_build
 add_program workers ix_build ix_merge ix_run ix_text anyhow
 build workers_bench
 

@@ -5,7 +5,7 @@
 . "$(dirname "$0")/prelude.sh"
 needs rt rustc
 
-copy_crates ix_text ix_vbyte ix_file
+copy_crates ix_text ix_vbyte ix_index_text ix_file
 add_program writer ix_file ix_text ix_vbyte anyhow
 build writer_bench
 rustc -C opt-level=3 -o "$work/plain" "$bench/writer/main.rs"

@@ -15,7 +15,8 @@ use Rattle.ix_text.specs.TokenNumbers.{AreDistinct, numbers_of_postings}
 use Rattle.ix_text.proofs.PartsLawful.{sum_by-map}
 use Rattle.ix_text.proofs.TokenStarts.{count_of}
 use Rattle.ix_file.specs.Claimed.{HasClaimed, HaveClaimed}
-use Rattle.ix_file.specs.Listings.{AreLaidOut, HasListedCounts, Listing, listing_in, listings_in, sizes_sum}
+use Rattle.ix_index_text.specs.Listings.{Listing}
+use Rattle.ix_file.specs.ReadListings.{AreLaidOut, HasListedCounts, listing_in, listings_in, sizes_sum}
 use Rattle.ix_file.specs.ReadLists.{AreClaimedLists, AreListedIn, AreListsIn, IsListOf, list_in}
 use Rattle.ix_file.specs.declared.open.claims.Claims.{Claims}
 use Rattle.ix_file.specs.PlacedTerms.{PlacedTerm}

@@ -14,11 +14,11 @@ use Rattle.ix_vbyte.specs.Gaps.{gaps_from, gaps_of}
 use Rattle.ix_vbyte.specs.Postings.{codes_of, posting_bytes, list_bytes, list_bytes_from}
 use Rattle.ix_vbyte.specs.Texts.{counted}
 use Rattle.ix_vbyte.proofs.Values.{some_code_byte}
-use Rattle.ix_file.specs.IndexText.{layout, tail}
-use Rattle.ix_file.specs.Sections.{Version, Plain, FrontCoded, postings_section, stop_section, documents_section, entry_counts, front_coded, grouped, front_coded_from, dictionary_section, grams_section}
+use Rattle.ix_index_text.specs.IndexText.{layout, tail}
+use Rattle.ix_index_text.specs.Sections.{Version, Plain, FrontCoded, postings_section, stop_section, documents_section, entry_counts, front_coded, grouped, front_coded_from, dictionary_section, grams_section}
 use Rattle.ix_file.specs.SizeLaws.{HasBytesForEntries}
-use Rattle.ix_file.proofs.GramLists.{one_gram_list, one_vocabulary}
-use Rattle.ix_file.proofs.TextLaws.{length-magic, length-end_mark}
+use Rattle.ix_index_text.proofs.GramLists.{one_gram_list, one_vocabulary}
+use Rattle.ix_index_text.proofs.TextLaws.{length-magic, length-end_mark}
 
 -- ---- pieces of some bytes each
 

@@ -8,9 +8,9 @@ use Rattle.std.proofs.lemmas.Nat.{le_bytes_4, le_bytes_8, from_le_bytes-to_le_by
 use Rattle.std.specs.Int.{to_le_bytes, from_le_bytes, w32, w64}
 use Rattle.ix_vbyte.proofs.Pieces.{fronts_apart}
 use Rattle.ix_file.specs.Frames.{FileSectionTexts, eight, four, joined_sections, lengths, counts, framed, IsCutInto}
-use Rattle.ix_file.specs.IndexText.{magic, end_mark}
-use Rattle.ix_file.specs.Sections.{Version, Plain, FrontCoded}
-use Rattle.ix_file.proofs.TextLaws.{length-magic, length-end_mark}
+use Rattle.ix_index_text.specs.IndexText.{magic, end_mark}
+use Rattle.ix_index_text.specs.Sections.{Version, Plain, FrontCoded}
+use Rattle.ix_index_text.proofs.TextLaws.{length-magic, length-end_mark}
 
 pub length-eight : (n : ℕ) → length (eight n) ≡ 8
 unfolding eight

@@ -4,11 +4,11 @@ use Rattle.std.proofs.lemmas.List.{append_assoc}
 use Rattle.ix_text.specs.Parts.{GramEntry, Parts}
 use Rattle.ix_vbyte.proofs.Pieces.{fronts_apart}
 use Rattle.ix_file.specs.Frames.{FileSectionTexts, IsCutInto, counts, eight, four, framed, joined_sections, lengths}
-use Rattle.ix_file.specs.IndexText.{end_mark, layout, magic, tail}
-use Rattle.ix_file.specs.Sections.{Version}
+use Rattle.ix_index_text.specs.IndexText.{end_mark, layout, magic, tail}
+use Rattle.ix_index_text.specs.Sections.{Version}
 use Rattle.ix_file.specs.Spelled.{AreSectionsOf, sections_of}
 use Rattle.ix_file.proofs.FrameReading.{eight_apart, four_apart, frame_of, length-four, length-lengths, one_mark}
-use Rattle.ix_file.proofs.TextLaws.{length-end_mark, length-magic}
+use Rattle.ix_index_text.proofs.TextLaws.{length-end_mark, length-magic}
 
 -- the bytes of parts and grams are the frame of their sections
 pub layout_framed : (version : Version) (parts : Parts) (grams : List GramEntry) → layout version parts grams ≡ framed version (sections_of version parts grams) (length parts.rows) (length parts.entries)

@@ -11,7 +11,7 @@ use Rattle.ix_text.specs.StopSets.{HasTermSize}
 use Rattle.ix_vbyte.specs.Code.{code_of}
 use Rattle.ix_vbyte.specs.Texts.{counted}
 use Rattle.ix_vbyte.proofs.Values.{code_of-apart}
-use Rattle.ix_file.specs.Sections.{front_coded}
+use Rattle.ix_index_text.specs.Sections.{front_coded}
 use Rattle.ix_file.specs.TermReading.{IsLongestFront}
 use Rattle.ix_file.proofs.AscendingLemmas.{less_from_pair}
 

@@ -16,9 +16,9 @@ use Rattle.ix_vbyte.proofs.Texts.{counted-apart}
 use Rattle.ix_vbyte.proofs.Values.{some_code_byte, code_of-apart}
 use Rattle.ix_vbyte.proofs.Walks.{positions_from, Told}
 use Rattle.ix_file.specs.declared.open.grams.GramRow.{GramRow}
-use Rattle.ix_file.specs.GramTables.{entry}
+use Rattle.ix_index_text.specs.GramTables.{entry}
 use Rattle.ix_file.specs.OpenedGrams.{AreCutRows, CutsEntry, IsGramRow, IsListedGram, LiesIn, cut_bytes, gap_codes, gram_bytes, gram_in, grams_in, numbers_claimed}
-use Rattle.ix_file.specs.Sections.{grams_section}
+use Rattle.ix_index_text.specs.Sections.{grams_section}
 use Rattle.ix_file.proofs.AscendingLemmas.{ascending_front, ascending_none, follows, followed, from_borrowed, to_borrowed, MayFollowBorrowed}
 use Rattle.ix_file.proofs.Continuing.{GoesOn, HasNext, read_more}
 use Rattle.ix_file.proofs.GramReading.{bytes_split, long_codes}

@@ -12,7 +12,7 @@ use Rattle.ix_text.proofs.AscendingLists.{contains_first, contains_later, contai
 use Rattle.ix_text.specs.ByteOrder.{IsAscending}
 use Rattle.ix_text.specs.Parts.{GramEntry, HasNumber, IsGramEntry}
 use Rattle.ix_vbyte.proofs.Gaps.{Ascends-rising, Ascends-from}
-use Rattle.ix_file.specs.Grams.{AreGramsOfTerms, IsGramOfTerm}
+use Rattle.ix_index_text.specs.Grams.{AreGramsOfTerms, IsGramOfTerm}
 use Rattle.ix_file.specs.GramPairs.{StandOnce, AreAllPairs}
 use Rattle.ix_file.specs.OpenedGrams.{IsRightEntry, numbers_listed}
 use Rattle.ix_file.proofs.GramFinding.{texts_of}

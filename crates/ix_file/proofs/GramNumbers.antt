@@ -9,7 +9,7 @@ use Rattle.ix_vbyte.specs.Gaps.{Ascends, gaps_from, gaps_of, next_after}
 use Rattle.ix_vbyte.specs.Postings.{codes_of}
 use Rattle.ix_vbyte.proofs.Gaps.{Ascends-push, next_after-push, gaps_from-push}
 use Rattle.ix_vbyte.proofs.Values.{code_of-apart}
-use Rattle.ix_file.specs.Grams.{IsGramOfTerm}
+use Rattle.ix_index_text.specs.Grams.{IsGramOfTerm}
 use Rattle.ix_file.specs.OpenedGrams.{AreNumbersOf, gap_codes}
 use Rattle.ix_file.specs.PlacedTerms.{PlacedTerm, terms_in}
 use Rattle.ix_file.proofs.PairCounts.{text_of}

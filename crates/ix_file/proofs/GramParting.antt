@@ -7,17 +7,17 @@ use Rattle.std.proofs.lemmas.Option.{get_or_from_slice_get, slice_get_within}
 use Rattle.ix_text.proofs.AscendingLists.{contains_map, contained_from_map}
 use Rattle.ix_text.specs.Windows.{grams_of}
 use Rattle.ix_file.specs.declared.open.grams.GramRow.{GramRow}
-use Rattle.ix_file.specs.declared.open.pairs.GramPair.{GramPair}
+use Rattle.ix_index_text.specs.declared.windows.GramPair.{GramPair}
 use Rattle.ix_file.specs.declared.open.sides.Side.TheVariants.{Below, From}
-use Rattle.ix_file.specs.declared.windows.Gram.{Gram}
+use Rattle.ix_index_text.specs.declared.windows.Gram.{Gram}
 use Rattle.ix_file.specs.GramSides.{AreChars, IsKeyOf, gram_key}
-use Rattle.ix_file.specs.GramTables.{text_of}
+use Rattle.ix_index_text.specs.GramTables.{text_of}
 use Rattle.ix_file.specs.GramWalks.{AreAllListed, AreListedOn, IsListed}
-use Rattle.ix_file.specs.TermWindows.{windows_of_term}
-use Rattle.ix_file.specs.WindowPairs.{gram_of, pairs_of_term}
+use Rattle.ix_index_text.specs.TermWindows.{windows_of_term}
+use Rattle.ix_index_text.specs.WindowPairs.{gram_of, pairs_of_term}
 use Rattle.ix_file.proofs.GramWindows.{pair_tells}
-use Rattle.ix_file.proofs.HeldLemmas.{term_has}
-use Rattle.ix_file.proofs.TermPairs.{paired, windows-paired}
+use Rattle.ix_index_text.proofs.HeldLemmas.{term_has}
+use Rattle.ix_index_text.proofs.TermPairs.{paired, windows-paired}
 
 -- ---- keys
 

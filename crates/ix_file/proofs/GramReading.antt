@@ -9,10 +9,10 @@ use Rattle.ix_vbyte.specs.Postings.{codes_of}
 use Rattle.ix_vbyte.specs.Texts.{counted}
 use Rattle.ix_vbyte.proofs.Values.{some_code_byte}
 use Rattle.ix_file.specs.PlacedTerms.{PlacedTerm, terms_in}
-use Rattle.ix_file.specs.Grams.{IsGramOfTerm}
+use Rattle.ix_index_text.specs.Grams.{IsGramOfTerm}
 use Rattle.ix_file.specs.OpenedGrams.{IsRightEntry, gap_codes, gram_bytes}
 use Rattle.ix_file.proofs.GramTexts.{HasCharacters, gram_characters}
-use Rattle.ix_file.specs.GramTables.{entry}
+use Rattle.ix_index_text.specs.GramTables.{entry}
 
 pub bytes_split : (entry : GramEntry) (other : List ℕ) → gram_bytes entry ++ other ≡ counted entry.gram ++ (code_of (length entry.numbers) ++ (gap_codes entry.numbers ++ other))
 bytes_split entry other =

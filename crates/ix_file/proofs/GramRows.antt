@@ -8,8 +8,8 @@ use Rattle.ix_text.specs.Parts.{GramEntry}
 use Rattle.ix_text.specs.Terms.{IsTerm}
 use Rattle.ix_vbyte.specs.Code.{code_of}
 use Rattle.ix_vbyte.specs.Texts.{counted}
-use Rattle.ix_file.specs.Grams.{AreGramsOfTerms}
-use Rattle.ix_file.specs.Sections.{grams_section}
+use Rattle.ix_index_text.specs.Grams.{AreGramsOfTerms}
+use Rattle.ix_index_text.specs.Sections.{grams_section}
 use Rattle.ix_file.proofs.GramKeys.{right_entries}
 use Rattle.ix_vbyte.specs.Gaps.{Ascends, gaps_from, next_after}
 use Rattle.ix_vbyte.specs.Postings.{codes_of}
@@ -17,10 +17,10 @@ use Rattle.ix_vbyte.specs.Walking.{positions_told}
 use Rattle.ix_vbyte.proofs.Gaps.{Ascends-wider}
 use Rattle.ix_vbyte.proofs.Walks.{positions_from, Told}
 use Rattle.ix_file.specs.declared.open.grams.GramRow.{GramRow}
-use Rattle.ix_file.specs.declared.open.pairs.GramPair.{GramPair}
+use Rattle.ix_index_text.specs.declared.windows.GramPair.{GramPair}
 use Rattle.ix_file.specs.OpenedGrams.{AreCutRows, AreNumbersOf, AreRightRows, IsGramRow, IsListedGram, IsRightEntry, IsRightRow, LiesIn, cut_bytes, gap_codes, gram_bytes, gram_in, grams_in, numbers_claimed, numbers_listed}
 use Rattle.ix_file.specs.PlacedTerms.{PlacedTerm, terms_in}
-use Rattle.ix_file.specs.WindowPairs.{gram_of}
+use Rattle.ix_index_text.specs.WindowPairs.{gram_of}
 use Rattle.ix_file.proofs.GramNumbers.{go_on}
 use Rattle.ix_file.proofs.GramReading.{entry_characters}
 use Rattle.ix_file.proofs.GramSections.{same_numbers, text_in, texts_in}

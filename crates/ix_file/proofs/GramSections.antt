@@ -12,10 +12,10 @@ use Rattle.ix_vbyte.proofs.Gaps.{length-gaps_from}
 use Rattle.ix_vbyte.proofs.Texts.{counted-apart}
 use Rattle.ix_vbyte.proofs.Values.{some_code_byte, code_of-apart}
 use Rattle.ix_file.specs.declared.open.grams.GramRow.{GramRow}
-use Rattle.ix_file.specs.GramTables.{entry}
-use Rattle.ix_file.specs.Grams.{AreGramsOfTerms}
+use Rattle.ix_index_text.specs.GramTables.{entry}
+use Rattle.ix_index_text.specs.Grams.{AreGramsOfTerms}
 use Rattle.ix_file.specs.OpenedGrams.{AreRightRows, IsRightEntry, gap_codes, gram_bytes, gram_in, grams_in, numbers_listed}
-use Rattle.ix_file.specs.Sections.{grams_section}
+use Rattle.ix_index_text.specs.Sections.{grams_section}
 use Rattle.ix_file.proofs.Continuing.{GoesOn}
 use Rattle.ix_file.proofs.GramKeys.{right_entries, keys_of, as_many, all_keys, length_keys}
 use Rattle.ix_file.proofs.GramNumbers.{go_on}

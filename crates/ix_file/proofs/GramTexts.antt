@@ -8,10 +8,10 @@ use Rattle.std.specs.Str.{chars}
 use Rattle.ix_text.proofs.AscendingLists.{contains_cases, contains_none}
 use Rattle.ix_text.specs.Terms.{IsTerm}
 use Rattle.ix_text.specs.Windows.{grams_of}
-use Rattle.ix_file.specs.declared.open.pairs.GramPair.{GramPair}
-use Rattle.ix_file.specs.WindowPairs.{gram_of, pairs_of}
-use Rattle.ix_file.proofs.HeldLemmas.{chars-marked, term_has}
-use Rattle.ix_file.proofs.TermPairs.{pair}
+use Rattle.ix_index_text.specs.declared.windows.GramPair.{GramPair}
+use Rattle.ix_index_text.specs.WindowPairs.{gram_of, pairs_of}
+use Rattle.ix_index_text.proofs.HeldLemmas.{chars-marked, term_has}
+use Rattle.ix_index_text.proofs.TermPairs.{pair}
 
 three_so : (x y z w : Bool) → (x && (y && (z && w))) ≡ true → (x && (y && (z && true))) ≡ true
 three_so true true true w e = refl

@@ -14,17 +14,17 @@ use Rattle.ix_vbyte.specs.Postings.{codes_of}
 use Rattle.ix_vbyte.proofs.Gaps.{next_after-le}
 use Rattle.ix_file.specs.declared.open.gram_walk.Cursor.{Cursor}
 use Rattle.ix_file.specs.declared.open.grams.GramRow.{GramRow}
-use Rattle.ix_file.specs.declared.open.pairs.GramPair.{GramPair}
+use Rattle.ix_index_text.specs.declared.windows.GramPair.{GramPair}
 use Rattle.ix_file.specs.declared.open.sides.Side.{Side}
-use Rattle.ix_file.specs.declared.windows.Gram.{Gram}
+use Rattle.ix_index_text.specs.declared.windows.Gram.{Gram}
 use Rattle.ix_file.specs.GramSides.{AreChars, IsKeyOf, IsOn, gram_key}
-use Rattle.ix_file.specs.GramTables.{text_of}
+use Rattle.ix_index_text.specs.GramTables.{text_of}
 use Rattle.ix_file.specs.GramWalks.{AreAllListed, AreListedOn, AreListedUpTo, HasRead, HaveRead, IsAtEnd, IsCursorOf, IsListed, IsListedNext, IsRead, gap_bytes}
-use Rattle.ix_file.specs.Grams.{AreGramsOfTerms, IsGramOfTerm}
+use Rattle.ix_index_text.specs.Grams.{AreGramsOfTerms, IsGramOfTerm}
 use Rattle.ix_file.specs.OpenedGrams.{AreNumbersOf, AreRightRows, IsRightRow, LiesIn, gram_in, grams_in}
 use Rattle.ix_file.specs.PlacedTerms.{PlacedTerm, terms_in}
-use Rattle.ix_file.specs.TermWindows.{windows_of_term}
-use Rattle.ix_file.specs.WindowPairs.{gram_of}
+use Rattle.ix_index_text.specs.TermWindows.{windows_of_term}
+use Rattle.ix_index_text.specs.WindowPairs.{gram_of}
 use Rattle.ix_file.proofs.AllLists.{zip_push}
 use Rattle.ix_file.proofs.GramKeys.{all_listed}
 use Rattle.ix_file.proofs.GramNumbers.{NumbersRead, go_on, one_read}
@@ -32,7 +32,7 @@ use Rattle.ix_file.proofs.GramRows.{row_right}
 use Rattle.ix_file.proofs.GramParting.{key_tells, window_there}
 use Rattle.ix_file.proofs.GramSections.{text_in}
 use Rattle.ix_file.proofs.PairCounts.{number_within}
-use Rattle.ix_file.proofs.TermPairs.{paired}
+use Rattle.ix_index_text.proofs.TermPairs.{paired}
 
 -- ---- one number
 

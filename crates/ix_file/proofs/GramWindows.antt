@@ -5,14 +5,14 @@ use Rattle.std.specs.Char.{encode_utf8}
 use Rattle.std.specs.Str.{chars}
 use Rattle.ix_text.proofs.AscendingLists.{contains_first, contains_later, contains_cases, contains_none}
 use Rattle.ix_text.specs.Windows.{grams_of}
-use Rattle.ix_file.specs.declared.open.pairs.GramPair.{GramPair}
-use Rattle.ix_file.specs.declared.windows.Gram.{Gram}
-use Rattle.ix_file.specs.TermWindows.{windows_of_term}
-use Rattle.ix_file.specs.WindowPairs.{gram_of, pairs_of_term}
-use Rattle.ix_file.proofs.HeldLemmas.{term_has}
-use Rattle.ix_file.proofs.PairGrams.{gram_tells}
-use Rattle.ix_file.proofs.TermPairs.{paired, windows-paired}
-use Rattle.ix_file.proofs.WindowSteps.{no_chars}
+use Rattle.ix_index_text.specs.declared.windows.GramPair.{GramPair}
+use Rattle.ix_index_text.specs.declared.windows.Gram.{Gram}
+use Rattle.ix_index_text.specs.TermWindows.{windows_of_term}
+use Rattle.ix_index_text.specs.WindowPairs.{gram_of, pairs_of_term}
+use Rattle.ix_index_text.proofs.HeldLemmas.{term_has}
+use Rattle.ix_index_text.proofs.PairGrams.{gram_tells}
+use Rattle.ix_index_text.proofs.TermPairs.{paired, windows-paired}
+use Rattle.ix_index_text.proofs.WindowSteps.{no_chars}
 
 -- ---- three characters
 

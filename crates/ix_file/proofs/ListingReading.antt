@@ -11,13 +11,14 @@ use Rattle.ix_text.specs.StopSets.{HasTermSize}
 use Rattle.ix_text.specs.Terms.{IsTerm}
 use Rattle.ix_vbyte.specs.Code.{code_of}
 use Rattle.ix_vbyte.proofs.Values.{code_of-apart}
-use Rattle.ix_file.specs.Listings.{AreListings, HasListedCounts, Listing, listing_bytes, listing_in, listing_read, listings_from, listings_in, listings_section, sizes_sum, dictionary_term_bytes}
-use Rattle.ix_file.specs.Sections.{Version}
-use Rattle.ix_file.specs.TermReading.{TermMayFollow, last_listed}
+use Rattle.ix_index_text.specs.Listings.{Listing, listing_bytes, listings_from, listings_section, dictionary_term_bytes, last_listed}
+use Rattle.ix_file.specs.ReadListings.{AreListings, HasListedCounts, listing_in, listing_read, listings_in, sizes_sum}
+use Rattle.ix_index_text.specs.Sections.{Version}
+use Rattle.ix_file.specs.TermReading.{TermMayFollow}
 use Rattle.ix_file.specs.PlacedTerms.{PlacedTerm, placed_at, terms_in}
 use Rattle.ix_file.specs.declared.open.dictionary.ListedTerm.{ListedTerm}
 use Rattle.ix_file.proofs.AscendingLemmas.{ascending_front, ascending_last, ascending_none, ascending_push, last_of, less_from_pair, pair_from_less}
-use Rattle.ix_file.proofs.ListingsTold.{GoesOn, goes_on, last_from, last_from-listed, listings_from-push, term-apart}
+use Rattle.ix_index_text.proofs.ListingsTold.{GoesOn, goes_on, last_from, last_from-listed, listings_from-push, term-apart}
 use Rattle.ix_file.proofs.StopReading.{All-front}
 
 -- behind the number of documents stands the length of the list

@@ -15,10 +15,11 @@ use Rattle.ix_text.proofs.CollectionTold.{contains_first}
 use Rattle.ix_vbyte.specs.Postings.{ArePostings, LiesBelow}
 use Rattle.ix_vbyte.proofs.Sizes.{postings_from}
 use Rattle.ix_vbyte.proofs.Walks.{coded_list}
-use Rattle.ix_file.specs.Listings.{AreLaidOut, Listing, listing_in, listing_of, listings_in, sizes_sum}
+use Rattle.ix_index_text.specs.Listings.{Listing, listing_of}
+use Rattle.ix_file.specs.ReadListings.{AreLaidOut, listing_in, listings_in, sizes_sum}
 use Rattle.ix_file.specs.Opened.{lists_of}
 use Rattle.ix_file.specs.ReadLists.{AreListedIn, list_in}
-use Rattle.ix_file.specs.Sections.{postings_section}
+use Rattle.ix_index_text.specs.Sections.{postings_section}
 use Rattle.ix_file.specs.Tables.{IsListRow, entries_in, entry_in}
 use Rattle.ix_file.specs.PlacedTerms.{PlacedTerm}
 

@@ -27,7 +27,7 @@ use Rattle.ix_file.specs.ReadLists.{list_in}
 use Rattle.ix_file.specs.Tables.{entries_in, entry_in, term_in}
 use Rattle.ix_file.specs.PlacedTerms.{PlacedTerm}
 use Rattle.ix_file.specs.declared.open.tables.LongList.{LongList}
-use Rattle.ix_file.proofs.SectionSizes.{few_entries, small_parts}
+use Rattle.ix_index_text.proofs.SectionSizes.{few_entries, small_parts}
 
 -- what a row that was read from a table stands for
 pub told_at : {X Y : Type 0} (f : X → Y) (xs : List X) (i : ℕ) (x : X) → i < length (map f xs) → x ≡ get_or xs i x → slice_get (map f xs) i ≡ Some (f x)

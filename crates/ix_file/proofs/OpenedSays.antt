@@ -4,7 +4,7 @@ use Rattle.std.proofs.lemmas.List.{get_or-map, length-map}
 use Rattle.std.proofs.lemmas.List.Elements.{All-contains}
 use Rattle.ix_text.specs.Parts.{GramEntry, HasNumber, IsEntryOf}
 use Rattle.ix_file.specs.OpenedLaws.{EntriesHavePostings, GramsHaveNumbers, OthersAreNoGram, OthersHaveNoPosting}
-use Rattle.ix_file.proofs.GramLists.{one_entry}
+use Rattle.ix_index_text.proofs.GramLists.{one_entry}
 
 pub entries_have_postings : EntriesHavePostings
 entries_have_postings opened version collection entry is has number position =

@@ -6,15 +6,15 @@ use Rattle.ix_text.specs.PartsLaws.{AreLawful}
 use Rattle.ix_text.proofs.CollectionTold.{has_collection}
 use Rattle.ix_text.proofs.PartsLawful.{lawful_parts}
 use Rattle.ix_file.specs.Frames.{FileSectionTexts, framed}
-use Rattle.ix_file.specs.Grams.{AreGramsOfTerms}
-use Rattle.ix_file.specs.IndexText.{IsIndexText}
+use Rattle.ix_index_text.specs.Grams.{AreGramsOfTerms}
+use Rattle.ix_index_text.specs.IndexText.{IsIndexText}
 use Rattle.ix_file.specs.Opened.{IsIndexOf, Opened}
-use Rattle.ix_file.specs.Sections.{Version}
+use Rattle.ix_index_text.specs.Sections.{Version}
 use Rattle.ix_file.specs.Spelled.{AreSectionsOf, sections_of}
 use Rattle.ix_file.proofs.Framing.{layout_framed, one_frame, sections_framed}
-use Rattle.ix_file.proofs.GramLists.{of_collection, one_vocabulary}
-use Rattle.ix_file.proofs.IndexTold.{index_told}
-use Rattle.ix_file.proofs.SectionSizes.{few_entries, small_parts}
+use Rattle.ix_index_text.proofs.GramLists.{of_collection, one_vocabulary}
+use Rattle.ix_index_text.proofs.IndexTold.{index_told}
+use Rattle.ix_index_text.proofs.SectionSizes.{few_entries, small_parts}
 
 -- the bytes are an index text of a collection of which the index is
 pub record IsOpenedFrom (opened : Opened) (bytes : List ℕ) : Type 0 where

@@ -2,11 +2,11 @@
 use Rattle.std.proofs.Common.{◌≡◌, ℕ, ◌+◌, List, ◌++◌, length, slice_range, sym, ap, ◌∙◌, arith, length-append}
 use Rattle.std.proofs.lemmas.List.{append_assoc}
 use Rattle.ix_file.specs.Frames.{FileSectionTexts, counts, framed, lengths}
-use Rattle.ix_file.specs.IndexText.{end_mark, magic}
+use Rattle.ix_index_text.specs.IndexText.{end_mark, magic}
 use Rattle.ix_file.specs.Places.{ArePlacesIn, IsFramed, texts_at}
 use Rattle.ix_file.proofs.FrameReading.{length-eight, length-four}
 use Rattle.ix_file.proofs.RowReading.{part_at}
-use Rattle.ix_file.proofs.TextLaws.{length-end_mark, length-magic}
+use Rattle.ix_index_text.proofs.TextLaws.{length-end_mark, length-magic}
 
 pub framed_size : (bytes : List ℕ) (texts : FileSectionTexts) → IsFramed bytes texts → length bytes ≡ 64 + length texts.postings + length texts.stop + length texts.documents + length texts.dictionary + length texts.grams
 unfolding framed

@@ -12,7 +12,7 @@ use Rattle.ix_vbyte.specs.Texts.{counted}
 use Rattle.ix_vbyte.proofs.Texts.{counted-apart, counted_number-apart}
 use Rattle.ix_vbyte.proofs.Values.{some_code_byte}
 use Rattle.ix_file.specs.OpenedRows.{AreRows}
-use Rattle.ix_file.specs.Sections.{documents_section}
+use Rattle.ix_index_text.specs.Sections.{documents_section}
 use Rattle.ix_file.proofs.Continuing.{AreApart, GoesOn, goes_on, has_next, read_more}
 use Rattle.ix_file.proofs.StopReading.{All-front}
 

@@ -9,7 +9,7 @@ use Rattle.ix_vbyte.specs.Code.{code_of}
 use Rattle.ix_vbyte.specs.Texts.{counted}
 use Rattle.ix_vbyte.proofs.Texts.{counted-apart}
 use Rattle.ix_vbyte.proofs.Values.{some_code_byte}
-use Rattle.ix_file.specs.Sections.{stop_section}
+use Rattle.ix_index_text.specs.Sections.{stop_section}
 use Rattle.ix_file.proofs.AscendingLemmas.{ascending_front, ascending_none}
 use Rattle.ix_file.proofs.Continuing.{has_next, read_more}
 

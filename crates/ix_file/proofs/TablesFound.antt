@@ -10,18 +10,19 @@ use Rattle.ix_text.specs.Terms.{IsTerm}
 use Rattle.ix_text.specs.TokenLaws.{AreInOrder, IsPostingIn}
 use Rattle.ix_text.proofs.TokensApart.{lawful_if_distinct, lawful_without_terms}
 use Rattle.ix_file.specs.Frames.{FileSectionTexts}
-use Rattle.ix_file.specs.Grams.{AreGramsOfTerms}
-use Rattle.ix_file.specs.Listings.{AreLaidOut, AreListings, Listing, listing_in, listing_of, listings_in, listings_section, sizes_sum}
+use Rattle.ix_index_text.specs.Grams.{AreGramsOfTerms}
+use Rattle.ix_index_text.specs.Listings.{Listing, listing_of, listings_section}
+use Rattle.ix_file.specs.ReadListings.{AreLaidOut, AreListings, listing_in, listings_in, sizes_sum}
 use Rattle.ix_file.specs.LongLists.{IsLongIn}
 use Rattle.ix_file.specs.OpenedGrams.{IsGramRow, grams_in}
 use Rattle.ix_file.specs.OpenedRows.{AreRows, IsNameRow, row_in, rows_in}
 use Rattle.ix_file.specs.ReadLists.{AreListsIn}
-use Rattle.ix_file.specs.Sections.{Version, documents_section, grams_section, stop_section}
+use Rattle.ix_index_text.specs.Sections.{Version, documents_section, grams_section, stop_section}
 use Rattle.ix_file.specs.Spelled.{AreSectionsOf}
 use Rattle.ix_file.specs.Tables.{AreTablesOf, entries_in, entry_in, parts_in, term_in}
 use Rattle.ix_file.specs.PlacedTerms.{PlacedTerm}
 use Rattle.ix_file.specs.declared.open.tables.Tables.{Tables}
-use Rattle.ix_file.proofs.ListingsTold.{dictionary_listings}
+use Rattle.ix_index_text.proofs.ListingsTold.{dictionary_listings}
 use Rattle.ix_file.proofs.ListsFound.{AreFew, IsListed, each_listed, entries_distinct, entries_listed, laid_out, lie_within, list_row, lists_are, lists_whole, postings_joined}
 use Rattle.ix_file.proofs.OpenedLemmas.{terms_in}
 

@@ -18,19 +18,20 @@ use Rattle.ix_text.proofs.TokensApart.{lawful_distinct}
 use Rattle.ix_vbyte.specs.Postings.{list_bytes}
 use Rattle.ix_vbyte.proofs.Pieces.{fronts_apart}
 use Rattle.ix_file.specs.Frames.{FileSectionTexts}
-use Rattle.ix_file.specs.Grams.{AreGramsOfTerms}
-use Rattle.ix_file.specs.Listings.{AreLaidOut, AreListings, HasListedCounts, Listing, listing_in, listing_of, listings_in, listings_section, sizes_sum}
+use Rattle.ix_index_text.specs.Grams.{AreGramsOfTerms}
+use Rattle.ix_index_text.specs.Listings.{Listing, listing_of, listings_section}
+use Rattle.ix_file.specs.ReadListings.{AreLaidOut, AreListings, HasListedCounts, listing_in, listings_in, sizes_sum}
 use Rattle.ix_file.specs.Opened.{lists_of}
 use Rattle.ix_file.specs.OpenedRows.{AreRows}
 use Rattle.ix_file.specs.ReadLists.{AreListsIn, list_in}
-use Rattle.ix_file.specs.Sections.{Version, documents_section, grams_section, postings_section, stop_section}
+use Rattle.ix_index_text.specs.Sections.{Version, documents_section, grams_section, postings_section, stop_section}
 use Rattle.ix_file.specs.Spelled.{AreSectionsOf}
 use Rattle.ix_file.specs.Tables.{term_in}
 use Rattle.ix_file.specs.PlacedTerms.{PlacedTerm}
-use Rattle.ix_file.proofs.IndexTold.{rows_told, stop_told}
-use Rattle.ix_file.proofs.ListingsTold.{dictionary_listings, listings_told}
+use Rattle.ix_index_text.proofs.IndexTold.{rows_told, stop_told}
+use Rattle.ix_index_text.proofs.ListingsTold.{dictionary_listings, listings_told}
 use Rattle.ix_file.proofs.ListsFound.{AreListed, LieFrom, laid_out, length-list_in}
-use Rattle.ix_file.proofs.SectionSizes.{IsSmallEntry, small_entries, small_parts}
+use Rattle.ix_index_text.proofs.SectionSizes.{IsSmallEntry, small_entries, small_parts}
 use Rattle.ix_file.proofs.TablesFound.{listed_terms}
 
 -- ---- lists

@@ -4,14 +4,15 @@ use Rattle.ix_text.specs.Parts.{GramEntry, Parts, Posting, terms_of}
 use Rattle.ix_text.specs.PartsLaws.{AreLawful}
 use Rattle.ix_text.specs.StopSets.{IsStopSet}
 use Rattle.ix_file.specs.Frames.{FileSectionTexts}
-use Rattle.ix_file.specs.Grams.{AreGramsOfTerms}
-use Rattle.ix_file.specs.Listings.{AreLaidOut, AreListings, listings_in, listings_section, sizes_sum}
+use Rattle.ix_index_text.specs.Grams.{AreGramsOfTerms}
+use Rattle.ix_index_text.specs.Listings.{listings_section}
+use Rattle.ix_file.specs.ReadListings.{AreLaidOut, AreListings, listings_in, sizes_sum}
 use Rattle.ix_file.specs.LongLists.{IsLongIn}
 use Rattle.ix_file.specs.OpenedGrams.{IsGramRow, grams_in}
 use Rattle.ix_file.specs.OpenedRows.{AreRows, IsNameRow, rows_in}
 use Rattle.ix_file.specs.PlacedTerms.{terms_in}
 use Rattle.ix_file.specs.ReadLists.{AreListsIn}
-use Rattle.ix_file.specs.Sections.{Version, documents_section, grams_section, stop_section}
+use Rattle.ix_index_text.specs.Sections.{Version, documents_section, grams_section, stop_section}
 use Rattle.ix_file.specs.Spelled.{AreSectionsOf}
 use Rattle.ix_file.specs.declared.open.catalog.Catalog.{Catalog}
 use Rattle.ix_file.specs.declared.open.grams.GramRow.{GramRow}

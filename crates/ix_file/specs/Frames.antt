@@ -1,8 +1,8 @@
 -- What holds an index text together: its marks, and a trailer with the lengths of the sections and two counts.
 use Rattle.std.specs.Prelude.{◌≡◌, ℕ, List, ◌++◌, length}
 use Rattle.std.specs.Int.{to_le_bytes, w32, w64}
-use Rattle.ix_file.specs.IndexText.{magic, end_mark}
-use Rattle.ix_file.specs.Sections.{Version, Plain, FrontCoded}
+use Rattle.ix_index_text.specs.IndexText.{magic, end_mark}
+use Rattle.ix_index_text.specs.Sections.{Version, Plain, FrontCoded}
 use Rattle.ix_file.specs.declared.open.frame.FileSections.{FileSections}
 use Rattle.ix_file.specs.declared.open.frame.Version.{Version as FileVersion}
 use Rattle.ix_file.specs.declared.open.frame.Version.TheVariants as file

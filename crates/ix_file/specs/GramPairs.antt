@@ -1,8 +1,8 @@
 -- Pairs of a gram and of the number of a term that has it, and when they are all there are.
 use Rattle.std.specs.Prelude.{ℕ, ◌↔◌, List, [], ◌∷◌, ⊤, Contains}
-use Rattle.ix_file.specs.Grams.{IsGramOfTerm}
-use Rattle.ix_file.specs.WindowPairs.{pairs_of_term}
-use Rattle.ix_file.specs.declared.open.pairs.GramPair.{GramPair}
+use Rattle.ix_index_text.specs.Grams.{IsGramOfTerm}
+use Rattle.ix_index_text.specs.WindowPairs.{pairs_of_term}
+use Rattle.ix_index_text.specs.declared.windows.GramPair.{GramPair}
 
 -- nothing stands twice
 abbrev pub StandOnce : {X : Type 0} → List X → Type 0

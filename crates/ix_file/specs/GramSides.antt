@@ -1,9 +1,9 @@
 -- Grams by the numbers that tell them apart, and those on one side of such a number.
 use Rattle.std.specs.Prelude.{◌≡◌, ℕ, ◌+◌, ◌*◌, ◌^◌, ◌<◌, ◌≤◌, List}
-use Rattle.ix_file.specs.GramTables.{text_of}
+use Rattle.ix_index_text.specs.GramTables.{text_of}
 use Rattle.ix_file.specs.declared.open.sides.Side.{Side}
 use Rattle.ix_file.specs.declared.open.sides.Side.TheVariants.{Below, From}
-use Rattle.ix_file.specs.declared.windows.Gram.{Gram}
+use Rattle.ix_index_text.specs.declared.windows.Gram.{Gram}
 
 -- a number of a gram's three characters
 abbrev pub gram_key : Gram → ℕ

@@ -3,14 +3,14 @@ use Rattle.std.specs.Prelude.{◌≡◌, ℕ, ◌+◌, ◌<◌, ◌≤◌, List,
 use Rattle.std.specs.List.{AllZip}
 use Rattle.ix_vbyte.specs.Gaps.{Ascends, next_after}
 use Rattle.ix_file.specs.GramSides.{IsKeyOf, IsOn, gram_key}
-use Rattle.ix_file.specs.GramTables.{text_of}
-use Rattle.ix_file.specs.Grams.{IsGramOfTerm}
+use Rattle.ix_index_text.specs.GramTables.{text_of}
+use Rattle.ix_index_text.specs.Grams.{IsGramOfTerm}
 use Rattle.ix_file.specs.OpenedGrams.{AreNumbersOf, gap_codes, gram_in}
-use Rattle.ix_file.specs.TermWindows.{windows_of_term}
+use Rattle.ix_index_text.specs.TermWindows.{windows_of_term}
 use Rattle.ix_file.specs.declared.open.gram_walk.Cursor.{Cursor}
 use Rattle.ix_file.specs.declared.open.grams.GramRow.{GramRow}
 use Rattle.ix_file.specs.declared.open.sides.Side.{Side}
-use Rattle.ix_file.specs.declared.windows.Gram.{Gram}
+use Rattle.ix_index_text.specs.declared.windows.Gram.{Gram}
 
 -- what stands where the gaps of a row do
 abbrev pub gap_bytes : List ℕ → GramRow → List ℕ

@@ -2,7 +2,7 @@
 use Rattle.std.specs.Prelude.{◌≡◌, ℕ, List, map, length}
 use Rattle.ix_text.specs.Collections.{Collection, IsLawful}
 use Rattle.ix_text.specs.Parts.{DictionaryEntry, DocumentRow, GramEntry, Parts, Posting, ArePartsOf, AreGramsOf}
-use Rattle.ix_file.specs.Sections.{Version, Plain, FrontCoded}
+use Rattle.ix_index_text.specs.Sections.{Version, Plain, FrontCoded}
 
 -- the version, the parts of the collection, and the grams of its terms
 pub record Opened : Type 0 where

@@ -8,8 +8,8 @@ use Rattle.ix_vbyte.specs.Gaps.{Ascends, gaps_of}
 use Rattle.ix_vbyte.specs.Postings.{codes_of}
 use Rattle.ix_vbyte.specs.Texts.{counted}
 use Rattle.ix_vbyte.specs.Walking.{ArePositionsFrom, positions_told}
-use Rattle.ix_file.specs.Grams.{IsGramOfTerm}
-use Rattle.ix_file.specs.Sections.{grams_section}
+use Rattle.ix_index_text.specs.Grams.{IsGramOfTerm}
+use Rattle.ix_index_text.specs.Sections.{grams_section}
 use Rattle.ix_file.specs.declared.open.grams.GramRow.{GramRow}
 
 -- the entry that a row of the table stands for, in this section

@@ -3,7 +3,7 @@ use Rattle.std.specs.Prelude.{◌≡◌, ℕ, ◌↔◌, List, slice_get, Some, 
 use Rattle.ix_text.specs.Collections.{Collection, HasGram, HasPosting}
 use Rattle.ix_text.specs.Parts.{DictionaryEntry, HasPosition, Posting, terms_of}
 use Rattle.ix_file.specs.Opened.{IsIndexOf, Opened, gram_texts, lists_of}
-use Rattle.ix_file.specs.Sections.{Version}
+use Rattle.ix_index_text.specs.Sections.{Version}
 
 -- the postings under a term are exactly those of the term in the collection
 abbrev pub EntriesHavePostings : Type 0

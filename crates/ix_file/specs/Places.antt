@@ -1,7 +1,7 @@
 -- Where the sections stand in the bytes of an index text.
 use Rattle.std.specs.Prelude.{◌≡◌, ℕ, ◌≤◌, List, length, slice_range}
 use Rattle.ix_file.specs.Frames.{FileSectionTexts, framed}
-use Rattle.ix_file.specs.Sections.{Version}
+use Rattle.ix_index_text.specs.Sections.{Version}
 use Rattle.ix_file.specs.Tables.{AreTablesOf}
 use Rattle.ix_file.specs.declared.open.tables.Tables.{Tables}
 use Rattle.ix_file.specs.declared.volume.Places.{Places}

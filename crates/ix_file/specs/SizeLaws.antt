@@ -1,9 +1,9 @@
 -- How many entries an index text has room for.
 use Rattle.std.specs.Prelude.{ℕ, ◌+◌, ◌*◌, ◌≤◌, List, length}
 use Rattle.ix_text.specs.Collections.{Collection}
-use Rattle.ix_file.specs.IndexText.{IsIndexText}
+use Rattle.ix_index_text.specs.IndexText.{IsIndexText}
 use Rattle.ix_file.specs.Opened.{IsIndexOf, Opened}
-use Rattle.ix_file.specs.Sections.{Version}
+use Rattle.ix_index_text.specs.Sections.{Version}
 
 -- Besides its marks and its trailer, a text has two bytes for each stop term and each document of its opened index,
 -- seven for each term, in DICTIONARY and POSTINGS, and three for each gram.

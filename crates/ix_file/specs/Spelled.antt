@@ -2,7 +2,7 @@
 use Rattle.std.specs.Prelude.{◌≡◌, ℕ, List, length}
 use Rattle.ix_text.specs.Parts.{GramEntry, Parts}
 use Rattle.ix_file.specs.Frames.{FileSectionTexts}
-use Rattle.ix_file.specs.Sections.{Version, postings_section, stop_section, documents_section, dictionary_section, grams_section}
+use Rattle.ix_index_text.specs.Sections.{Version, postings_section, stop_section, documents_section, dictionary_section, grams_section}
 
 -- the five sections of parts and grams
 abbrev pub sections_of : Version → Parts → List GramEntry → FileSectionTexts

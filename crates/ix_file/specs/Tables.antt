@@ -4,7 +4,7 @@ use Rattle.ix_text.specs.Parts.{DictionaryEntry, Parts, terms_of}
 use Rattle.ix_text.specs.PartsLaws.{AreLawful}
 use Rattle.ix_vbyte.specs.Walking.{IsCodedList, postings_told}
 use Rattle.ix_file.specs.Frames.{FileSectionTexts, version_in}
-use Rattle.ix_file.specs.Grams.{AreGramsOfTerms}
+use Rattle.ix_index_text.specs.Grams.{AreGramsOfTerms}
 use Rattle.ix_file.specs.LongLists.{IsLongIn}
 use Rattle.ix_file.specs.Opened.{Opened}
 use Rattle.ix_file.specs.OpenedGrams.{IsGramRow, grams_in}

@@ -1,8 +1,7 @@
 -- How a term of the dictionary is read behind the term before.
-use Rattle.std.specs.Prelude.{◌≢◌, ℕ, ◌-◌, ◌<◌, ◌≤◌, List, [], ◌∷◌, ◌++◌, map, length, get_or, slice_get, Contains}
+use Rattle.std.specs.Prelude.{◌≢◌, ℕ, ◌<◌, ◌≤◌, List, [], ◌∷◌, ◌++◌, length, slice_get, Contains}
 use Rattle.ix_text.specs.ByteOrder.{IsAscending}
 use Rattle.ix_text.specs.Terms.{IsTerm}
-use Rattle.ix_file.specs.Listings.{Listing}
 use Rattle.ix_file.specs.declared.open.dictionary.TermCut.{TermCut}
 
 -- the bytes of the term that was cut
@@ -21,7 +20,3 @@ pub record TermMayFollow (stop : List (List ℕ)) (before term : List ℕ) : Typ
   pub is_term : IsTerm term
   pub above : IsAscending (before ∷ term ∷ [])
   pub unstopped : ¬ (Contains stop term)
-
--- the term of the last listing, or the empty text
-abbrev pub last_listed : List Listing → List ℕ
-last_listed listings = get_or (map (λ listing. listing.term) listings) (length listings - 1) []

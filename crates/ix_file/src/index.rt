@@ -44,10 +44,10 @@ impl<'a> Index<'a> {
     ghost use Rattle.ix_text.specs.Parts.{terms_of};
     ghost use Rattle.ix_text.specs.PartsLaws.{AreLawful};
     ghost use Rattle.ix_file.specs.Frames.{texts_in};
-    ghost use Rattle.ix_file.specs.Grams.{AreGramsOfTerms};
-    ghost use Rattle.ix_file.specs.IndexText.{IsIndexText};
+    ghost use Rattle.ix_index_text.specs.Grams.{AreGramsOfTerms};
+    ghost use Rattle.ix_index_text.specs.IndexText.{IsIndexText};
     ghost use Rattle.ix_file.specs.Opened.{IsIndexOf, document_counts, gram_texts, lists_of, names_of, token_counts, version_number};
-    ghost use Rattle.ix_file.specs.Sections.{Version as FormatVersion};
+    ghost use Rattle.ix_index_text.specs.Sections.{Version as FormatVersion};
     ghost use Rattle.ix_file.specs.Tables.{AreTablesOf, opened_in, tables_in};
     ghost use Rattle.ix_file.specs.declared.open_error.OpenError.TheVariants.{Memory};
 

@@ -3,11 +3,11 @@ ghost use Rattle.std.specs.Prelude.{◌≡◌};
 ghost use Rattle.ix_file.specs.Frames.{texts_in};
 ghost use Rattle.ix_file.specs.Places.{ArePlacesIn, IsFramed, texts_at};
 
-use crate::layout::{MARK_BYTES, TRAILER_BYTES};
 use crate::open::frame::{FileSections, cut};
 use crate::open::tables::{Held, Tables};
 use crate::open::{read_tables, read_tables_beside};
 use crate::{Index, OpenError};
+use ix_index_text::{MARK_BYTES, TRAILER_BYTES};
 use std::alloc::Global;
 use std::marker::Model;
 use std::thread::Threads;
@@ -66,9 +66,9 @@ impl Model for Volume {
 impl Volume {
     ghost use Rattle.std.specs.Prelude.{◌≡◌, IfOk, MatchResult};
     ghost use Rattle.ix_text.specs.Collections.{Collection};
-    ghost use Rattle.ix_file.specs.IndexText.{IsIndexText};
+    ghost use Rattle.ix_index_text.specs.IndexText.{IsIndexText};
     ghost use Rattle.ix_file.specs.Opened.{IsIndexOf};
-    ghost use Rattle.ix_file.specs.Sections.{Version as FormatVersion};
+    ghost use Rattle.ix_index_text.specs.Sections.{Version as FormatVersion};
     ghost use Rattle.ix_file.specs.declared.open_error.OpenError.TheVariants.{Memory};
 
     /// Opens an index text, as `Index::open` does, and keeps its bytes; a refusal drops them.

@@ -16,8 +16,8 @@ use Rattle.ix_text.proofs.AscendingLists.{contained_from_map}
 use Rattle.ix_file.specs.Sections.{postings_section}
 use Rattle.ix_file.specs.Told.{Told, entries_of, position_total, settled_front}
 use Rattle.ix_file.specs.Writers.{WasTold, sink}
-use Rattle.ix_file.specs.declared.sections.WriterSections.{WriterSections}
-use Rattle.ix_file.specs.declared.writer.IndexWriter.{IndexWriter}
+use Rattle.ix_file.specs.WriterSections.{WriterSections}
+use Rattle.ix_file.specs.IndexWriter.{IndexWriter}
 use Rattle.ix_file.proofs.AscendingLemmas.{ascending_none}
 use Rattle.ix_file.proofs.EndingLemmas.{front_of_spelled}
 use Rattle.ix_run.specs.Heads.{Heading, parts_with}

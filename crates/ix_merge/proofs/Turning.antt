@@ -9,8 +9,8 @@ use Rattle.ix_file.specs.Telling.{MayList}
 use Rattle.ix_file.specs.Told.{Told, entries_of, position_total, with_term}
 use Rattle.ix_file.proofs.TellingLemmas.{position_total-term}
 use Rattle.ix_file.specs.Writers.{WasTold}
-use Rattle.ix_file.specs.declared.sections.WriterSections.{WriterSections}
-use Rattle.ix_file.specs.declared.writer.IndexWriter.{IndexWriter}
+use Rattle.ix_file.specs.WriterSections.{WriterSections}
+use Rattle.ix_file.specs.IndexWriter.{IndexWriter}
 use Rattle.ix_run.specs.Heads.{Heading}
 use Rattle.ix_run.specs.Sources.{AreWhole, BeginsTerm, EndsTerms, Giving, Yielding, IsLawfulFront, closed, entry_with}
 use Rattle.ix_run.proofs.ReadFronts.{closed-none}

@@ -12,9 +12,9 @@ use Rattle.ix_file.specs.IndexText.{layout}
 use Rattle.ix_file.specs.Rows.{document_row}
 use Rattle.ix_file.specs.Sections.{FrontCoded}
 use Rattle.ix_file.specs.Told.{Told, entries_of, parts_of}
-use Rattle.ix_file.specs.declared.row.DocRow.{DocRow}
-use Rattle.ix_file.specs.declared.sections.WriterSections.{WriterSections}
-use Rattle.ix_file.specs.declared.writer.IndexWriter.{IndexWriter}
+use Rattle.ix_file.specs.DocRow.{DocRow}
+use Rattle.ix_file.specs.WriterSections.{WriterSections}
+use Rattle.ix_file.specs.IndexWriter.{IndexWriter}
 use Rattle.ix_run.specs.Heads.{Heading, IsLawfulHeading}
 use Rattle.ix_run.specs.Sources.{Faulting, Giving, IsLawfulFront, IsUnread, Yielding}
 use Rattle.ix_merge.specs.Beginnings.{BeginsWith}

@@ -3,8 +3,8 @@ use Rattle.std.specs.Prelude.{◌≡◌, ℕ, List, [], All, Option}
 use Rattle.ix_text.specs.Parts.{DocumentRow}
 use Rattle.ix_file.specs.Told.{told_first}
 use Rattle.ix_file.specs.Writers.{WasTold}
-use Rattle.ix_file.specs.declared.sections.WriterSections.{WriterSections}
-use Rattle.ix_file.specs.declared.writer.IndexWriter.{IndexWriter}
+use Rattle.ix_file.specs.WriterSections.{WriterSections}
+use Rattle.ix_file.specs.IndexWriter.{IndexWriter}
 use Rattle.ix_run.specs.Heads.{Heading}
 
 -- The writer was told these rows and the stop terms that all headings have, none where there is no heading, and no term.

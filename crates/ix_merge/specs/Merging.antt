@@ -3,8 +3,8 @@ use Rattle.std.specs.Prelude.{◌≡◌, ℕ, ◌<◌, ◌≤◌, List, [], leng
 use Rattle.ix_file.specs.Telling.{IsClosable}
 use Rattle.ix_file.specs.Told.{Told, entries_of}
 use Rattle.ix_file.specs.Writers.{WasTold}
-use Rattle.ix_file.specs.declared.sections.WriterSections.{WriterSections}
-use Rattle.ix_file.specs.declared.writer.IndexWriter.{IndexWriter}
+use Rattle.ix_file.specs.WriterSections.{WriterSections}
+use Rattle.ix_file.specs.IndexWriter.{IndexWriter}
 use Rattle.ix_run.specs.Heads.{Heading}
 use Rattle.ix_run.specs.ListError.{ListError}
 use Rattle.ix_run.specs.ListError.TheVariants as list

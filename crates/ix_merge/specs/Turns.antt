@@ -9,8 +9,8 @@ use Rattle.ix_text.specs.Sinks.{AppendsFront}
 use Rattle.ix_file.specs.Telling.{IsClosable}
 use Rattle.ix_file.specs.Told.{Told, entries_of, position_total, settled_front, with_postings, with_term}
 use Rattle.ix_file.specs.Writers.{WasTold, sink}
-use Rattle.ix_file.specs.declared.sections.WriterSections.{WriterSections}
-use Rattle.ix_file.specs.declared.writer.IndexWriter.{IndexWriter}
+use Rattle.ix_file.specs.WriterSections.{WriterSections}
+use Rattle.ix_file.specs.IndexWriter.{IndexWriter}
 use Rattle.ix_run.specs.Heads.{Heading}
 use Rattle.ix_run.specs.Sources.{AreWhole, Giving, Yielding, entry_with}
 

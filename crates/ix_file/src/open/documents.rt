@@ -5,12 +5,12 @@ ghost use Rattle.ix_vbyte.specs.Texts.{counted};
 ghost use Rattle.ix_text.specs.Collections.{IsName, IsNameByte};
 ghost use Rattle.ix_text.specs.Parts.{DocumentRow, row_bytes};
 ghost use Rattle.ix_file.specs.OpenedRows.{AreRows, IsNameRow, row_in, rows_in};
-ghost use Rattle.ix_file.specs.Sections.{documents_section};
+ghost use Rattle.ix_index_text.specs.Sections.{documents_section};
 ghost use Rattle.ix_file.specs.declared.open_error.OpenError.TheVariants.{Memory};
 
-use crate::layout::MIN_ROW_BYTES;
 use crate::open::front::{read_number, read_text};
 use crate::{OpenError, Section};
+use ix_index_text::MIN_ROW_BYTES;
 use ix_text::MAX_TOKENS;
 use std::alloc::Global;
 

@@ -1,11 +1,11 @@
 //! The frame of an index text: its marks, and the trailer that says how long the sections are.
 ghost use Rattle.std.specs.Prelude.{◌≡◌, ◌≢◌, ◌↔◌, ℕ, ◌+◌, ◌^◌, ◌<◌, ◌≤◌, ◌++◌, List, length, IsTrue, MatchOption, IfOk, IfErr, OnErr};
 ghost use Rattle.ix_file.specs.Frames.{IsCutInto, FileSectionTexts, counts, eight, framed, joined_sections, lengths, texts_in, version_in};
-ghost use Rattle.ix_file.specs.IndexText.{end_mark, magic};
-ghost use Rattle.ix_file.specs.Sections.{Version as FormatVersion};
+ghost use Rattle.ix_index_text.specs.IndexText.{end_mark, magic};
+ghost use Rattle.ix_index_text.specs.Sections.{Version as FormatVersion};
 
 use crate::OpenError;
-use crate::layout::{
+use ix_index_text::{
     COUNT_BYTES, COUNTS_BYTES, END_MARK_FRONT_CODED, END_MARK_PLAIN, FRAME_BYTES, LENGTH_BYTES,
     LENGTHS_BYTES, MAGIC_FRONT_CODED, MAGIC_PLAIN, MARK_BYTES, TRAILER_BYTES,
 };

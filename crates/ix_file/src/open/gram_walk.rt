@@ -2,23 +2,23 @@
 //! once, where the numbers before it were read, and no term is looked for.
 ghost use Rattle.std.specs.Prelude.{◌≡◌, ℕ, ◌-◌, ◌^◌, ◌<◌, ◌≤◌, List, slice_get, Some, All, Contains, IsTrue, IsUtf8, IfOk, IfSome, length};
 ghost use Rattle.ix_file.specs.GramSides.{AreChars, IsKeyOf, gram_key};
-ghost use Rattle.ix_file.specs.GramTables.{text_of};
+ghost use Rattle.ix_index_text.specs.GramTables.{text_of};
 ghost use Rattle.ix_file.specs.GramWalks.{AreAllListed, AreListedOn, AreListedUpTo, HasRead, HaveRead, IsAtEnd, IsListed, IsListedNext, IsCursorOf};
-ghost use Rattle.ix_file.specs.Grams.{IsGramOfTerm};
+ghost use Rattle.ix_index_text.specs.Grams.{IsGramOfTerm};
 ghost use Rattle.ix_file.specs.OpenedGrams.{IsRightRow, LiesIn, gram_in};
 ghost use Rattle.ix_file.specs.PlacedTerms.{terms_in};
-ghost use Rattle.ix_file.specs.TermWindows.{windows_of_term};
+ghost use Rattle.ix_index_text.specs.TermWindows.{windows_of_term};
 ghost use Rattle.ix_file.specs.declared.open.grams.GramRow.{GramRow as SeenRow};
 ghost use Rattle.ix_file.specs.declared.open.sides.Side.TheVariants.{Below, From};
-ghost use Rattle.ix_file.specs.declared.windows.Gram.{Gram as SeenGram};
+ghost use Rattle.ix_index_text.specs.declared.windows.Gram.{Gram as SeenGram};
 
 use crate::open::front::read_number;
 use crate::open::grams::{GramRow, gram_bytes};
 use crate::open::pairs::pair_of;
 use crate::open::sides::{Side, key_of};
 use crate::open::terms::Terms;
-use crate::windows::{Gram, windows_of};
 use crate::{OpenError, Section};
+use ix_index_text::{Gram, windows_of};
 use std::alloc::{AllocError, Global};
 use std::str::from_utf8;
 use std::thread::{Threads, join};

@@ -3,21 +3,22 @@
 ghost use Rattle.std.specs.Prelude.{◌≡◌, ◌≢◌, ◌⊎◌, ◌↔◌, ℕ, ◌+◌, ◌-◌, ◌^◌, ◌<◌, ◌≤◌, ◌++◌, ◌∷◌, [], List, map, length, All, IsUtf8, IsTrue, IfOk, IfErr, OnErr, MatchOption, ⊤};
 ghost use Rattle.ix_text.specs.ByteOrder.{IsAscending};
 ghost use Rattle.ix_text.specs.Parts.{GramEntry};
-ghost use Rattle.ix_file.specs.Grams.{AreGramsOfTerms, IsGramOfTerm};
-ghost use Rattle.ix_file.specs.WindowPairs.{gram_of};
+ghost use Rattle.ix_index_text.specs.Grams.{AreGramsOfTerms, IsGramOfTerm};
+ghost use Rattle.ix_index_text.specs.WindowPairs.{gram_of};
 ghost use Rattle.ix_file.specs.GramPairs.{AreAllPairs};
 ghost use Rattle.ix_file.specs.GramWalks.{AreAllListed};
 ghost use Rattle.ix_file.specs.OpenedGrams.{AreCutRows, AreNumbersOf, AreRightRows, CutsEntry, FindsGram, IsGramRow, IsListedGram, IsRightRow, LiesIn, gap_codes, gram_in, grams_in, numbers_claimed, numbers_listed};
 ghost use Rattle.ix_file.specs.PlacedTerms.{terms_in};
 ghost use Rattle.ix_file.specs.OpenedGrams as opened;
-ghost use Rattle.ix_file.specs.Sections.{grams_section};
+ghost use Rattle.ix_index_text.specs.Sections.{grams_section};
 ghost use Rattle.ix_file.specs.declared.open_error.OpenError.TheVariants.{Memory};
 
 use crate::open::front::{read_number, read_text};
 use crate::open::gram_walk::{walk_terms, walk_terms_beside};
-use crate::open::pairs::{GramPair, count_pairs, has_gram, pair_of};
+use crate::open::pairs::{count_pairs, has_gram, pair_of};
 use crate::open::terms::Terms;
 use crate::{OpenError, Section};
+use ix_index_text::GramPair;
 use ix_vbyte::skip_codes;
 use std::alloc::Global;
 use std::cmp::Ordering;

@@ -3,7 +3,7 @@ ghost use Rattle.std.specs.Prelude.{◌≡◌, ◌⊎◌, ◌+◌, ◌-◌, ◌*
 ghost use Rattle.ix_text.specs.Parts.{DocumentRow, Posting};
 ghost use Rattle.ix_text.specs.TokenTables.{HasTokens};
 ghost use Rattle.ix_file.specs.Claimed.{HasClaimed, HasRoom, mark_count};
-ghost use Rattle.ix_file.specs.Listings.{AreLaidOut, HasListedCounts, listings_in, sizes_sum};
+ghost use Rattle.ix_file.specs.ReadListings.{AreLaidOut, HasListedCounts, listings_in, sizes_sum};
 ghost use Rattle.ix_file.specs.LongLists.{IsLongIn};
 ghost use Rattle.ix_file.specs.ReadLists.{AreClaimedLists, AreListsIn, MayClaim};
 ghost use Rattle.ix_file.specs.declared.open.claims.Claims.{Claims};

@@ -2,7 +2,7 @@
 ghost use Rattle.std.specs.Prelude.{◌≡◌};
 ghost use Rattle.ix_file.specs.GramSides.{AreChars, gram_key};
 
-use crate::windows::Gram;
+use ix_index_text::Gram;
 
 /// The grams whose keys are below a key, or those of all other keys.
 #[derive(Clone, Copy)]

@@ -3,7 +3,7 @@ ghost use Rattle.std.specs.Prelude.{◌≡◌, ◌≢◌, ◌↔◌, ◌⊎◌, 
 ghost use Rattle.ix_vbyte.specs.Texts.{counted};
 ghost use Rattle.ix_text.specs.ByteOrder.{IsAscending};
 ghost use Rattle.ix_text.specs.StopSets.{IsStopSet};
-ghost use Rattle.ix_file.specs.Sections.{stop_section};
+ghost use Rattle.ix_index_text.specs.Sections.{stop_section};
 ghost use Rattle.ix_file.specs.declared.open_error.OpenError.TheVariants.{Memory};
 
 use crate::open::front::read_text;

@@ -5,7 +5,7 @@ use Rattle.std.proofs.lemmas.Result.{err_from_is_err_and}
 use Rattle.ix_file.specs.Rows.{document_row}
 use Rattle.ix_file.specs.Told.{told_first}
 use Rattle.ix_file.specs.Writers.{sink}
-use Rattle.ix_file.specs.declared.row.DocRow.{DocRow}
+use Rattle.ix_file.specs.DocRow.{DocRow}
 use Rattle.ix_run.specs.Heads.{IsLawfulHeading}
 use Rattle.ix_merge.specs.Merging.{AreApart}
 use Rattle.ix_merge.specs.Pieces.{LeavesFront, WritesConcatenation, WritesFront}

@@ -1,6 +1,6 @@
 use Rattle.std.proofs.Common.{◌≤◌, ◌++◌, length, sym, ap, ◌∙◌, arith}
 use Rattle.std.proofs.lemmas.Result.{err_from_is_err_and}
-use Rattle.ix_file.specs.Sections.{front_coded}
+use Rattle.ix_index_text.specs.Sections.{front_coded}
 use Rattle.ix_file.proofs.FrontCodedReading.{front_split, behind_shared, front_of, shared_small, others_small, longest_of, whole_size, enough_bytes, front_found}
 use Rattle.ix_file.proofs.open.dictionary.cut_front_coded.Goals as goal
 

@@ -4,11 +4,11 @@ use Rattle.std.proofs.lemmas.List.{length-map}
 use Rattle.std.proofs.lemmas.List.Sums.{sum_by_push}
 use Rattle.std.proofs.lemmas.Result.{err_from_is_err_and}
 use Rattle.ix_file.specs.Frames.{version_in}
-use Rattle.ix_file.specs.Listings.{Listing, listing_bytes, listing_in, listing_read, listings_in, sizes_sum}
+use Rattle.ix_index_text.specs.Listings.{Listing, listing_bytes, last_listed}
+use Rattle.ix_file.specs.ReadListings.{listing_in, listing_read, listings_in, sizes_sum}
 use Rattle.ix_file.specs.PlacedTerms.{placed_at}
-use Rattle.ix_file.specs.TermReading.{last_listed}
 use Rattle.ix_file.proofs.ListingReading.{no_listings, listings_push, last_short, listings_of_none, listings_more, listings_all, none_next, listing_pushed, lie_push, lie_at, most, sum_small}
-use Rattle.ix_file.proofs.ListingsTold.{listings_told, some_listing_byte}
+use Rattle.ix_index_text.proofs.ListingsTold.{listings_told, some_listing_byte}
 use Rattle.ix_file.proofs.open.dictionary.read_dictionary.Goals as goal
 
 pub loop-left-init : goal.loop-left-init

@@ -1,6 +1,7 @@
 use Rattle.std.proofs.Common.{◌≡◌, ◌++◌, length, min}
 use Rattle.ix_file.specs.Frames.{version_in}
-use Rattle.ix_file.specs.Listings.{AreListings, listings_in, listings_section, sizes_sum}
+use Rattle.ix_index_text.specs.Listings.{listings_section}
+use Rattle.ix_file.specs.ReadListings.{AreListings, listings_in, sizes_sum}
 use Rattle.ix_file.proofs.ListingReading.{LieFrom, most}
 use Rattle.ix_file.proofs.open.dictionary.read_dictionary.Given as goal
 

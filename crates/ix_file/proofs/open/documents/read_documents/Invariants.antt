@@ -1,6 +1,6 @@
 use Rattle.std.proofs.Common.{All, ◌≡◌, ◌≤◌, ◌^◌, ◌++◌, length}
 use Rattle.ix_file.specs.OpenedRows.{AreRows, IsNameRow, rows_in}
-use Rattle.ix_file.specs.Sections.{documents_section}
+use Rattle.ix_index_text.specs.Sections.{documents_section}
 use Rattle.ix_file.proofs.RowReading.{tokens_of}
 use Rattle.ix_file.proofs.open.documents.read_documents.Given as goal
 

@@ -1,7 +1,7 @@
 use Rattle.std.proofs.Common.{length, sym, ap, ◌∙◌, arith}
 use Rattle.std.proofs.lemmas.Result.{err_from_is_err_and}
 use Rattle.ix_file.specs.Frames.{texts_in, version_in}
-use Rattle.ix_file.specs.IndexText.{end_mark}
+use Rattle.ix_index_text.specs.IndexText.{end_mark}
 use Rattle.ix_file.proofs.FrameReading.{length-framed, frame_of, framed_from, one_mark, counts_apart}
 use Rattle.ix_file.proofs.open.frame.cut.Goals as goal
 

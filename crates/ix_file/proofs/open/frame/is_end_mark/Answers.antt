@@ -1,5 +1,5 @@
-use Rattle.ix_file.specs.IndexText.{end_mark}
-use Rattle.ix_file.specs.Sections.{Plain, FrontCoded}
+use Rattle.ix_index_text.specs.IndexText.{end_mark}
+use Rattle.ix_index_text.specs.Sections.{Plain, FrontCoded}
 use Rattle.ix_file.proofs.FrameReading.{same_mark}
 use Rattle.ix_file.proofs.open.frame.is_end_mark.Goals as goal
 

@@ -1,5 +1,5 @@
-use Rattle.ix_file.specs.IndexText.{magic}
-use Rattle.ix_file.specs.Sections.{Plain, FrontCoded}
+use Rattle.ix_index_text.specs.IndexText.{magic}
+use Rattle.ix_index_text.specs.Sections.{Plain, FrontCoded}
 use Rattle.ix_file.proofs.FrameReading.{same_mark, no_mark}
 use Rattle.ix_file.proofs.open.frame.version_of.Goals as goal
 

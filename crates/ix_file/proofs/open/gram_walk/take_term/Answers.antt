@@ -1,7 +1,7 @@
 use Rattle.std.proofs.Common.{◌++◌, ◌∷◌, [], refl, subst, sym}
 use Rattle.ix_file.specs.GramSides.{IsOn}
-use Rattle.ix_file.specs.GramTables.{text_of}
-use Rattle.ix_file.specs.Grams.{IsGramOfTerm}
+use Rattle.ix_index_text.specs.GramTables.{text_of}
+use Rattle.ix_index_text.specs.Grams.{IsGramOfTerm}
 use Rattle.ix_file.proofs.GramWalking.{next_window, seen_more, seen_none, seen_whole, windows_more}
 use Rattle.ix_file.proofs.open.gram_walk.take_term.Goals as goal
 use Rattle.ix_file.proofs.open.gram_walk.take_term.Goals.{else-has-via-else-has, else-has-via-then-has+else-not-take_key}

@@ -1,8 +1,8 @@
 use Rattle.std.proofs.Common.{◌≡◌, ◌++◌, ℕ, List, Some, slice_get}
 use Rattle.ix_file.specs.GramWalks.{HaveRead}
-use Rattle.ix_file.specs.TermWindows.{windows_of_term}
+use Rattle.ix_index_text.specs.TermWindows.{windows_of_term}
 use Rattle.ix_file.specs.declared.open.grams.GramRow.{GramRow}
-use Rattle.ix_file.specs.declared.windows.Gram.{Gram}
+use Rattle.ix_index_text.specs.declared.windows.Gram.{Gram}
 use Rattle.ix_file.proofs.GramWalking.{HaveSeen}
 use Rattle.ix_file.proofs.open.gram_walk.take_term.Given as goal
 

@@ -1,5 +1,5 @@
 use Rattle.std.proofs.Common.{◌≡◌, ◌+◌, ◌-◌, false, refl, arith}
-use Rattle.ix_file.specs.WindowPairs.{gram_of}
+use Rattle.ix_index_text.specs.WindowPairs.{gram_of}
 use Rattle.ix_file.proofs.GramNumbers.{number_told, number_past}
 use Rattle.ix_file.proofs.open.grams.is_next.Goals as goal
 

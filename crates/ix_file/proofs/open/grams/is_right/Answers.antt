@@ -1,6 +1,6 @@
 use Rattle.std.proofs.Common.{◌≡◌, false, length, sym, ◌∙◌, subst, arith, IsUtf8}
 use Rattle.std.proofs.lemmas.Bool.Decides.{nat_tests}
-use Rattle.ix_file.specs.WindowPairs.{gram_of}
+use Rattle.ix_index_text.specs.WindowPairs.{gram_of}
 use Rattle.ix_file.proofs.GramRows.{row_text, row_pair, row_some, row_numbers, row_ends, row_right}
 use Rattle.ix_file.proofs.GramSections.{text_in}
 use Rattle.ix_file.proofs.open.grams.is_right.Goals as goal

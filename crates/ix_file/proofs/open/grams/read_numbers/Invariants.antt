@@ -1,4 +1,4 @@
-use Rattle.ix_file.specs.WindowPairs.{gram_of}
+use Rattle.ix_index_text.specs.WindowPairs.{gram_of}
 use Rattle.ix_file.specs.PlacedTerms.{terms_in}
 use Rattle.ix_file.proofs.GramNumbers.{NumbersRead}
 use Rattle.ix_file.proofs.open.grams.read_numbers.Given as goal

@@ -1,6 +1,6 @@
 use Rattle.std.proofs.Common.{◌≡◌, ◌++◌, map, length, string_bytes}
 use Rattle.ix_text.specs.StopSets.{IsStopSet}
-use Rattle.ix_file.specs.Sections.{stop_section}
+use Rattle.ix_index_text.specs.Sections.{stop_section}
 use Rattle.ix_file.proofs.open.stop.read_stop.Given as goal
 
 abbrev pub invariant-loop-left : goal.invariant-loop-left

@@ -7,7 +7,7 @@ use Rattle.ix_vbyte.proofs.Gaps.{next_after-push}
 use Rattle.ix_text.specs.Parts.{DictionaryEntry, Posting}
 use Rattle.ix_file.specs.Telling.{IsTold, MayPost}
 use Rattle.ix_file.specs.Told.{Told, entries_of, with_term, with_posting, listed, position_total}
-use Rattle.ix_file.specs.declared.sections.WriterSections.{WriterSections}
+use Rattle.ix_file.specs.WriterSections.{WriterSections}
 use Rattle.ix_file.proofs.TellingLemmas.{position_total-term}
 use Rattle.ix_file.proofs.ListTold.{position_total-listed}
 use Rattle.ix_tests_index.proofs.index_texts.telling.tell.Invariants.{IsWithin}

@@ -5,7 +5,7 @@ use Rattle.ix_vbyte.specs.Postings.{documents_of}
 use Rattle.ix_text.specs.Parts.{DictionaryEntry}
 use Rattle.ix_file.specs.Telling.{IsTold, IsClosable}
 use Rattle.ix_file.specs.Told.{Told, entries_of, position_total}
-use Rattle.ix_file.specs.declared.sections.WriterSections.{WriterSections}
+use Rattle.ix_file.specs.WriterSections.{WriterSections}
 use Rattle.ix_tests_index.proofs.index_texts.telling.tell.Given as goal
 
 -- entries with so many positions were told, and the last may be finished

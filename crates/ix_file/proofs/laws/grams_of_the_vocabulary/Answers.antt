@@ -1,5 +1,0 @@
-use Rattle.ix_file.proofs.GramLists.{of_collection}
-use Rattle.ix_file.proofs.laws.grams_of_the_vocabulary.Goals as goal
-
-pub returns : goal.returns
-returns c = of_collection

@@ -1,5 +1,0 @@
-use Rattle.ix_file.proofs.GramLists.{one_of_terms}
-use Rattle.ix_file.proofs.laws.terms_have_one_gram_list.Goals as goal
-
-pub returns : goal.returns
-returns c = one_of_terms

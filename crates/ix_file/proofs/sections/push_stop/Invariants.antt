@@ -1,6 +1,0 @@
-use Rattle.std.proofs.Common.{◌≡◌, ◌++◌, map, take, string_bytes}
-use Rattle.ix_file.specs.Sections.{stop_section}
-use Rattle.ix_file.proofs.sections.push_stop.Given as goal
-
-abbrev pub invariant-loop-term : goal.invariant-loop-term
-invariant-loop-term l = l.out.items ≡ l.initial.out.items ++ stop_section (map string_bytes (take l.term-index l.terms))

@@ -1,0 +1,115 @@
+-- A list of grams with numbers is told by which gram lists which number.
+use Rattle.std.proofs.Common.{◌≡◌, ℕ, ◌↔◌, List, [], ◌∷◌, map, get_or, slice_get, Some, All, Contains, Ordering, Less, refl, sym, ap, ap₂, subst, ◌∙◌, inl, inr}
+use Rattle.std.proofs.lemmas.Cmp.{nat_cmp_total, nat_list_cmp_total}
+use Rattle.std.proofs.lemmas.List.Elements.{All-contains, Contains-get_or}
+use Rattle.std.proofs.lemmas.Map.Keys.{sorted_from_strictly_increasing}
+use Rattle.std.specs.Cmp.Lexicographic.{slice_cmp}
+use Rattle.std.specs.List.{AllByRecursion}
+use Rattle.std.specs.List.Sorted.{IsStrictlySortedBy}
+use Rattle.std.specs.Ordering.{nat_cmp}
+use Rattle.ix_text.proofs.AscendingLists.{contains_first, contains_later, contains_cases, contains_none, contains_map, contained_from_map, all_below, not_below_itself, one_ascending}
+use Rattle.ix_text.specs.ByteOrder.{IsAscending}
+use Rattle.ix_text.specs.Collections.{Collection, IsVocabulary}
+use Rattle.ix_text.specs.Parts.{Parts, ArePartsOf, AreGramsOf, GramEntry, HasNumber, IsGramEntry, terms_of}
+use Rattle.ix_index_text.specs.Grams.{AreGramsOfTerms}
+
+abbrev pub gram_of : GramEntry → List ℕ
+gram_of entry = entry.gram
+
+abbrev cmp : List ℕ → List ℕ → Ordering
+cmp = slice_cmp nat_cmp
+
+-- an entry above another has another gram
+not_above : (x y : GramEntry) (grams : List GramEntry) → AllByRecursion (λ z. cmp x.gram z ≡ Less) (map gram_of grams) → Contains grams y → ¬ (x.gram ≡ y.gram)
+not_above x y grams up has same =
+    let less = all_below cmp x.gram (map gram_of grams) y.gram up (contains_map gram_of grams y has) in
+    not_below_itself nat_list_cmp_total x.gram (subst (λ (g : List ℕ). cmp x.gram g ≡ Less) (sym same) less)
+
+-- under ascending grams an entry is told by its gram
+pub one_entry : (grams : List GramEntry) → IsAscending (map gram_of grams) → (e f : GramEntry) → Contains grams e → Contains grams f → e.gram ≡ f.gram → e ≡ f
+unfolding IsStrictlySortedBy
+one_entry [] up e f has also same = absurd (contains_none e has)
+one_entry (x ∷ grams) up e f has also same =
+    elim (contains_cases x grams e has) [
+      | inl first ↦
+          elim (contains_cases x grams f also) [
+            | inl second ↦ sym first ∙ second
+            | inr later ↦ absurd (not_above x f grams up.0 later (ap gram_of first ∙ same))
+          ]
+      | inr before ↦
+          elim (contains_cases x grams f also) [
+            | inl second ↦ absurd (not_above x e grams up.0 before (ap gram_of second ∙ sym same))
+            | inr later ↦ one_entry grams up.1 e f before later same
+          ]
+    ]
+
+-- two lists with the same image in which equal images have equal origins are one
+one_by_map : (xs ys : List GramEntry) → map gram_of xs ≡ map gram_of ys → ((x y : GramEntry) → Contains xs x → Contains ys y → x.gram ≡ y.gram → x ≡ y) → xs ≡ ys
+one_by_map [] [] same alike = refl
+one_by_map [] (y ∷ ys) same alike = absurd cc
+one_by_map (x ∷ xs) [] same alike = absurd cc
+one_by_map (x ∷ xs) (y ∷ ys) same alike =
+    let heads : x.gram ≡ y.gram = cc in
+    let tails : map gram_of xs ≡ map gram_of ys = cc in
+    ap₂ ◌∷◌ (alike x y (contains_first x xs) (contains_first y ys) heads)
+    (one_by_map xs ys tails (λ v w has also. alike v w (contains_later x xs v has) (contains_later y ys w also)))
+
+-- each gram of the one list is a gram of the other
+grams_there : (one other : List GramEntry) → All IsGramEntry one → ((gram : List ℕ) (number : ℕ) → HasNumber one gram number → HasNumber other gram number) → (gram : List ℕ) → Contains (map gram_of one) gram → Contains (map gram_of other) gram
+grams_there one other each moves gram has =
+    let (entry, there, is) = contained_from_map gram_of one gram has in
+    let some = (All-contains IsGramEntry one entry each there).0 in
+    let number = get_or entry.numbers 0 0 in
+    let listed : HasNumber one entry.gram number = record { numbers = entry.numbers; among = there; listed = Contains-get_or entry.numbers 0 0 some } in
+    let moved = moves entry.gram number listed in
+    subst (λ (g : List ℕ). Contains (map gram_of other) g) is (contains_map gram_of other (record { gram = entry.gram; numbers = moved.numbers }) moved.among)
+
+-- each number of a gram in the one list is one in the other
+numbers_there : (one other : List GramEntry) → IsAscending (map gram_of other) → ((gram : List ℕ) (number : ℕ) → HasNumber one gram number → HasNumber other gram number)
+    → (e f : GramEntry) → Contains one e → Contains other f → e.gram ≡ f.gram → (number : ℕ) → Contains e.numbers number → Contains f.numbers number
+numbers_there one other up moves e f has also same number in_e =
+    let moved = moves e.gram number (record { numbers = e.numbers; among = has; listed = in_e }) in
+    let is : record { gram = e.gram; numbers = moved.numbers } ≡ f = one_entry other up (record { gram = e.gram; numbers = moved.numbers }) f moved.among also same in
+    subst (λ (entry : GramEntry). Contains entry.numbers number) is moved.listed
+
+-- which gram lists which number tells the list
+pub one_gram_list : (one other : List GramEntry) → IsAscending (map gram_of one) → IsAscending (map gram_of other) → All IsGramEntry one → All IsGramEntry other
+    → ((gram : List ℕ) (number : ℕ) → HasNumber one gram number ↔ HasNumber other gram number) → one ≡ other
+one_gram_list one other up_one up_other each_one each_other same =
+    let there = λ (g : List ℕ) (n : ℕ). (same g n).0 in
+    let back = λ (g : List ℕ) (n : ℕ). (same g n).1 in
+    let grams = one_ascending nat_list_cmp_total (map gram_of one) (map gram_of other) up_one up_other (λ g. (grams_there one other each_one there g, grams_there other one each_other back g)) in
+    one_by_map one other grams (λ e f has also alike.
+    let sorted = λ (xs : List GramEntry) (x : GramEntry) (all : All IsGramEntry xs) (in_xs : Contains xs x). sorted_from_strictly_increasing x.numbers (All-contains IsGramEntry xs x all in_xs).1 in
+    let numbers = one_ascending nat_cmp_total e.numbers f.numbers (sorted one e each_one has) (sorted other f each_other also)
+    (λ n. (numbers_there one other up_other there e f has also alike n, numbers_there other one up_one back f e also has (sym alike) n)) in
+    ap₂ (λ (g : List ℕ) (ns : List ℕ). let entry : GramEntry = record { gram = g; numbers = ns } in entry) alike numbers)
+
+-- the terms tell the list
+pub one_of_terms : (terms : List (List ℕ)) (one other : List GramEntry) → AreGramsOfTerms terms one → AreGramsOfTerms terms other → one ≡ other
+one_of_terms terms one other p q =
+    one_gram_list one other p.ascending q.ascending p.each q.each (λ g n. (λ has. (q.related g n).1 ((p.related g n).0 has), λ has. (p.related g n).1 ((q.related g n).0 has)))
+
+-- a collection has one vocabulary
+pub one_vocabulary : (collection : Collection) (one other : List (List ℕ)) → IsVocabulary collection one → IsVocabulary collection other → one ≡ other
+one_vocabulary collection one other p q =
+    one_ascending nat_list_cmp_total one other p.ascending q.ascending (λ t. (
+      λ has. let (number, (position, posting)) = p.posted t has in q.complete t number position posting,
+      λ has. let (number, (position, posting)) = q.posted t has in p.complete t number position posting,
+    ))
+
+-- the grams of the terms of a collection's dictionary are those of the collection
+pub of_collection : (collection : Collection) (parts : Parts) (grams : List GramEntry) → ArePartsOf collection parts → AreGramsOfTerms (terms_of parts.entries) grams → AreGramsOf collection grams
+of_collection collection parts grams are of_terms = record {
+  ascending = of_terms.ascending;
+  each = of_terms.each;
+  related = λ g n. (
+    λ has.
+        let is = (of_terms.related g n).0 has in
+        record { terms = terms_of parts.entries; vocabulary = are.vocabulary; term = is.term; numbered = is.numbered; windowed = is.windowed },
+    λ has.
+        let same = one_vocabulary collection has.terms (terms_of parts.entries) has.vocabulary are.vocabulary in
+        (of_terms.related g n).1
+        (record { term = has.term; numbered = subst (λ (terms : List (List ℕ)). slice_get terms n ≡ Some has.term) same has.numbered; windowed = has.windowed }),
+  );
+}
