@@ -14,8 +14,8 @@ use Rattle.ix_file.specs.Postings.{Posting, documents_of}
 use Rattle.ix_text.specs.Collections.{Collection, Document}
 use Rattle.ix_text.specs.Parts.{Parts, ArePartsOf}
 use Rattle.ix_query.specs.declared.answers.leaf.Leaf.{Leaf}
-use Rattle.ix_query.specs.declared.tree.Tree.{Tree}
-use Rattle.ix_query.specs.declared.tree.Tree.TheVariants as asks
+use Rattle.ix_query_text.specs.declared.tree.Tree.{Tree}
+use Rattle.ix_query_text.specs.declared.tree.Tree.TheVariants as asks
 use Rattle.ix_query.specs.Finding.{AnswersNothing, AreFound, AreNumbersOf, AreEvery, AreOfTerm}
 use Rattle.ix_query.specs.Leaves.{HasNumber, HasMeet}
 use Rattle.ix_query.specs.Satisfaction.{Satisfies}
@@ -23,7 +23,8 @@ use Rattle.ix_query.specs.Scans.{IsScan, SatisfiesAt}
 use Rattle.ix_query.specs.Streams.{Have, HaveAll, HasOne, AreAll}
 use Rattle.ix_query.proofs.FindLemmas.{HasDocument, document_below, satisfied_below, word_found, get_left, get_last, get_cases}
 use Rattle.ix_query.proofs.ScanLemmas.{one_scan}
-use Rattle.ix_query.proofs.SatisfactionLemmas.{EachBefore, each_more, satisfies-And, satisfies-Or, satisfies-Not}
+use Rattle.ix_query_text.proofs.EachBefore.{EachBefore, each_more}
+use Rattle.ix_query.proofs.SatisfactionLemmas.{satisfies-And, satisfies-Or, satisfies-Not}
 
 pub satisfied_at : (collection : Collection) (query : Tree) (n : ℕ) (document : Document) → slice_get collection.documents n ≡ Some document → SatisfiesAt collection query n ↔ Satisfies document.tokens query
 satisfied_at collection query n document at = (
