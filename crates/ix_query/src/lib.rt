@@ -1,6 +1,6 @@
-//! What a query means, and what it finds. What the tree of a query asks of a document is defined; what the query finds is
-//! scanned in a collection, or answered from an index, and the two are one list. The query language is that of
-//! `ix_query_text`, whose names are passed on.
+//! What a query means, and what it finds: what its tree asks of a document is defined, and what the query finds is
+//! scanned in a collection, or answered from an index, and the two are one list. Of the query language, `ix_query_text`,
+//! the names are passed on.
 #![tactic(auto)]
 
 mod answers;

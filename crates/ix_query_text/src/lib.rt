@@ -1,6 +1,6 @@
-//! The query language: which texts are queries, and the tree that each of them is read to. A text is cut into lexemes, and
-//! these are read by the grammar. A program may build a tree too, and is told whether it is one that a query may have. What
-//! a query asks of a document is not said here.
+//! The query language: what a query text is, its lexemes, its grammar, and the tree that it is read to. A program may
+//! build a tree too, and is told whether it is one that a query may have. What a query asks of a document, and what it
+//! finds, is said in the crate above.
 #![tactic(auto)]
 
 mod error;
