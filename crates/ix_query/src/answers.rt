@@ -26,9 +26,9 @@ mod start;
 mod terms;
 mod word;
 
-use ix_query_text::{Query, Tree};
 use find::{find_numbers, near_numbers};
 use ix_file::Index;
+use ix_query_text::{Query, Tree};
 use ix_text::Memory;
 use std::alloc::Global;
 

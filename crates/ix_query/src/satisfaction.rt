@@ -9,8 +9,8 @@ ghost use Rattle.ix_query_text.specs.declared.tree.Tree.TheVariants as asks;
 ghost use Rattle.ix_query.specs.Satisfaction.{Satisfies, StandsAt, HasPhraseAt, HasPhrase, AreNear};
 ghost use Rattle.ix_query.specs.Satisfaction.{HasMatch};
 
-use ix_query_text::{Term, Tree};
 use ix_gram::Pattern;
+use ix_query_text::{Term, Tree};
 
 /// A law: what each kind of query asks of a token list.
 pub fn what_queries_ask()

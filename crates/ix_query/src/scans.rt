@@ -6,8 +6,8 @@ ghost use Rattle.ix_text.specs.Docs.{named_text};
 ghost use Rattle.ix_query_text.specs.declared.tree.Tree.{Tree};
 ghost use Rattle.ix_query.specs.Scans.{IsScan};
 
-use ix_query_text::Query;
 use crate::satisfaction::satisfies;
+use ix_query_text::Query;
 use ix_text::{Doc, Memory, StopList, write_tokens};
 use std::alloc::Global;
 

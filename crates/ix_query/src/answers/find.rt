@@ -20,8 +20,8 @@ use crate::answers::order::fewest;
 use crate::answers::terms::{
     every_document, find_near, find_phrase, nothing, only_term, postings_of,
 };
-use ix_query_text::{Term, Tree};
 use ix_file::Index;
+use ix_query_text::{Term, Tree};
 use ix_text::Memory;
 use std::alloc::Global;
 

@@ -15,8 +15,8 @@ use crate::answers::phrase::Phrase;
 use crate::answers::reader::Reader;
 use crate::answers::start::Start;
 use crate::answers::word::Word;
-use ix_query_text::Term;
 use ix_file::{Index, Postings};
+use ix_query_text::Term;
 use ix_text::Memory;
 use std::alloc::Global;
 
