@@ -6,7 +6,7 @@
 . "$(dirname "$0")/prelude.sh"
 needs rt python3
 
-copy_crates ix_text ix_vbyte ix_board ix_run_text ix_run ix_index_text ix_file ix_merge ix_build ix_gram ix_query ix_live
+copy_crates ix_text ix_vbyte ix_board ix_run_text ix_run ix_index_text ix_file ix_merge ix_build ix_gram ix_query_text ix_query ix_live
 add_program live ix_build ix_file ix_live ix_query ix_text memchr anyhow
 build live_bench
 

@@ -5,7 +5,7 @@ use Rattle.std.proofs.lemmas.List.Elements.{Contains-get_or}
 use Rattle.std.proofs.lemmas.Option.{slice_get_within}
 use Rattle.ix_text.specs.Collections.{Document, NamedText, collection_of}
 use Rattle.ix_text.specs.TokenLists.{token_list}
-use Rattle.ix_query.specs.declared.tree.Tree.{Tree}
+use Rattle.ix_query.specs.Tree.{Tree}
 use Rattle.ix_query.specs.Scans.{IsScan}
 
 -- the numbers of a scan are numbers of documents

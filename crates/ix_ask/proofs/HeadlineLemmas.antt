@@ -3,7 +3,7 @@ use Rattle.std.proofs.Common.{◌≡◌, ◌∙◌, ℕ, List, [], ◌∷◌, le
 use Rattle.ix_text.specs.Collections.{Collection, NamedText, collection_of}
 use Rattle.ix_text.specs.CollectionLaws.{HasOneListOfDocuments}
 use Rattle.ix_text.specs.CollectionText.{IsCollectionText}
-use Rattle.ix_query.specs.declared.tree.Tree.{Tree}
+use Rattle.ix_query.specs.Tree.{Tree}
 use Rattle.ix_query.specs.Grammar.{Reads}
 use Rattle.ix_query.specs.Scans.{IsScan}
 use Rattle.ix_ask.specs.Asking.{IsAnswer}

@@ -4,7 +4,7 @@ use Rattle.ix_text.specs.Collections.{NamedText, collection_of}
 use Rattle.ix_text.specs.CollectionText.{IsCollectionText}
 use Rattle.ix_file.specs.IndexText.{IsIndexText}
 use Rattle.ix_file.specs.Sections.{FrontCoded}
-use Rattle.ix_query.specs.declared.tree.Tree.{Tree}
+use Rattle.ix_query.specs.Tree.{Tree}
 use Rattle.ix_query.specs.Machine.{query_of}
 use Rattle.ix_query.specs.QueryErrors.{Fails}
 use Rattle.ix_query.specs.Scans.{IsScan}

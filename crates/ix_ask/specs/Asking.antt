@@ -5,7 +5,7 @@ use Rattle.ix_text.specs.CollectionText.{IsCollectionText}
 use Rattle.ix_text.specs.CollectionFaults.{IsCollectionFault}
 use Rattle.ix_text.specs.Collections.{NamedText, collection_of}
 use Rattle.ix_text.specs.Sinks.{AppendsFront}
-use Rattle.ix_query.specs.declared.tree.Tree.{Tree}
+use Rattle.ix_query.specs.Tree.{Tree}
 use Rattle.ix_query.specs.Grammar.{Reads}
 use Rattle.ix_query.specs.Scans.{IsScan}
 use Rattle.ix_query.specs.Machine.{query_of}

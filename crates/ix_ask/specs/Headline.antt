@@ -7,7 +7,7 @@ use Rattle.ix_file.specs.Endings.{WritesIndexText}
 use Rattle.ix_file.specs.IndexText.{IsIndexText}
 use Rattle.ix_file.specs.Opened.{IsIndexOf, Opened}
 use Rattle.ix_file.specs.Sections.{FrontCoded, Version}
-use Rattle.ix_query.specs.declared.tree.Tree.{Tree}
+use Rattle.ix_query.specs.Tree.{Tree}
 use Rattle.ix_query.specs.Grammar.{Reads}
 use Rattle.ix_query.specs.Scans.{IsScan}
 use Rattle.ix_ask.specs.Asking.{IsAnswer, IsAnswered}

@@ -3,7 +3,7 @@ use Rattle.std.specs.Prelude.{◌≡◌, ℕ, List, length, Option}
 use Rattle.std.specs.Io.KnownBytes.{Appends, Keeps}
 use Rattle.ix_text.specs.Collections.{Collection}
 use Rattle.ix_text.specs.Sinks.{AppendsFront}
-use Rattle.ix_query.specs.declared.tree.Tree.{Tree}
+use Rattle.ix_query.specs.Tree.{Tree}
 use Rattle.ix_query.specs.Grammar.{Reads}
 use Rattle.ix_query.specs.Machine.{query_of}
 use Rattle.ix_query.specs.QueryErrors.{Fails}

@@ -7,7 +7,7 @@ use Rattle.ix_file.specs.declared.open_error.OpenError.{OpenError}
 use Rattle.ix_file.specs.declared.open_error.OpenError.TheVariants as open_error
 use Rattle.ix_query.specs.Machine.{query_of}
 use Rattle.ix_query.specs.QueryErrors.{Fails}
-use Rattle.ix_query.specs.declared.error.QueryError.{QueryError}
+use Rattle.ix_query.specs.QueryError.{QueryError}
 use Rattle.ix_ask.specs.Listing.{IsListed as IsListedOf, IsNoPattern}
 use Rattle.ix_ask.specs.Searching.{IsFound}
 use Rattle.ix_ask.specs.declared.refusal.EngineRefusal.{EngineRefusal}

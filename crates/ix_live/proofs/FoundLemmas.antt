@@ -11,7 +11,7 @@ use Rattle.std.proofs.lemmas.Option.{slice_get_within}
 use Rattle.ix_text.specs.Collections.{Document}
 use Rattle.ix_text.specs.Parts.{DocumentRow, row_of}
 use Rattle.ix_merge.proofs.Laying.{slice_get_left, slice_get_right}
-use Rattle.ix_query.specs.declared.tree.Tree.{Tree}
+use Rattle.ix_query.specs.Tree.{Tree}
 use Rattle.ix_query.specs.Scans.{IsScan, SatisfiesAt}
 use Rattle.ix_live.specs.declared.segment.Segment.{Segment}
 use Rattle.ix_live.specs.Segments.{AreSegmentsOf, IsSegmentOf, joined, of_documents, rows_at, rows_in}

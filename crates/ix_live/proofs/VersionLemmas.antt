@@ -4,7 +4,7 @@ use Rattle.std.specs.Prelude.{Option}
 use Rattle.std.proofs.lemmas.List.{length-map}
 use Rattle.ix_text.specs.Collections.{Document}
 use Rattle.ix_text.specs.Parts.{DocumentRow, row_of}
-use Rattle.ix_query.specs.declared.tree.Tree.{Tree}
+use Rattle.ix_query.specs.Tree.{Tree}
 use Rattle.ix_live.specs.declared.entry.Entry.{Entry}
 use Rattle.ix_live.specs.declared.name_error.NameError.{NameError}
 use Rattle.ix_live.specs.declared.segment.Segment.{Segment}

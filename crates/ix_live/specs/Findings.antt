@@ -2,7 +2,7 @@
 use Rattle.std.specs.Prelude.{◌≡◌, ℕ, ◌+◌, ◌==◌, Bool, not, List, ◌++◌, map, filter, Option}
 use Rattle.std.specs.List.{list_any}
 use Rattle.ix_text.specs.Collections.{Document}
-use Rattle.ix_query.specs.declared.tree.Tree.{Tree}
+use Rattle.ix_query.specs.Tree.{Tree}
 use Rattle.ix_query.specs.Scans.{IsScan}
 use Rattle.ix_live.specs.Operations.{State}
 use Rattle.ix_live.specs.StateScans.{IsStateScan}

@@ -1,7 +1,7 @@
 -- Scans of a state: what a query finds in a collection of which some documents are removed.
 use Rattle.std.specs.Prelude.{◌≡◌, ◌↔◌, ℕ, List, [], Contains}
 use Rattle.std.specs.List.Sorted.{IsStrictlyIncreasing}
-use Rattle.ix_query.specs.declared.tree.Tree.{Tree}
+use Rattle.ix_query.specs.Tree.{Tree}
 use Rattle.ix_query.specs.Scans.{IsScan, SatisfiesAt}
 use Rattle.ix_live.specs.Operations.{State}
 

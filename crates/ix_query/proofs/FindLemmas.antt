@@ -9,8 +9,8 @@ use Rattle.ix_text.specs.Collections.{Collection, Document, HasPosting}
 use Rattle.ix_text.specs.Parts.{Parts, ArePartsOf, IsEntryOf, HasPosition, row_of, terms_of}
 use Rattle.ix_text.specs.TokenLists.{Entry}
 use Rattle.ix_file.specs.Postings.{Posting, ArePostings, IsPosting, documents_of}
-use Rattle.ix_query.specs.declared.tree.Tree.{Tree}
-use Rattle.ix_query.specs.declared.tree.Tree.TheVariants as asks
+use Rattle.ix_query_text.specs.declared.tree.Tree.{Tree}
+use Rattle.ix_query_text.specs.declared.tree.Tree.TheVariants as asks
 use Rattle.ix_query.specs.Finding.{AreFound, AnswersNothing, IsNowhere, AreOfTerm, ArePlaced, IsBeyond, AreEvery}
 use Rattle.ix_query.specs.Meetings.{HasNear, HasPhraseIn, IsStart}
 use Rattle.ix_query.specs.Streams.{Have}

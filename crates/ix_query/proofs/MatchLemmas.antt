@@ -11,7 +11,7 @@ use Rattle.ix_file.proofs.OpenedLemmas.{entry_at}
 use Rattle.ix_file.specs.Opened.{lists_of}
 use Rattle.ix_gram.specs.Expanding.{AreMatches}
 use Rattle.ix_file.specs.Postings.{documents_of}
-use Rattle.ix_query.specs.declared.tree.Tree.TheVariants as asks
+use Rattle.ix_query_text.specs.declared.tree.Tree.TheVariants as asks
 use Rattle.ix_query.specs.Finding.{AreFound}
 use Rattle.ix_query.specs.Satisfaction.{HasMatch}
 use Rattle.ix_query.proofs.FindLemmas.{asked_at, posting_at, satisfied_below}

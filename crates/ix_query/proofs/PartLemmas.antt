@@ -1,5 +1,5 @@
 -- What AND, OR and NOT find, from what their parts find.
-use Rattle.std.proofs.Common.{◌≡◌, ℕ, zero, suc, ◌+◌, ◌-◌, ◌^◌, ◌<◌, ◌≤◌, ◌↔◌, ◌⊎◌, inl, inr, List, [], ◌∷◌, ◌++◌, Some, Contains, Result, Ok, Err, length, get_or, slice_get, refl, sym, ap, ◌∙◌, subst, arith, length-append}
+use Rattle.std.proofs.Common.{◌≡◌, ℕ, zero, suc, ◌+◌, ◌-◌, ◌^◌, ◌<◌, ◌≤◌, ◌↔◌, ◌⊎◌, inl, inr, List, [], ◌∷◌, ◌++◌, Some, Contains, Result, length, get_or, slice_get, refl, sym, ap, ◌∙◌, subst, arith, length-append}
 use Rattle.std.proofs.lemmas.Bool.{cases_lt}
 use Rattle.std.proofs.lemmas.Option.{slice_get_within, slice_get_read, slice_get-get_or, get_or_from_slice_get}
 use Rattle.std.proofs.lemmas.Result.{IfOk-weaker}
@@ -14,8 +14,8 @@ use Rattle.ix_file.specs.Postings.{Posting, documents_of}
 use Rattle.ix_text.specs.Collections.{Collection, Document}
 use Rattle.ix_text.specs.Parts.{Parts, ArePartsOf}
 use Rattle.ix_query.specs.declared.answers.leaf.Leaf.{Leaf}
-use Rattle.ix_query.specs.declared.tree.Tree.{Tree}
-use Rattle.ix_query.specs.declared.tree.Tree.TheVariants as asks
+use Rattle.ix_query_text.specs.declared.tree.Tree.{Tree}
+use Rattle.ix_query_text.specs.declared.tree.Tree.TheVariants as asks
 use Rattle.ix_query.specs.Finding.{AnswersNothing, AreFound, AreNumbersOf, AreEvery, AreOfTerm}
 use Rattle.ix_query.specs.Leaves.{HasNumber, HasMeet}
 use Rattle.ix_query.specs.Satisfaction.{Satisfies}
@@ -23,7 +23,8 @@ use Rattle.ix_query.specs.Scans.{IsScan, SatisfiesAt}
 use Rattle.ix_query.specs.Streams.{Have, HaveAll, HasOne, AreAll}
 use Rattle.ix_query.proofs.FindLemmas.{HasDocument, document_below, satisfied_below, word_found, get_left, get_last, get_cases}
 use Rattle.ix_query.proofs.ScanLemmas.{one_scan}
-use Rattle.ix_query.proofs.SatisfactionLemmas.{EachBefore, each_more, satisfies-And, satisfies-Or, satisfies-Not}
+use Rattle.ix_query_text.proofs.EachBefore.{EachBefore, each_more}
+use Rattle.ix_query.proofs.SatisfactionLemmas.{satisfies-And, satisfies-Or, satisfies-Not}
 
 pub satisfied_at : (collection : Collection) (query : Tree) (n : ℕ) (document : Document) → slice_get collection.documents n ≡ Some document → SatisfiesAt collection query n ↔ Satisfies document.tokens query
 satisfied_at collection query n document at = (

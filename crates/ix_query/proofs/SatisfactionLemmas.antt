@@ -1,14 +1,13 @@
 -- What each kind of query asks, as one equation.
-use Rattle.std.proofs.Common.{◌≡◌, ℕ, zero, suc, ◌+◌, ◌<◌, ◌≤◌, Bool, true, false, not, ◌⊎◌, inl, inr, List, [], ◌∷◌, Option, map, length, get_or, refl, sym, ◌∙◌, ap, subst, arith}
-use Rattle.std.proofs.lemmas.Bool.{cases_lt}
-use Rattle.std.proofs.lemmas.List.{get_or_read}
+use Rattle.std.proofs.Common.{◌≡◌, ℕ, zero, suc, ◌<◌, ◌≤◌, Bool, true, false, not, ◌⊎◌, inl, inr, List, [], ◌∷◌, Option, map, length, get_or, refl, sym, ◌∙◌, ap, subst, arith}
 use Rattle.std.specs.Prelude.{All, Any, ◌↔◌}
 use Rattle.ix_text.specs.TokenLists.{Entry}
-use Rattle.ix_query.specs.declared.tree.Tree.{Tree}
-use Rattle.ix_query.specs.declared.tree.Tree.TheOpen.{Tree-F}
-use Rattle.ix_query.specs.declared.tree.Tree.TheFolds.{rec-roll-Tree, map-Tree}
-use Rattle.ix_query.specs.declared.tree.Tree.TheVariants.{Phrase, Near, Pattern, And, Or, Not, rolls-Phrase, rolls-Near, rolls-Pattern, rolls-And, rolls-Or, rolls-Not}
-use Rattle.ix_query.proofs.TreeLemmas.{along, every_seen, every_part, both_through}
+use Rattle.ix_query_text.specs.declared.tree.Tree.{Tree}
+use Rattle.ix_query_text.specs.declared.tree.Tree.TheOpen.{Tree-F}
+use Rattle.ix_query_text.specs.declared.tree.Tree.TheFolds.{rec-roll-Tree, map-Tree}
+use Rattle.ix_query_text.specs.declared.tree.Tree.TheVariants.{Phrase, Near, Pattern, And, Or, Not, rolls-Phrase, rolls-Near, rolls-Pattern, rolls-And, rolls-Or, rolls-Not}
+use Rattle.ix_query_text.proofs.EachBefore.{EachBefore}
+use Rattle.ix_query_text.proofs.TreeLemmas.{along, every_seen, every_part, both_through}
 use Rattle.ix_query.specs.Satisfaction.{Satisfies, IsAsked, HoldsOfOne, HasPhrase, AreNear, HasMatch}
 
 -- what holds of one part is the same where the parts are seen by a function
@@ -61,18 +60,6 @@ satisfies-Not tokens part = along _ _ (ap (Satisfies tokens) (sym (rolls-Not par
 pub negated : (answer : Bool) {P : Type 0} → (answer ≡ true) ↔ P → (not answer ≡ true) ↔ ¬ P
 negated true told = (λ wrong. absurd (cc), λ lacks. absurd (lacks (told.0 refl)))
 negated false told = (λ _ p. let wrong = told.1 p in absurd (cc), λ _. refl)
-
--- what holds of each element before i
-abbrev pub EachBefore : {X : Type 0} → (X → Type 0) → List X → ℕ → Type 0
-EachBefore {X} P xs i = (k : ℕ) (d : X) → k < i → k < length xs → P (get_or xs k d)
-
-pub each_more : {X : Type 0} (P : X → Type 0) (xs : List X) (i : ℕ) (x : X) → i < length xs → x ≡ get_or xs i x → P x → EachBefore P xs i → EachBefore P xs (i + 1)
-each_more P xs i x within is here before k d below inside = elim (cases_lt k i) [
-  | inl less ↦ before k d less inside
-  | inr more ↦
-      let same : k ≡ i = omega arith in
-      let e : x ≡ get_or xs k d = get_or_read xs i x within is d ∙ ap (λ j. get_or xs j d) (sym same) in subst P e here
-]
 
 pub one_found : {X : Type 0} (P : X → Type 0) (xs : List X) (i : ℕ) (x : X) → i < length xs → x ≡ get_or xs i x → P x → Any P xs
 one_found P xs i x within is here = (i, x, within, sym is, here)

@@ -9,7 +9,7 @@ use Rattle.std.specs.Prelude.{◌↔◌, Contains, AllPairs, slice_get, option_m
 use Rattle.std.specs.List.Sorted.{IsStrictlyIncreasing}
 use Rattle.ix_text.specs.Collections.{Collection, Document, NamedText, collection_of}
 use Rattle.ix_text.specs.TokenLists.{token_list}
-use Rattle.ix_query.specs.declared.tree.Tree.{Tree}
+use Rattle.ix_query_text.specs.declared.tree.Tree.{Tree}
 use Rattle.ix_query.specs.Satisfaction.{Satisfies}
 use Rattle.ix_query.specs.Scans.{IsScan, SatisfiesAt}
 

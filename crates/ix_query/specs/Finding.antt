@@ -4,7 +4,7 @@ use Rattle.ix_text.specs.Collections.{Collection, HasPosting}
 use Rattle.ix_text.specs.Parts.{Parts, Posting, ArePartsOf, HasPosition}
 use Rattle.ix_file.specs.Gaps.{Ascends}
 use Rattle.ix_file.specs.Postings.{ArePostings}
-use Rattle.ix_query.specs.declared.tree.Tree.{Tree}
+use Rattle.ix_query_text.specs.declared.tree.Tree.{Tree}
 use Rattle.ix_query.specs.Scans.{SatisfiesAt}
 
 -- the documents that are there are those that satisfy the query

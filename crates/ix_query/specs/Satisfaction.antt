@@ -3,9 +3,9 @@ use Rattle.std.specs.Prelude.{◌≡◌, ℕ, ◌+◌, ◌-◌, ◌≤◌, ◌�
 use Rattle.std.specs.List.{AllByRecursion}
 use Rattle.ix_text.specs.TokenLists.{Entry}
 use Rattle.ix_gram.specs.Patterns.{Matches}
-use Rattle.ix_query.specs.declared.tree.Tree.{Tree}
-use Rattle.ix_query.specs.declared.tree.Tree.TheOpen.{Tree-F}
-use Rattle.ix_query.specs.declared.tree.Tree.TheFolds.{rec-Tree}
+use Rattle.ix_query_text.specs.declared.tree.Tree.{Tree}
+use Rattle.ix_query_text.specs.declared.tree.Tree.TheOpen.{Tree-F}
+use Rattle.ix_query_text.specs.declared.tree.Tree.TheFolds.{rec-Tree}
 
 -- the entry at the position is the term
 abbrev pub StandsAt : List Entry → ℕ → List ℕ → Type 0

@@ -2,7 +2,7 @@
 use Rattle.std.specs.Prelude.{◌≡◌, ◌↔◌, ℕ, List, Some, slice_get, Contains}
 use Rattle.std.specs.List.Sorted.{IsStrictlyIncreasing}
 use Rattle.ix_text.specs.Collections.{Collection, Document}
-use Rattle.ix_query.specs.declared.tree.Tree.{Tree}
+use Rattle.ix_query_text.specs.declared.tree.Tree.{Tree}
 use Rattle.ix_query.specs.Satisfaction.{Satisfies}
 
 -- there is a document of that number, and its token list satisfies the query

@@ -5,8 +5,8 @@ ghost use Rattle.std.specs.Prelude.{◌≡◌, ◌<◌, ℕ, List, length, All, 
 ghost use Rattle.ix_text.specs.Collections.{Collection};
 ghost use Rattle.ix_file.specs.Opened.{IsIndexOf, Opened};
 ghost use Rattle.ix_file.specs.Sections.{Version};
-ghost use Rattle.ix_query.specs.declared.tree.Tree.{Tree as SeenTree};
-ghost use Rattle.ix_query.specs.declared.tree.Tree.TheVariants as asks;
+ghost use Rattle.ix_query_text.specs.declared.tree.Tree.{Tree as SeenTree};
+ghost use Rattle.ix_query_text.specs.declared.tree.Tree.TheVariants as asks;
 ghost use Rattle.ix_query.specs.Scans.{IsScan, SatisfiesAt};
 
 mod collect;
@@ -26,10 +26,9 @@ mod start;
 mod terms;
 mod word;
 
-use crate::query::Query;
-use crate::tree::Tree;
 use find::{find_numbers, near_numbers};
 use ix_file::Index;
+use ix_query_text::{Query, Tree};
 use ix_text::Memory;
 use std::alloc::Global;
 

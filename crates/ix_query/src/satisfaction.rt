@@ -4,13 +4,13 @@ ghost use Rattle.std.specs.Prelude.{◌≡◌, ◌-◌, ◌≤◌, ℕ, List, Op
 ghost use Rattle.std.specs.Prelude.{IsSomeAnd, ◌↔◌, option_map, string_bytes, if◌then◌else◌};
 ghost use Rattle.ix_text.specs.TokenLists.{Entry};
 ghost use Rattle.ix_gram.specs.Patterns.{Matches};
-ghost use Rattle.ix_query.specs.declared.tree.Tree.{Tree};
-ghost use Rattle.ix_query.specs.declared.tree.Tree.TheVariants as asks;
+ghost use Rattle.ix_query_text.specs.declared.tree.Tree.{Tree};
+ghost use Rattle.ix_query_text.specs.declared.tree.Tree.TheVariants as asks;
 ghost use Rattle.ix_query.specs.Satisfaction.{Satisfies, StandsAt, HasPhraseAt, HasPhrase, AreNear};
 ghost use Rattle.ix_query.specs.Satisfaction.{HasMatch};
 
-use crate::tree::{Term, Tree};
 use ix_gram::Pattern;
+use ix_query_text::{Term, Tree};
 
 /// A law: what each kind of query asks of a token list.
 pub fn what_queries_ask()

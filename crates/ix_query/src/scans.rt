@@ -3,11 +3,11 @@
 ghost use Rattle.std.specs.Prelude.{◌≡◌, ◌^◌, ◌≤◌, ℕ, List, map, length, IfOk};
 ghost use Rattle.ix_text.specs.Collections.{Collection, collection_of};
 ghost use Rattle.ix_text.specs.Docs.{named_text};
-ghost use Rattle.ix_query.specs.declared.tree.Tree.{Tree};
+ghost use Rattle.ix_query_text.specs.declared.tree.Tree.{Tree};
 ghost use Rattle.ix_query.specs.Scans.{IsScan};
 
-use crate::query::Query;
 use crate::satisfaction::satisfies;
+use ix_query_text::Query;
 use ix_text::{Doc, Memory, StopList, write_tokens};
 use std::alloc::Global;
 

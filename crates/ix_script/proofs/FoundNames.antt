@@ -1,7 +1,7 @@
 -- What a searcher found after just one history.
 use Rattle.std.proofs.Common.{◌≡◌, ℕ, List, sym, subst}
 use mathlib.Core.List.{IsPrefix}
-use Rattle.ix_query.specs.declared.tree.Tree.{Tree}
+use Rattle.ix_query.specs.Tree.{Tree}
 use Rattle.ix_live.specs.Names.{AreNamesOf}
 use Rattle.ix_live.specs.Operations.{Operation, documents_added, state_after}
 use Rattle.ix_live.specs.StateScans.{IsStateScan}

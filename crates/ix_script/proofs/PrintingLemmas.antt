@@ -4,7 +4,7 @@ use Rattle.std.specs.Borrow.{Bor}
 use Rattle.std.proofs.lemmas.Grind.{flat_map-append}
 use Rattle.std.proofs.lemmas.List.{map-append, map_push, take_more}
 use Rattle.std.proofs.lemmas.List.Folds.{list_any-append}
-use Rattle.ix_query.specs.declared.tree.Tree.{Tree}
+use Rattle.ix_query.specs.Tree.{Tree}
 use Rattle.ix_script.specs.PrintedAnswers.{answer_lines, answered_with, asked_in, lines_of}
 use Rattle.ix_script.specs.Runs.{Answered, is_some_name, some_found}
 use Rattle.ix_script.specs.Steps.{Add, Ask, Publish, Remove, Step, Text, step_of}

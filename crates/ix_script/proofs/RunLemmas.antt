@@ -1,7 +1,7 @@
 -- What steps do, one after another: a group of steps does what its additions and removals do, and answers what it asks.
 use Rattle.std.proofs.Common.{◌≡◌, List, [], ◌∷◌, ◌++◌, length, refl, sym, ap, subst, suc, Result, Ok, Err, IfOk}
 use Rattle.ix_live.specs.Operations.{Operation}
-use Rattle.ix_query.specs.declared.tree.Tree.{Tree}
+use Rattle.ix_query.specs.Tree.{Tree}
 use Rattle.ix_script.specs.Answers.{AreAnswers}
 use Rattle.ix_script.specs.PrintedAnswers.{answered_with, asked_in}
 use Rattle.ix_script.specs.Runs.{Changes, Progress, Runs}

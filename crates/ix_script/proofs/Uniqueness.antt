@@ -3,7 +3,7 @@ use Rattle.std.proofs.Common.{◌≡◌, ◌≢◌, ℕ, suc, ◌+◌, ◌<◌, 
 use Rattle.std.specs.Prelude.{codes, decimal}
 use Rattle.std.proofs.lemmas.Fmt.{decimal_injective}
 use Rattle.std.proofs.lemmas.List.Elements.{All-head, All-tail, All-nil, All-cons}
-use Rattle.ix_query.specs.declared.tree.Tree.{Tree}
+use Rattle.ix_query.specs.Tree.{Tree}
 use Rattle.ix_query.specs.Grammar.{Reads}
 use Rattle.ix_query.specs.Machine.{query_of}
 use Rattle.ix_text.specs.StopText.{IsCutAtLineFeeds}

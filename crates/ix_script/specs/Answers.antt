@@ -1,6 +1,6 @@
 -- What the searchers of a live index answer to queries.
 use Rattle.std.specs.Prelude.{ℕ, List, [], ◌∷◌}
-use Rattle.ix_query.specs.declared.tree.Tree.{Tree}
+use Rattle.ix_query.specs.Tree.{Tree}
 use Rattle.ix_live.specs.Names.{AreNamesOf}
 use Rattle.ix_live.specs.Operations.{Operation, documents_added, state_after}
 use Rattle.ix_live.specs.StateScans.{IsStateScan}

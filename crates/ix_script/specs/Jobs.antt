@@ -2,7 +2,7 @@
 use Rattle.std.specs.Prelude.{ℕ, List, String, map, IfOk}
 use Rattle.std.specs.Global.{Global, Vec}
 use Rattle.std.specs.String.{string_bytes}
-use Rattle.ix_query.specs.declared.tree.Tree.{Tree}
+use Rattle.ix_query.specs.Tree.{Tree}
 use Rattle.ix_live.specs.Histories.{History}
 use Rattle.ix_script.specs.Answers.{IsAnswer}
 use Rattle.ix_script.specs.Teams.{IsOfIndex}

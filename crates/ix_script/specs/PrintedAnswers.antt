@@ -1,6 +1,6 @@
 -- Answers as they are printed.
 use Rattle.std.specs.Prelude.{List, [], ◌∷◌, ◌++◌, length, flat_map, decimal}
-use Rattle.ix_query.specs.declared.tree.Tree.{Tree}
+use Rattle.ix_query.specs.Tree.{Tree}
 use Rattle.ix_script.specs.Runs.{Answered}
 use Rattle.ix_script.specs.Steps.{Add, Ask, Publish, Remove, Step, Text}
 

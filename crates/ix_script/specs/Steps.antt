@@ -1,7 +1,7 @@
 -- Scripts of `live`: which texts are scripts, and what they ask for.
 use Rattle.std.specs.Prelude.{◌≡◌, ◌≢◌, ℕ, ◌^◌, ◌<◌, ◌⊎◌, Bool, true, false, List, [], ◌∷◌, ◌++◌, All, filter, map, codes, decimal}
 use Rattle.ix_text.specs.StopText.{IsCutAtLineFeeds}
-use Rattle.ix_query.specs.declared.tree.Tree.{Tree}
+use Rattle.ix_query.specs.Tree.{Tree}
 use Rattle.ix_query.specs.Grammar.{Reads}
 use Rattle.ix_script.specs.declared.step.Step.{Step as StepTaken}
 use Rattle.ix_script.specs.declared.step.Step.TheVariants as taken

@@ -1,6 +1,6 @@
 //! Jobs: each has a searcher and the query that it is to answer.
 ghost use Rattle.std.specs.Prelude.{◌≡◌, ◌<◌, ◌≤◌, ◌+◌, ◌++◌, ℕ, [], List, All, IfOk, OnOk, length, map, slice_index_or, vec_capacity, vec_len};
-ghost use Rattle.ix_query.specs.declared.tree.Tree.{Tree};
+ghost use Rattle.ix_query.specs.Tree.{Tree};
 ghost use Rattle.ix_script.specs.Answers.{AreAnswers};
 ghost use Rattle.ix_script.specs.Jobs.{IsDoneFor, asked_by, asked_of, names_in};
 ghost use Rattle.ix_script.specs.declared.jobs.Done.{Done as DoneValue};

@@ -4,7 +4,7 @@ ghost use Rattle.std.specs.Prelude.{◌≡◌, ◌<◌, ◌↔◌, ◌-◌, ◌^
 ghost use Rattle.ix_text.specs.Collections.{Collection};
 ghost use Rattle.ix_text.specs.Parts.{ArePartsOf};
 ghost use Rattle.ix_file.specs.Gaps.{Ascends};
-ghost use Rattle.ix_query.specs.declared.tree.Tree.TheVariants as asks;
+ghost use Rattle.ix_query_text.specs.declared.tree.Tree.TheVariants as asks;
 ghost use Rattle.ix_query.specs.Finding.{AreFound, AreNumbersOf};
 ghost use Rattle.ix_query.specs.Leaves.{HasMeet, HasNumber};
 ghost use Rattle.ix_query.specs.Scans.{SatisfiesAt};
@@ -20,8 +20,8 @@ use crate::answers::order::fewest;
 use crate::answers::terms::{
     every_document, find_near, find_phrase, nothing, only_term, postings_of,
 };
-use crate::tree::{Term, Tree};
 use ix_file::Index;
+use ix_query_text::{Term, Tree};
 use ix_text::Memory;
 use std::alloc::Global;
 

@@ -2,7 +2,7 @@
 
 ghost use Rattle.std.specs.Prelude.{◌<◌, ◌↔◌, ◌⊎◌, ◌≡◌, ℕ, Contains, IfOk};
 ghost use Rattle.ix_file.specs.Postings.{documents_of};
-ghost use Rattle.ix_query.specs.declared.tree.Tree.TheVariants as asks;
+ghost use Rattle.ix_query_text.specs.declared.tree.Tree.TheVariants as asks;
 ghost use Rattle.ix_query.specs.Finding.{AreNumbersOf};
 ghost use Rattle.ix_query.specs.Marked.{IsMarked};
 

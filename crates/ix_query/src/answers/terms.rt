@@ -1,7 +1,7 @@
 //! What terms, phrases and NEARs find in an index.
 
 ghost use Rattle.std.specs.Prelude.{◌≡◌, ◌∷◌, [], ℕ, List, Option, Some, ◌↔◌, length, IfOk, IfSome, MatchOption};
-ghost use Rattle.ix_query.specs.declared.tree.Tree.TheVariants as asks;
+ghost use Rattle.ix_query_text.specs.declared.tree.Tree.TheVariants as asks;
 ghost use Rattle.ix_query.specs.Finding.{AreFound, AreOfTerm, ArePlaced, AreEvery, AnswersNothing, IsBeyond, IsNowhere};
 ghost use Rattle.ix_query.specs.Leaves.{HasNumber};
 ghost use Rattle.ix_query.specs.Meetings.{HasNear};
@@ -15,8 +15,8 @@ use crate::answers::phrase::Phrase;
 use crate::answers::reader::Reader;
 use crate::answers::start::Start;
 use crate::answers::word::Word;
-use crate::tree::Term;
 use ix_file::{Index, Postings};
+use ix_query_text::Term;
 use ix_text::Memory;
 use std::alloc::Global;
 

@@ -1,5 +1,5 @@
 use Rattle.std.proofs.Common.{sym, ◌∙◌, subst}
-use Rattle.ix_query.specs.declared.tree.Tree.{Tree}
+use Rattle.ix_query_text.specs.declared.tree.Tree.{Tree}
 use Rattle.ix_query.specs.Scans.{SatisfiesAt}
 use Rattle.ix_query.proofs.PartLemmas.{ok_more, scan_told, below_count}
 use Rattle.ix_query.proofs.answers.answer.Goals as goal

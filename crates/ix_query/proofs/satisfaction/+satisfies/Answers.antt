@@ -1,7 +1,7 @@
-use Rattle.ix_query.specs.declared.tree.Tree.TheVariants as asks
+use Rattle.ix_query_text.specs.declared.tree.Tree.TheVariants as asks
 use Rattle.ix_query.specs.Satisfaction.{Satisfies}
 use Rattle.ix_query.proofs.SatisfactionLemmas.{satisfies-Phrase, satisfies-Near, satisfies-Pattern, satisfies-And, satisfies-Or, satisfies-Not, negated}
-use Rattle.ix_query.proofs.TreeLemmas.{judged}
+use Rattle.ix_query_text.proofs.TreeLemmas.{judged}
 use Rattle.ix_query.proofs.satisfaction.+satisfies.Goals as goal
 
 pub satisfies-returns-in-Phrase : goal.satisfies-returns-in-Phrase

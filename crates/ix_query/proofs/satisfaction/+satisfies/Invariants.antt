@@ -1,7 +1,7 @@
 use Rattle.std.proofs.Common.{map, option_map}
 use Rattle.std.specs.Prelude.{string_bytes}
 use Rattle.ix_query.specs.Satisfaction.{Satisfies}
-use Rattle.ix_query.proofs.SatisfactionLemmas.{EachBefore}
+use Rattle.ix_query_text.proofs.EachBefore.{EachBefore}
 use Rattle.ix_query.proofs.satisfaction.+satisfies.Given as goal
 
 -- each earlier part is satisfied

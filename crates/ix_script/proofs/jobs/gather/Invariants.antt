@@ -1,7 +1,7 @@
 use Rattle.std.proofs.Common.{◌≡◌, ◌+◌, ◌≤◌, ◌++◌, List, length, map, vec_len, All}
 use Rattle.std.specs.Vec.{vec_capacity}
 use Rattle.std.specs.Vec.Iter.{into_iter_items}
-use Rattle.ix_query.specs.declared.tree.Tree.{Tree}
+use Rattle.ix_query.specs.Tree.{Tree}
 use Rattle.ix_script.specs.Answers.{AreAnswers}
 use Rattle.ix_script.specs.Jobs.{IsDoneFor, asked_of, names_in}
 use Rattle.ix_script.specs.Teams.{IsOfIndex}

@@ -1,5 +1,5 @@
 use Rattle.std.proofs.Common.{ℕ, List, Some, ◌∷◌, [], sym, subst}
-use Rattle.ix_query.specs.declared.tree.Tree.TheVariants as asks
+use Rattle.ix_query_text.specs.declared.tree.Tree.TheVariants as asks
 use Rattle.ix_query.specs.Finding.{AreNumbersOf}
 use Rattle.ix_query.proofs.FindLemmas.{word_nowhere}
 use Rattle.ix_query.proofs.PartLemmas.{ok_more, word_listed, nothing_found}

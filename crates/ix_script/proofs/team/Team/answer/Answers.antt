@@ -1,7 +1,7 @@
 use Rattle.std.proofs.Common.{rules, ◌≡◌, ◌+◌, ◌≤◌, ◌++◌, All, List, String, length, map, take, subst, sym, ◌∙◌, arith}
 use Rattle.std.specs.Global.{Global, Vec}
 use Rattle.ix_live.specs.Histories.{History}
-use Rattle.ix_query.specs.declared.tree.Tree.{Tree}
+use Rattle.ix_query.specs.Tree.{Tree}
 use Rattle.ix_script.specs.Answers.{AreAnswers}
 use Rattle.ix_script.specs.Jobs.{asked_by, asked_of, names_in}
 use Rattle.ix_script.specs.Teams.{IsOfIndex}

@@ -1,5 +1,0 @@
-use Rattle.ix_query.proofs.FaultLemmas
-use Rattle.ix_query.proofs.grammar.a_refused_run_is_the_first.Goals as goal
-
-pub returns : goal.returns
-returns c = FaultLemmas.refused_first

@@ -1,5 +1,0 @@
-use Rattle.ix_query.proofs.GrammarLemmas.{unique}
-use Rattle.ix_query.proofs.grammar.a_text_has_one_tree.Goals as goal
-
-pub returns : goal.returns
-returns c = unique

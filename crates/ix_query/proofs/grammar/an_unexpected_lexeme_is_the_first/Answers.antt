@@ -1,5 +1,0 @@
-use Rattle.ix_query.proofs.FaultLemmas
-use Rattle.ix_query.proofs.grammar.an_unexpected_lexeme_is_the_first.Goals as goal
-
-pub returns : goal.returns
-returns c = FaultLemmas.unexpected

@@ -1,5 +1,0 @@
-use Rattle.ix_query.proofs.ProperLemmas.{reads_proper}
-use Rattle.ix_query.proofs.grammar.texts_read_as_proper_trees.Goals as goal
-
-pub returns : goal.returns
-returns c = reads_proper

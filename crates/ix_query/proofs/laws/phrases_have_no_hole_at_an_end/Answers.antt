@@ -1,5 +1,0 @@
-use Rattle.ix_query.proofs.Strips.{strip_is, strip_only}
-use Rattle.ix_query.proofs.laws.phrases_have_no_hole_at_an_end.Goals as goal
-
-pub returns : goal.returns
-returns c = record { stripped = strip_is; only = strip_only }

@@ -1,9 +1,0 @@
--- each earlier part fits
-use Rattle.std.proofs.Common.{◌≤◌}
-use Rattle.ix_query.specs.Proper.{depths}
-use Rattle.ix_query.specs.Places.{depth_at}
-use Rattle.ix_query.proofs.SatisfactionLemmas.{EachBefore}
-use Rattle.ix_query.proofs.proper.+room.Given as goal
-
-abbrev pub invariant-all_fit-loop-part : goal.invariant-all_fit-loop-part
-invariant-all_fit-loop-part l = EachBefore (λ part. depth_at l.place (depths part) ≤ l.room) l.parts l.part-index

@@ -1,0 +1,17 @@
+pub mod CompleteLemmas
+pub mod Cuts
+pub mod EachBefore
+pub mod Entries
+pub mod FaultLemmas
+pub mod Faults
+pub mod GrammarLemmas
+pub mod LexemeLists
+pub mod Lexing
+pub mod ProperLemmas
+pub mod Readings
+pub mod Results
+pub mod RunSigns
+pub mod SoundLemmas
+pub mod Stars
+pub mod Strips
+pub mod TreeLemmas

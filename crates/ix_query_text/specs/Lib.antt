@@ -1,0 +1,12 @@
+pub mod Cutting
+pub mod ErrorNames
+pub mod Faults
+pub mod Grammar
+pub mod Judgement
+pub mod Lexemes
+pub mod Machine
+pub mod Parsing
+pub mod Places
+pub mod Proper
+pub mod QueryErrors
+pub mod Stripping
