@@ -8,12 +8,12 @@ pub mod FrameReading
 pub mod Framing
 pub mod FrontCodedReading
 pub mod FrontLemmas
+pub mod GramCutting
 pub mod GramFinding
 pub mod GramKeys
 pub mod GramLookUp
 pub mod GramNumbers
 pub mod GramParting
-pub mod GramCutting
 pub mod GramReading
 pub mod GramRows
 pub mod GramSections

@@ -5,7 +5,6 @@ pub mod GramPairs
 pub mod GramSides
 pub mod GramWalks
 pub mod HeldTerms
-pub mod ReadListings
 pub mod LongLists
 pub mod OpenErrors
 pub mod Opened
@@ -13,8 +12,9 @@ pub mod OpenedGrams
 pub mod OpenedLaws
 pub mod OpenedRows
 pub mod PlacedTerms
-pub mod PositionReads
 pub mod Places
+pub mod PositionReads
+pub mod ReadListings
 pub mod ReadLists
 pub mod Refusals
 pub mod SectionNames

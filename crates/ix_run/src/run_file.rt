@@ -1,9 +1,9 @@
 //! A run text read to its end.
 ghost use Rattle.std.specs.Prelude.{◌≡◌, [], List, IsSome, IfOk, IfErr, map};
 ghost use Rattle.ix_text.specs.Parts.{DictionaryEntry, Posting};
-ghost use Rattle.ix_run_text.specs.Heads.{heading_of};
 ghost use Rattle.ix_run_text.specs.Reading.{Faces, HasRead, IsDrained, term_of};
 ghost use Rattle.ix_run.specs.RunFiles.{GivesTerm, HasBegun, ReadsAll};
+ghost use Rattle.ix_run_text.specs.RunReaders.{heading_read};
 ghost use Rattle.ix_run_text.specs.RunTextErrors.{IsRefusal};
 ghost use Rattle.ix_run.specs.RunFiles.{read_shown};
 ghost use Rattle.ix_run_text.specs.Sources.{IsUnread};
@@ -57,7 +57,7 @@ fn read_terms<R: Read + Drop>(
 ) -> Result<CodedTerms, RunTextError>
     requires unread { IsUnread HasRead reader.old }
     requires drained { IsDrained reader.old }
-    ensures heading { heading_of reader.new.head ≡ heading_of reader.old.head }
+    ensures heading { heading_read reader.new ≡ heading_read reader.old }
     ensures read { IfOk result (λ terms.
         ReadsAll R.remaining reader.old terms) }
     ensures refused { (entries : List DictionaryEntry) → Faces R.remaining reader.old [] entries
@@ -85,7 +85,7 @@ fn read_term<R: Read + Drop>(
 ) -> Result<ReadTerm, RunTextError>
     requires begun { HasBegun reader.old }
     requires at_hand { IsSome (term_of reader.old) }
-    ensures heading { heading_of reader.new.head ≡ heading_of reader.old.head }
+    ensures heading { heading_read reader.new ≡ heading_read reader.old }
     ensures given { IfOk result (λ term.
         GivesTerm R.remaining reader.old reader.new (read_shown term)) }
     ensures refused { (postings : List Posting) (entries : List DictionaryEntry)
