@@ -12,7 +12,7 @@ sys.path.insert(0, os.path.dirname(os.path.dirname(os.path.abspath(__file__))))
 from measuring import peak_of, rounds_of
 
 INVERTING = 0.5  # times inverting the text by one thread, for the whole merge of 16 runs
-COPY = 4  # times a copy of the bytes written, for POSTINGS alone
+COPY = 4  # times a copy of the bytes written, into a list that grows as the merge's does, for POSTINGS alone
 MANY = 1.5  # times the merge of 16 runs, for 1,000
 PARTS = 16
 MOST = 1000
