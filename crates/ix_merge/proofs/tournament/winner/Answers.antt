@@ -1,17 +1,28 @@
-use Rattle.std.proofs.Common.{map}
-use Rattle.std.proofs.lemmas.Bool.Decides.{when_false, when_true}
+use Rattle.std.proofs.Common.{map, refl}
 use Rattle.ix_merge.specs.Keys.{key_of}
-use Rattle.ix_merge.proofs.Leads.{winner_by_standing}
+use Rattle.ix_merge.proofs.Leads.{alike_hold, wins_by_rank, wins_by_rank_too}
 use Rattle.ix_merge.proofs.tournament.winner.Goals as goal
 
-pub returns-then-first : goal.returns-then-first
-returns-then-first g c =
-    when_true _ _ c.if-first.true
-    (winner_by_standing (map (key_of g.S.Source.heading g.S.Source.current) c.args.sources.now) c.args.standings.now c.in-Some-Some.one c.in-Some-Some.other c.args.left c.args.right _ c.stands_before-first.result
-    c.requires.standings c.in-Some-Some.is-0 c.in-Some-Some.is-1 c.requires.left c.requires.right c.stands_before-first.ensures c.if-standing-other_standing.false)
+pub winner_by_term-requires-clause-one : goal.winner_by_term-requires-clause-one
+winner_by_term-requires-clause-one g c =
+    (alike_hold (map (key_of g.S.Source.heading g.S.Source.current) c.args.sources.now) c.args.one c.args.other c.requires.one c.requires.other (c.seems_like.ensures.0 c.if-seems_like.true)).2
 
-pub returns-else-first : goal.returns-else-first
-returns-else-first g c =
-    when_false _ _ c.if-first.false
-    (winner_by_standing (map (key_of g.S.Source.heading g.S.Source.current) c.args.sources.now) c.args.standings.now c.in-Some-Some.one c.in-Some-Some.other c.args.left c.args.right _ c.stands_before-first.result
-    c.requires.standings c.in-Some-Some.is-0 c.in-Some-Some.is-1 c.requires.left c.requires.right c.stands_before-first.ensures c.if-standing-other_standing.false)
+pub winner_by_term-requires-clause-other : goal.winner_by_term-requires-clause-other
+winner_by_term-requires-clause-other g c =
+    (alike_hold (map (key_of g.S.Source.heading g.S.Source.current) c.args.sources.now) c.args.one c.args.other c.requires.one c.requires.other (c.seems_like.ensures.0 c.if-seems_like.true)).3
+
+pub winner_by_term-requires-clause-one_holds : goal.winner_by_term-requires-clause-one_holds
+winner_by_term-requires-clause-one_holds g c =
+    (alike_hold (map (key_of g.S.Source.heading g.S.Source.current) c.args.sources.now) c.args.one c.args.other c.requires.one c.requires.other (c.seems_like.ensures.0 c.if-seems_like.true)).0
+
+pub winner_by_term-requires-clause-other_holds : goal.winner_by_term-requires-clause-other_holds
+winner_by_term-requires-clause-other_holds g c =
+    (alike_hold (map (key_of g.S.Source.heading g.S.Source.current) c.args.sources.now) c.args.one c.args.other c.requires.one c.requires.other (c.seems_like.ensures.0 c.if-seems_like.true)).1
+
+pub returns-then-one-other : goal.returns-then-one-other
+returns-then-one-other g c =
+    wins_by_rank (map (key_of g.S.Source.heading g.S.Source.current) c.args.sources.now) c.args.one c.args.other c.seems_like.result c.requires.one c.requires.other c.seems_like.ensures c.if-seems_like.false c.if-one-other.true
+
+pub returns-else-one-other : goal.returns-else-one-other
+returns-else-one-other g c =
+    wins_by_rank_too (map (key_of g.S.Source.heading g.S.Source.current) c.args.sources.now) c.args.one c.args.other c.seems_like.result c.requires.one c.requires.other c.seems_like.ensures c.if-seems_like.false c.if-one-other.false
