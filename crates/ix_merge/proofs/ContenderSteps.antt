@@ -3,9 +3,9 @@ use Rattle.std.proofs.Common.{◌≡◌, ◌≢◌, ℕ, ◌+◌, ◌*◌, ◌-�
 use Rattle.std.proofs.lemmas.Bool.{cases_eq}
 use Rattle.std.proofs.lemmas.List.{get_or-map, get_or-set_same, get_or-set_other, length-map, map-set}
 use Rattle.ix_run.specs.Heads.{Heading}
-use Rattle.ix_merge.specs.Contenders.{AreLeaves, AreRankedBut, AreRankedFrom, Contends, IsContest, IsContestBut, IsRank, IsRanked, StandsFor, Wins, holder}
+use Rattle.ix_merge.specs.Contenders.{AreLeaves, AreRankedFrom, Contends, IsContest, IsContestBut, IsRank, IsRanked, StandsFor, Wins, holder}
 use Rattle.ix_merge.specs.Keys.{Key, key_of, end_of}
-use Rattle.ix_merge.specs.Tournaments.{HasKey, IsSettled, IsSettledBut, IsTournament, IsWinner, StandsOver, holder_at, key_at, leaf_of}
+use Rattle.ix_merge.specs.Tournaments.{HasKey, IsSettledBut, IsWinner, holder_at, key_at, leaf_of}
 use Rattle.ix_merge.specs.declared.contender.Contender.{Contender}
 use Rattle.ix_merge.proofs.Leads.{rank_parts}
 use Rattle.ix_merge.proofs.Playing.{IsSettledFrom, all_settled, below_have_keys, beside_have_keys, changed_settled, first_settled, free, next_settled, over_lower, over_next, settled_leaf, settled_more, winner_above}

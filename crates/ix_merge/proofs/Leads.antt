@@ -1,5 +1,5 @@
 -- The order of leads is that of their texts, and a lead with a length is a text.
-use Rattle.std.proofs.Common.{◌≡◌, ◌≢◌, ◌↔◌, ◌⊎◌, IsTrue, nat_eq, nat_lt, ◌&&◌, ℕ, zero, suc, ◌+◌, ◌-◌, ◌*◌, ◌/◌, ◌%◌, ◌^◌, min, ◌<◌, ◌≤◌, List, [], ◌∷◌, length, drop, take, get_or, add-one, add-suc, All, Option, Some, None, IsSome, MatchBool, Bool, true, false, Ordering, Less, Equal, inl, inr, refl, sym, ap, subst, ◌∙◌, arith}
+use Rattle.std.proofs.Common.{◌≡◌, ◌≢◌, ◌↔◌, ◌⊎◌, IsTrue, ℕ, zero, suc, ◌+◌, ◌-◌, ◌*◌, ◌/◌, ◌%◌, ◌^◌, min, ◌<◌, ◌≤◌, List, [], ◌∷◌, length, drop, take, get_or, add-one, add-suc, All, Option, Some, None, cond, leb, Bool, true, false, Ordering, Less, Equal, inl, inr, refl, sym, ap, subst, ◌∙◌, arith}
 use Rattle.std.proofs.Math.Nat.{min-le_right, pow-suc, pow-le-pow_right}
 use Rattle.std.proofs.lemmas.Bool.{cases_lt, cases_eq, lt-ltb}
 use Rattle.std.proofs.lemmas.Bool.Decides.{nat_tests}
@@ -11,9 +11,9 @@ use Rattle.std.specs.Cmp.Lexicographic.{slice_cmp}
 use Rattle.std.specs.Int.{from_be_bytes, w64}
 use Rattle.std.specs.Ordering.{nat_cmp, ordering_then}
 use Rattle.ix_run.specs.Heads.{Heading}
-use Rattle.ix_merge.specs.Contenders.{Contends, IsRank, SeemAlike, StandsFor, Wins, holder, lead, rank_of}
+use Rattle.ix_merge.specs.Contenders.{Contends, GoesBefore, IsRank, SeemAlike, StandsFor, Wins, holder, lead, rank_of}
 use Rattle.ix_merge.specs.Keys.{Key, ComesFirst, IsUpTo, end_of, key_of}
-use Rattle.ix_merge.specs.Tournaments.{HasKey, IsWinner, key_at, key_under}
+use Rattle.ix_merge.specs.Tournaments.{HasKey, key_at, key_under}
 use Rattle.ix_merge.specs.declared.contender.Contender.{Contender}
 use Rattle.ix_merge.proofs.KeyOrder.{first_itself}
 
@@ -241,19 +241,27 @@ first_by_rank keys one other contends contends' up apart = by (holder other) ref
 
 -- ---- of two contenders
 
-pub wins_first : (keys : List (Option Key)) (one other : Contender) → ComesFirst (key_under keys (holder one)) (key_under keys (holder other)) → Wins keys one one other
+wins_first : (keys : List (Option Key)) (one other : Contender) → ComesFirst (key_under keys (holder one)) (key_under keys (holder other)) → Wins keys one one other
 wins_first keys one other first = record { of_two = inl refl; wins = record { of_two = inl refl; first = first_itself (key_under keys (holder one)); first_too = first } }
 
-pub wins_second : (keys : List (Option Key)) (one other : Contender) → ComesFirst (key_under keys (holder other)) (key_under keys (holder one)) → Wins keys other one other
+wins_second : (keys : List (Option Key)) (one other : Contender) → ComesFirst (key_under keys (holder other)) (key_under keys (holder one)) → Wins keys other one other
 wins_second keys one other first = record { of_two = inr refl; wins = record { of_two = inr refl; first = first; first_too = first_itself (key_under keys (holder other)) } }
 
--- that of the lower rank wins, where they do not seem alike
-pub wins_by_rank : (keys : List (Option Key)) (one other : Contender) (alike : Bool) → Contends keys one → Contends keys other → IsTrue alike ↔ SeemAlike one other → alike ≡ false → one.rank ≤ other.rank → Wins keys one one other
-wins_by_rank keys one other alike contends contends' told unlike up = wins_first keys one other (first_by_rank keys one other contends contends' up (λ same long. let e = told.1 (same, long) in absurd cc))
+-- the one that goes before is picked
+pub wins_picked : (keys : List (Option Key)) (one other : Contender) (before : Bool) (rank place : ℕ) → GoesBefore keys before (holder one) (holder other) → rank ≡ cond before one.rank other.rank → place ≡ cond before one.place other.place
+    → Wins keys (record { rank = rank; place = place }) one other
+wins_picked keys one other true rank place told is is' = rw (is, is') (wins_first keys one other told)
+wins_picked keys one other false rank place told is is' = rw (is, is') (wins_second keys one other told)
 
-pub wins_by_rank_too : (keys : List (Option Key)) (one other : Contender) (alike : Bool) → Contends keys one → Contends keys other → IsTrue alike ↔ SeemAlike one other → alike ≡ false → other.rank < one.rank → Wins keys other one other
-wins_by_rank_too keys one other alike contends contends' told unlike up =
-    wins_second keys one other (first_by_rank keys other one contends' contends (omega arith) (λ same long. let e = told.1 (sym same, omega arith) in absurd cc))
+-- that of the lower rank goes before, where they do not seem alike
+pub before_by_rank : (keys : List (Option Key)) (one other : Contender) (alike : Bool) → Contends keys one → Contends keys other → IsTrue alike ↔ SeemAlike one other → alike ≡ false → GoesBefore keys (leb one.rank other.rank) (holder one) (holder other)
+before_by_rank keys one other alike contends contends' told unlike = by (leb one.rank other.rank) refl
+  where
+    by : (before : Bool) → leb one.rank other.rank ≡ before → GoesBefore keys before (holder one) (holder other)
+    by true is = first_by_rank keys one other contends contends' (grind (arith, nat_tests)) (λ same long. let e = told.1 (same, long) in absurd cc)
+    by false is =
+        let up : other.rank ≤ one.rank = grind (arith, nat_tests) in
+        first_by_rank keys other one contends' contends up (λ same long. let e = told.1 (sym same, omega arith) in absurd cc)
 
 -- both hold their places, where they seem alike
 pub alike_hold : (keys : List (Option Key)) (one other : Contender) → Contends keys one → Contends keys other → SeemAlike one other
@@ -264,3 +272,8 @@ alike_hold keys one other contends contends' alike =
     let holds = holder_some one (λ last. omega arith) in
     let holds' = holder_some other (λ last. omega arith) in
     (holds, holds', subst (HasKey keys) holds contends.has_key, subst (HasKey keys) holds' contends'.has_key)
+
+-- that of the lower term goes before, where they do
+pub before_by_term : (keys : List (Option Key)) (one other : Contender) (before : Bool) → Contends keys one → Contends keys other → SeemAlike one other → GoesBefore keys before (Some one.place) (Some other.place)
+    → GoesBefore keys before (holder one) (holder other)
+before_by_term keys one other before contends contends' alike told = let hold = alike_hold keys one other contends contends' alike in rw (hold.0, hold.1) told

@@ -1,6 +1,6 @@
 -- What the tournament and the order of the sources keep from turn to turn.
-use Rattle.std.proofs.Common.{◌≡◌, ℕ, ◌+◌, ◌<◌, List, [], ◌∷◌, length, map, get_or, set, Bool, true, false, cond, Option, Some, None, is_some, inl, refl, sym, ap, subst, ◌∙◌, arith, length-set}
-use Rattle.std.proofs.lemmas.List.{get_or-map, get_or-set_same, length-map, map-set}
+use Rattle.std.proofs.Common.{◌≡◌, ℕ, ◌+◌, ◌<◌, List, [], ◌∷◌, length, map, get_or, set, Option, Some, None, is_some, inl, refl, sym, ap, subst, ◌∙◌, arith}
+use Rattle.std.proofs.lemmas.List.{get_or-map, length-map, map-set}
 use Rattle.ix_text.specs.Parts.{DictionaryEntry}
 use Rattle.ix_run.specs.Heads.{Heading}
 use Rattle.ix_run.specs.Sources.{Giving, IsLawfulFront, Yielding, entry_with}

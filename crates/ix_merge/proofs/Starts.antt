@@ -1,5 +1,5 @@
 -- The first terms of sources are read, one after the other.
-use Rattle.std.proofs.Common.{◌≡◌, ◌≢◌, inl, inr, ℕ, ◌+◌, ◌^◌, ◌<◌, ◌≤◌, List, [], ◌∷◌, length, map, get_or, set, Bool, cond, Option, Some, None, MatchOption, is_some, refl, sym, ap, subst, ◌∙◌, option_map, arith, length-set}
+use Rattle.std.proofs.Common.{◌≡◌, inl, inr, ℕ, ◌+◌, ◌^◌, ◌<◌, ◌≤◌, List, [], ◌∷◌, length, map, get_or, set, Option, Some, None, MatchOption, refl, sym, ap, subst, ◌∙◌, option_map, arith, length-set}
 use Rattle.std.proofs.lemmas.Bool.{cases_eq}
 use Rattle.std.proofs.lemmas.List.{get_or-map, get_or-set_same, get_or-set_other, get_or_default, length-map, same_lists}
 use Rattle.ix_text.specs.Parts.{DictionaryEntry, Posting}

@@ -1,7 +1,7 @@
 -- What contends for sources in a tournament: of each its place, and a number in the order of the keys, as far as it shows them.
-use Rattle.std.specs.Prelude.{◌≡◌, ℕ, zero, suc, ◌+◌, ◌-◌, ◌*◌, ◌/◌, ◌%◌, ◌^◌, ◌<◌, ◌≤◌, ◌⊎◌, ⊤, List, length, map, min, All, Option, Some, None, MatchOption, nat_eq, slice_index, slice_index_or, if◌then◌else◌}
-use Rattle.ix_merge.specs.Keys.{Key}
-use Rattle.ix_merge.specs.Tournaments.{HasKey, IsSettledBut, IsTournament, IsWinner, StandsOver, key_at}
+use Rattle.std.specs.Prelude.{◌≡◌, ℕ, zero, suc, ◌+◌, ◌-◌, ◌*◌, ◌/◌, ◌%◌, ◌^◌, ◌<◌, ◌≤◌, ◌⊎◌, Bool, MatchBool, List, length, map, min, All, Option, Some, None, MatchOption, nat_eq, slice_index, slice_index_or, if◌then◌else◌}
+use Rattle.ix_merge.specs.Keys.{ComesFirst, Key}
+use Rattle.ix_merge.specs.Tournaments.{HasKey, IsSettledBut, IsTournament, IsWinner, StandsOver, key_at, key_under}
 use Rattle.ix_merge.specs.declared.contender.Contender.{Contender}
 
 -- the number whose digits to the base 256 are so many first bytes of a text, zeros behind its end
@@ -39,6 +39,10 @@ IsRanked keys contender = (place : ℕ) (key : Key) → holder contender ≡ Som
 pub record Contends (keys : List (Option Key)) (contender : Contender) : Type 0 where
   pub has_key : HasKey keys (holder contender)
   pub ranked : IsRanked keys contender
+
+-- of what two nodes hold, whether the key of the one comes first
+abbrev pub GoesBefore : List (Option Key) → Bool → Option ℕ → Option ℕ → Type 0
+GoesBefore keys before one other = MatchBool before (ComesFirst (key_under keys one) (key_under keys other)) (ComesFirst (key_under keys other) (key_under keys one))
 
 -- The one is one of the two others, and its key comes first of theirs.
 pub record Wins (keys : List (Option Key)) (one left right : Contender) : Type 0 where
