@@ -11,7 +11,7 @@ use Rattle.std.specs.Cmp.Lexicographic.{slice_cmp}
 use Rattle.std.specs.Int.{from_be_bytes, w64}
 use Rattle.std.specs.Ordering.{nat_cmp, ordering_then}
 use Rattle.ix_run.specs.Heads.{Heading}
-use Rattle.ix_merge.specs.Contenders.{Contends, GoesBefore, IsRank, SeemAlike, StandsFor, Wins, holder, lead, rank_of}
+use Rattle.ix_merge.specs.Contenders.{Contends, GoesBefore, IsBar, IsRank, SeemAlike, StandsFor, Wins, holder, lead, rank_of}
 use Rattle.ix_merge.specs.Keys.{Key, ComesFirst, IsUpTo, end_of, key_of}
 use Rattle.ix_merge.specs.Tournaments.{HasKey, key_at, key_under}
 use Rattle.ix_merge.specs.declared.contender.Contender.{Contender}
@@ -274,6 +274,20 @@ alike_hold keys one other contends contends' alike =
     (holds, holds', subst (HasKey keys) holds contends.has_key, subst (HasKey keys) holds' contends'.has_key)
 
 -- that of the lower term goes before, where they do
-pub before_by_term : (keys : List (Option Key)) (one other : Contender) (before : Bool) → Contends keys one → Contends keys other → SeemAlike one other → GoesBefore keys before (Some one.place) (Some other.place)
-    → GoesBefore keys before (holder one) (holder other)
-before_by_term keys one other before contends contends' alike told = let hold = alike_hold keys one other contends contends' alike in rw (hold.0, hold.1) told
+pub before_by_term : (keys : List (Option Key)) (one other : Contender) (bar : ℕ) → Contends keys one → Contends keys other → SeemAlike one other → IsBar keys bar one.place other.place → GoesBefore keys (leb one.rank bar) (holder one) (holder other)
+before_by_term keys one other bar contends contends' alike told = by told
+  where
+    hold : (holder one ≡ Some one.place) × (holder other ≡ Some other.place) × HasKey keys (Some one.place) × HasKey keys (Some other.place)
+    hold = alike_hold keys one other contends contends' alike
+
+    by : IsBar keys bar one.place other.place → GoesBefore keys (leb one.rank bar) (holder one) (holder other)
+    by (inl (any, first)) =
+        let there = held_key keys one one.place contends hold.0 in
+        let below = rank_below there.0 one.rank there.2 in
+        let up : leb one.rank bar ≡ true = grind (arith, nat_tests) in
+        rw (hold.0, hold.1, up) first
+    by (inr (none, second)) =
+        let long = alike.1 in
+        let some : 0 < one.rank = omega arith in
+        let down : leb one.rank bar ≡ false = grind (arith, nat_tests) in
+        rw (hold.0, hold.1, down) second

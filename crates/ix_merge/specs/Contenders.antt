@@ -44,6 +44,10 @@ pub record Contends (keys : List (Option Key)) (contender : Contender) : Type 0 
 abbrev pub GoesBefore : List (Option Key) → Bool → Option ℕ → Option ℕ → Type 0
 GoesBefore keys before one other = MatchBool before (ComesFirst (key_under keys one) (key_under keys other)) (ComesFirst (key_under keys other) (key_under keys one))
 
+-- any rank is enough where the key at the one place comes first, and none where that at the other does
+abbrev pub IsBar : List (Option Key) → ℕ → ℕ → ℕ → Type 0
+IsBar keys bar one other = ((bar ≡ 2 ^ 128 - 1) × ComesFirst (key_at keys one) (key_at keys other)) ⊎ ((bar ≡ 0) × ComesFirst (key_at keys other) (key_at keys one))
+
 -- The one is one of the two others, and its key comes first of theirs.
 pub record Wins (keys : List (Option Key)) (one left right : Contender) : Type 0 where
   pub of_two : (one ≡ left) ⊎ (one ≡ right)

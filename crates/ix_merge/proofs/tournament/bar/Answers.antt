@@ -1,19 +1,19 @@
 use Rattle.std.proofs.Common.{map}
 use Rattle.ix_merge.specs.Keys.{key_of}
 use Rattle.ix_merge.proofs.Leads.{alike_hold, before_by_rank, before_by_term}
-use Rattle.ix_merge.proofs.tournament.goes_before.Goals as goal
+use Rattle.ix_merge.proofs.tournament.bar.Goals as goal
 
-pub goes_before_by_term-requires-clause-one : goal.goes_before_by_term-requires-clause-one
-goes_before_by_term-requires-clause-one g c =
+pub bar_by_term-requires-clause-one : goal.bar_by_term-requires-clause-one
+bar_by_term-requires-clause-one g c =
     (alike_hold (map (key_of g.S.Source.heading g.S.Source.current) c.args.sources.now) c.args.one.now c.args.other.now c.requires.one c.requires.other (c.seems_like.ensures.0 c.if-seems_like.true)).2
 
-pub goes_before_by_term-requires-clause-other : goal.goes_before_by_term-requires-clause-other
-goes_before_by_term-requires-clause-other g c =
+pub bar_by_term-requires-clause-other : goal.bar_by_term-requires-clause-other
+bar_by_term-requires-clause-other g c =
     (alike_hold (map (key_of g.S.Source.heading g.S.Source.current) c.args.sources.now) c.args.one.now c.args.other.now c.requires.one c.requires.other (c.seems_like.ensures.0 c.if-seems_like.true)).3
 
 pub returns-then-seems_like : goal.returns-then-seems_like
 returns-then-seems_like g c =
-    before_by_term (map (key_of g.S.Source.heading g.S.Source.current) c.args.sources.now) c.args.one.now c.args.other.now c.goes_before_by_term.result c.requires.one c.requires.other (c.seems_like.ensures.0 c.if-seems_like.true) c.goes_before_by_term.ensures
+    before_by_term (map (key_of g.S.Source.heading g.S.Source.current) c.args.sources.now) c.args.one.now c.args.other.now c.bar_by_term.result c.requires.one c.requires.other (c.seems_like.ensures.0 c.if-seems_like.true) c.bar_by_term.ensures
 
 pub returns-else-seems_like : goal.returns-else-seems_like
 returns-else-seems_like g c =
