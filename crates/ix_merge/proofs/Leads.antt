@@ -1,5 +1,5 @@
 -- The order of leads is that of their texts, and a lead with a length is a text.
-use Rattle.std.proofs.Common.{◌≡◌, ◌≢◌, ◌↔◌, ◌⊎◌, IsTrue, ℕ, zero, suc, ◌+◌, ◌-◌, ◌*◌, ◌/◌, ◌%◌, ◌^◌, min, ◌<◌, ◌≤◌, List, [], ◌∷◌, length, drop, take, get_or, add-one, add-suc, All, Option, Some, None, cond, leb, Bool, true, false, Ordering, Less, Equal, inl, inr, refl, sym, ap, subst, ◌∙◌, arith}
+use Rattle.std.proofs.Common.{nat_eq, ◌≡◌, ◌≢◌, ◌↔◌, ◌⊎◌, IsTrue, ℕ, zero, suc, ◌+◌, ◌-◌, ◌*◌, ◌/◌, ◌%◌, ◌^◌, min, ◌<◌, ◌≤◌, List, [], ◌∷◌, length, drop, take, get_or, add-one, add-suc, All, Option, Some, None, cond, leb, Bool, true, false, Ordering, Less, Equal, inl, inr, refl, sym, ap, subst, ◌∙◌, arith}
 use Rattle.std.proofs.Math.Nat.{min-le_right, pow-suc, pow-le-pow_right}
 use Rattle.std.proofs.lemmas.Bool.{cases_lt, cases_eq, lt-ltb}
 use Rattle.std.proofs.lemmas.Bool.Decides.{nat_tests}
@@ -130,31 +130,31 @@ same_by_lead count one other bytes bytes' same long few = same_number_lists one 
 -- ---- ranks
 
 -- what a rank shows of a term, and the end of the numbers behind it
-pub rank_parts : (key : Key) (rank : ℕ) → IsRank key rank → (rank / 2 ^ 32 ≡ lead 11 key.term * 256 + min (length key.term) 12) × (rank % 2 ^ 32 ≡ key.end)
+pub rank_parts : (key : Key) (rank : ℕ) → IsRank key rank → (rank / 2 ^ 32 ≡ lead 10 key.term * 256 + min (length key.term) 11) × (rank % 2 ^ 32 ≡ key.end)
 unfolding rank_of
 rank_parts key rank is = let e = is.is in let f = is.ends in (omega arith, omega arith)
 
--- no rank of a key is the greatest number
-pub rank_below : (key : Key) (rank : ℕ) → IsRank key rank → rank < 2 ^ 128 - 1
+-- the ranks of keys are below that of none
+pub rank_below : (key : Key) (rank : ℕ) → IsRank key rank → rank < 2 ^ 120
 unfolding rank_of
 rank_below key rank is =
     let e = is.is in
     let f = is.ends in
-    let fits = lead_fits 11 key.term (bytes_of key.term is.bytes) in
-    let few = min-le_right (length key.term) 12 in
+    let fits = lead_fits 10 key.term (bytes_of key.term is.bytes) in
+    let few = min-le_right (length key.term) 11 in
     omega arith
 
--- a lead of eleven bytes leaves five of sixteen
-pub lead_low : (text : List ℕ) → Bytes text → lead 11 text < 2 ^ 88
-lead_low text bytes = let fits = lead_fits 11 text bytes in omega arith
+-- a lead of ten bytes leaves five of fifteen
+pub lead_low : (text : List ℕ) → Bytes text → lead 10 text < 2 ^ 80
+lead_low text bytes = let fits = lead_fits 10 text bytes in omega arith
 
 -- the rank of a term and an end, from its parts
-pub is_rank : (term : List ℕ) (end led long ends : ℕ) → Bytes term → end < 2 ^ 32 → led ≡ lead 11 term → long ≡ min (length term) 12 → ends ≡ end → IsRank (record { term = term; end = end }) ((led * 256 + long) * 2 ^ 32 + ends)
+pub is_rank : (term : List ℕ) (end led long ends : ℕ) → Bytes term → end < 2 ^ 32 → led ≡ lead 10 term → long ≡ min (length term) 11 → ends ≡ end → IsRank (record { term = term; end = end }) ((led * 256 + long) * 2 ^ 32 + ends)
 unfolding rank_of
 is_rank term end led long ends bytes low is is' is'' = record { bytes = All-from_get_or (λ byte. byte < 256) term 0 (λ place within. bytes place); ends = low; is = rw (is, is', is'') refl }
 
 -- in which order numbers of three parts stand
-by_parts : (a a' b b' e e' : ℕ) → b ≤ 12 → b' ≤ 12 → e < 2 ^ 32 → e' < 2 ^ 32 → (a * 256 + b) * 2 ^ 32 + e ≤ (a' * 256 + b') * 2 ^ 32 + e'
+by_parts : (a a' b b' e e' : ℕ) → b ≤ 11 → b' ≤ 11 → e < 2 ^ 32 → e' < 2 ^ 32 → (a * 256 + b) * 2 ^ 32 + e ≤ (a' * 256 + b') * 2 ^ 32 + e'
     → (a < a') ⊎ ((a ≡ a') × ((b < b') ⊎ ((b ≡ b') × (e ≤ e'))))
 by_parts a a' b b' e e' few few' ends ends' up = elim (cases_lt a a') [
   | inl low ↦ inl low
@@ -167,12 +167,12 @@ by_parts a a' b b' e e' few few' ends ends' up = elim (cases_lt a a') [
 ]
 
 -- the lower rank is that of the key that comes first, unless both show the same beginning of longer terms
-up_to_by_rank : (key key' : Key) (rank rank' : ℕ) → IsRank key rank → IsRank key' rank' → rank ≤ rank' → (rank / 2 ^ 32 ≡ rank' / 2 ^ 32 → rank / 2 ^ 32 % 256 ≢ 12) → IsUpTo key key'
+up_to_by_rank : (key key' : Key) (rank rank' : ℕ) → IsRank key rank → IsRank key' rank' → rank ≤ rank' → (rank / 2 ^ 32 ≡ rank' / 2 ^ 32 → rank / 2 ^ 32 % 256 ≢ 11) → IsUpTo key key'
 unfolding rank_of
 up_to_by_rank key key' rank rank' is is' up apart =
     let e = is.is in
     let e' = is'.is in
-    by (by_parts (lead 11 key.term) (lead 11 key'.term) (min (length key.term) 12) (min (length key'.term) 12) key.end key'.end (min-le_right (length key.term) 12) (min-le_right (length key'.term) 12) is.ends is'.ends (omega arith))
+    by (by_parts (lead 10 key.term) (lead 10 key'.term) (min (length key.term) 11) (min (length key'.term) 11) key.end key'.end (min-le_right (length key.term) 11) (min-le_right (length key'.term) 11) is.ends is'.ends (omega arith))
   where
     bytes : Bytes key.term
     bytes = bytes_of key.term is.bytes
@@ -180,31 +180,31 @@ up_to_by_rank key key' rank rank' is is' up apart =
     bytes' : Bytes key'.term
     bytes' = bytes_of key'.term is'.bytes
 
-    by : (lead 11 key.term < lead 11 key'.term)
-        ⊎ ((lead 11 key.term ≡ lead 11 key'.term) × ((min (length key.term) 12 < min (length key'.term) 12) ⊎ ((min (length key.term) 12 ≡ min (length key'.term) 12) × (key.end ≤ key'.end)))) → IsUpTo key key'
-    by (inl low) = inl (below_by_lead 11 key.term key'.term bytes bytes' low)
+    by : (lead 10 key.term < lead 10 key'.term)
+        ⊎ ((lead 10 key.term ≡ lead 10 key'.term) × ((min (length key.term) 11 < min (length key'.term) 11) ⊎ ((min (length key.term) 11 ≡ min (length key'.term) 11) × (key.end ≤ key'.end)))) → IsUpTo key key'
+    by (inl low) = inl (below_by_lead 10 key.term key'.term bytes bytes' low)
     by (inr (led, inl short)) =
-        inl (below_longer key.term key'.term (λ place within. same_bytes 11 key.term key'.term bytes bytes' led place (omega arith)) (omega arith))
+        inl (below_longer key.term key'.term (λ place within. same_bytes 10 key.term key'.term bytes bytes' led place (omega arith)) (omega arith))
     by (inr (led, inr (long, ends))) =
         let parts = (rank_parts key rank is).0 in
         let parts' = (rank_parts key' rank' is').0 in
         let other = apart (omega arith) in
-        let few : length key.term ≤ 11 = whole (lead 11 key.term) (length key.term) (λ twelve. other (rw (parts, twelve) (digit (lead 11 key.term)))) in
-        inr (same_by_lead 11 key.term key'.term bytes bytes' led (omega arith) few, ends)
+        let few : length key.term ≤ 10 = whole (lead 10 key.term) (length key.term) (λ eleven. other (rw (parts, eleven) (digit (lead 10 key.term)))) in
+        inr (same_by_lead 10 key.term key'.term bytes bytes' led (omega arith) few, ends)
       where
-        whole : (a n : ℕ) → (min n 12 ≢ 12) → n ≤ 11
-        whole a n other = elim (cases_lt n 12) [ inl low ↦ omega arith | inr high ↦ absurd (other (omega arith)) ]
+        whole : (a n : ℕ) → (min n 11 ≢ 11) → n ≤ 10
+        whole a n other = elim (cases_lt n 11) [ inl low ↦ omega arith | inr high ↦ absurd (other (omega arith)) ]
 
-        digit : (a : ℕ) → (a * 256 + 12) % 256 ≡ 12
+        digit : (a : ℕ) → (a * 256 + 11) % 256 ≡ 11
         digit a = omega arith
 
 -- ---- what contenders hold
 
-pub holder_some : (contender : Contender) → contender.rank ≢ 2 ^ 128 - 1 → holder contender ≡ Some contender.place
+pub holder_some : (contender : Contender) → contender.rank ≢ 2 ^ 120 → holder contender ≡ Some contender.place
 unfolding holder
 holder_some contender other = grind (arith, nat_tests)
 
-pub holder_none : (contender : Contender) → contender.rank ≡ 2 ^ 128 - 1 → holder contender ≡ None
+pub holder_none : (contender : Contender) → contender.rank ≡ 2 ^ 120 → holder contender ≡ None
 unfolding holder
 holder_none contender last = grind (arith, nat_tests)
 
@@ -227,7 +227,7 @@ held_key keys contender place contends holds = by (key_at keys place) refl
     by (Some key) there = (key, ap (key_under keys) holds ∙ there, contends.ranked place key holds there)
 
 -- the one of the lower rank comes first
-pub first_by_rank : (keys : List (Option Key)) (one other : Contender) → Contends keys one → Contends keys other → one.rank ≤ other.rank → (one.rank / 2 ^ 32 ≡ other.rank / 2 ^ 32 → one.rank / 2 ^ 32 % 256 ≢ 12)
+pub first_by_rank : (keys : List (Option Key)) (one other : Contender) → Contends keys one → Contends keys other → one.rank ≤ other.rank → (one.rank / 2 ^ 32 ≡ other.rank / 2 ^ 32 → one.rank / 2 ^ 32 % 256 ≢ 11)
     → ComesFirst (key_under keys (holder one)) (key_under keys (holder other))
 first_by_rank keys one other contends contends' up apart = by (holder other) refl
   where
@@ -238,6 +238,16 @@ first_by_rank keys one other contends contends' up apart = by (holder other) ref
         let below = rank_below there'.0 other.rank there'.2 in
         let there = held_key keys one one.place contends (holder_some one (λ last. omega arith)) in
         rw (there.1, there'.1) (up_to_by_rank there.0 there'.0 one.rank other.rank there.2 there'.2 up apart)
+
+-- a contender's rank is that of none at the most
+pub contends_low : (keys : List (Option Key)) (contender : Contender) → Contends keys contender → contender.rank ≤ 2 ^ 120
+contends_low keys contender contends = elim (cases_eq contender.rank (2 ^ 120)) [
+  | inl last ↦ omega arith
+  | inr other ↦
+      let there = held_key keys contender contender.place contends (holder_some contender other) in
+      let below = rank_below there.0 contender.rank there.2 in
+      omega arith
+]
 
 -- ---- of two contenders
 
@@ -291,3 +301,12 @@ before_by_term keys one other bar contends contends' alike told = by told
         let some : 0 < one.rank = omega arith in
         let down : leb one.rank bar ≡ false = grind (arith, nat_tests) in
         rw (hold.0, hold.1, down) second
+
+pub bar_low : (keys : List (Option Key)) (bar one other : ℕ) → IsBar keys bar one other → bar ≤ 2 ^ 120
+bar_low keys bar one other (inl (any, first)) = omega arith
+bar_low keys bar one other (inr (none, second)) = omega arith
+
+-- a number that is 0 where the test holds and 1 where not picks by the test
+pub picked_so : (test : Bool) (later one other result : ℕ) → later ≡ cond test 0 1 → result ≡ cond (nat_eq later 0) one other → result ≡ cond test one other
+picked_so true later one other result is told = told ∙ ap (λ n. cond (nat_eq n 0) one other) is
+picked_so false later one other result is told = told ∙ ap (λ n. cond (nat_eq n 0) one other) is

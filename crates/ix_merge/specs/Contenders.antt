@@ -9,11 +9,11 @@ unfoldable pub lead : ℕ → List ℕ → ℕ
 lead zero text = 0
 lead (suc count) text = lead count text * 256 + slice_index text count
 
--- by worth: eleven first bytes of the term, the number of its bytes as far as twelve, and the end of the numbers
+-- by worth: ten first bytes of the term, the number of its bytes as far as eleven, and the end of the numbers
 unfoldable pub rank_of : Key → ℕ
-rank_of key = (lead 11 key.term * 256 + min (length key.term) 12) * 2 ^ 32 + key.end
+rank_of key = (lead 10 key.term * 256 + min (length key.term) 11) * 2 ^ 32 + key.end
 
--- The rank of a key: a number of 16 bytes, and not the greatest of these.
+-- The rank of a key: a number of 15 bytes.
 pub record IsRank (key : Key) (rank : ℕ) : Type 0 where
   pub bytes : All (λ byte. byte < 256) key.term
   pub ends : key.end < 2 ^ 32
@@ -21,7 +21,7 @@ pub record IsRank (key : Key) (rank : ℕ) : Type 0 where
 
 -- the place of the source that contends, or none
 unfoldable pub holder : Contender → Option ℕ
-holder contender = if nat_eq contender.rank (2 ^ 128 - 1) then None else Some contender.place
+holder contender = if nat_eq contender.rank (2 ^ 120) then None else Some contender.place
 
 -- the contender of the source at a place with this key, or of none where it has no key
 abbrev pub StandsFor : Option Key → ℕ → Contender → Type 0
@@ -29,7 +29,7 @@ StandsFor key place contender = MatchOption key (holder contender ≡ None) (λ 
 
 -- they agree in all but the end of the numbers, and their terms have more bytes than a rank shows
 abbrev pub SeemAlike : Contender → Contender → Type 0
-SeemAlike one other = (one.rank / 2 ^ 32 ≡ other.rank / 2 ^ 32) × (one.rank / 2 ^ 32 % 256 ≡ 12)
+SeemAlike one other = (one.rank / 2 ^ 32 ≡ other.rank / 2 ^ 32) × (one.rank / 2 ^ 32 % 256 ≡ 11)
 
 -- Where the place that it holds has a key, its rank is that of the key.
 abbrev pub IsRanked : List (Option Key) → Contender → Type 0
@@ -46,7 +46,7 @@ GoesBefore keys before one other = MatchBool before (ComesFirst (key_under keys 
 
 -- any rank is enough where the key at the one place comes first, and none where that at the other does
 abbrev pub IsBar : List (Option Key) → ℕ → ℕ → ℕ → Type 0
-IsBar keys bar one other = ((bar ≡ 2 ^ 128 - 1) × ComesFirst (key_at keys one) (key_at keys other)) ⊎ ((bar ≡ 0) × ComesFirst (key_at keys other) (key_at keys one))
+IsBar keys bar one other = ((bar ≡ 2 ^ 120) × ComesFirst (key_at keys one) (key_at keys other)) ⊎ ((bar ≡ 0) × ComesFirst (key_at keys other) (key_at keys one))
 
 -- The one is one of the two others, and its key comes first of theirs.
 pub record Wins (keys : List (Option Key)) (one left right : Contender) : Type 0 where

@@ -6,28 +6,31 @@ ghost use Rattle.ix_merge.specs.Keys.{end_of, key_of};
 use ix_run::Source;
 
 /// How many bytes of a term a rank shows.
-const SHOWN: usize = 11;
+const SHOWN: usize = 10;
 
 // those of them that are read at once, and what a number of these counts in a lead
 const FRONT: usize = 8;
 
-const FRONT_WORTH: u128 = 1 << 24;
+const FRONT_WORTH: u128 = 1 << 16;
 
 // what a lead counts in a rank above the number of bytes, and what both count above the end
 const LEAD_WORTH: u128 = 1 << 8;
 
 const SHOWN_WORTH: u128 = 1 << 32;
 
-// the rank of no source
-const LAST: u128 = u128::MAX;
+// above all that a rank shows
+const SHOWN_END: u128 = 1 << 96;
+
+/// The rank of no source, above those of all sources.
+pub(crate) const LAST: u128 = 1 << 120;
 
 /// A source in a tournament. Contenders stand close together, where terms and sources do not, and seldom is more than
 /// them compared.
 #[derive(Clone, Copy)]
 pub(crate) struct Contender {
-    /// By worth: the first 11 bytes of the source's term at hand, with zeros behind its end, of which the first counts
-    /// most; in one byte how many bytes the term has, or 12 where these are more than 11; in four bytes the number
-    /// behind the last that the source covers. `u128::MAX`, which is no such number, where no source contends.
+    /// By worth: the first 10 bytes of the source's term at hand, with zeros behind its end, of which the first counts
+    /// most; in one byte how many bytes the term has, or 11 where these are more than 10; in four bytes the number
+    /// behind the last that the source covers. `LAST` where no source contends.
     pub(crate) rank: u128,
     /// Where the source stands among those that are merged.
     pub(crate) place: usize,
@@ -83,13 +86,15 @@ impl Contender {
         (self.rank % SHOWN_WORTH) as u64
     }
 
-    /// Whether both show the same beginning of terms that are longer, so that the terms have to be compared.
+    /// Whether both show the same beginning of terms that are longer, so that the terms have to be compared. It seldom is so,
+    /// and one comparison tells it.
     #[inline]
-    pub(crate) fn seems_like(&self, other: &Contender) -> bool
-        ensures { IsTrue result ↔ SeemAlike self.now other.now }
+    pub(crate) fn seems_like(self, other: Contender) -> bool
+        ensures { IsTrue result ↔ SeemAlike self other }
     {
         let shown = self.rank / SHOWN_WORTH;
-        (shown == other.rank / SHOWN_WORTH) & (shown % LEAD_WORTH == SHOWN as u128 + 1)
+        let long = SHOWN as u128 + 1;
+        shown + shown % LEAD_WORTH * SHOWN_END == other.rank / SHOWN_WORTH + long * SHOWN_END
     }
 }
 
@@ -106,10 +111,10 @@ fn rank_of(term: &str, end: u64) -> u128
     (lead_of(term.as_bytes()) * LEAD_WORTH + length) * SHOWN_WORTH + u128::from(end)
 }
 
-/// The first 11 bytes of a text as a number, in two parts: many terms have but one.
+/// The first 10 bytes of a text as a number, in two parts: many terms have but one.
 #[inline]
 fn lead_of(text: &[u8]) -> u128
-    ensures { result ≡ lead 11 text.now }
+    ensures { result ≡ lead 10 text.now }
 {
     match text.first_chunk::<FRONT>() {
         Some(front) => {
