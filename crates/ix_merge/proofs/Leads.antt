@@ -1,19 +1,21 @@
 -- The order of leads is that of their texts, and a lead with a length is a text.
-use Rattle.std.proofs.Common.{◌≡◌, ◌≢◌, ◌↔◌, ◌⊎◌, IsTrue, nat_eq, nat_lt, ◌&&◌, ℕ, zero, suc, ◌+◌, ◌*◌, ◌^◌, ◌<◌, ◌≤◌, List, [], ◌∷◌, length, drop, get_or, add-one, add-suc, All, Option, Some, None, IsSome, MatchBool, Bool, true, false, Ordering, Less, Equal, inl, inr, refl, sym, ap, subst, ◌∙◌, arith}
-use Rattle.std.proofs.Math.Nat.{pow-suc, pow-le-pow_right}
+use Rattle.std.proofs.Common.{nat_eq, ◌≡◌, ◌≢◌, ◌↔◌, ◌⊎◌, IsTrue, ℕ, zero, suc, ◌+◌, ◌-◌, ◌*◌, ◌/◌, ◌%◌, ◌^◌, min, ◌<◌, ◌≤◌, List, [], ◌∷◌, length, drop, take, get_or, add-one, add-suc, All, Option, Some, None, cond, leb, Bool, true, false, Ordering, Less, Equal, inl, inr, refl, sym, ap, subst, ◌∙◌, arith}
+use Rattle.std.proofs.Math.Nat.{min-le_right, pow-suc, pow-le-pow_right}
 use Rattle.std.proofs.lemmas.Bool.{cases_lt, cases_eq, lt-ltb}
 use Rattle.std.proofs.lemmas.Bool.Decides.{nat_tests}
 use Rattle.std.proofs.lemmas.Cmp.{tied_itself, nat_cmp_total}
 use Rattle.std.proofs.lemmas.Grind.{same_number_lists}
-use Rattle.std.proofs.lemmas.List.{get_or_past, get_or-drop}
-use Rattle.std.proofs.lemmas.List.Elements.{All-get_or}
+use Rattle.std.proofs.lemmas.List.{get_or_past, get_or-drop, get_or-take}
+use Rattle.std.proofs.lemmas.List.Elements.{All-from_get_or, All-get_or}
 use Rattle.std.specs.Cmp.Lexicographic.{slice_cmp}
+use Rattle.std.specs.Int.{from_be_bytes, w64}
 use Rattle.std.specs.Ordering.{nat_cmp, ordering_then}
-use Rattle.ix_merge.specs.Keys.{Key, ComesFirst, IsUpTo}
-use Rattle.ix_merge.specs.Standings.{AreStandings, HasStanding, IsStanding, StandsBefore, lead}
-use Rattle.ix_merge.specs.Tournaments.{HasKey, IsWinner, key_at}
-use Rattle.ix_merge.proofs.Playing.{winner_told}
-use Rattle.ix_merge.specs.declared.standing.Standing.{Standing}
+use Rattle.ix_run.specs.Heads.{Heading}
+use Rattle.ix_merge.specs.Contenders.{Contends, GoesBefore, IsBar, IsRank, SeemAlike, StandsFor, Wins, holder, lead, rank_of}
+use Rattle.ix_merge.specs.Keys.{Key, ComesFirst, IsUpTo, end_of, key_of}
+use Rattle.ix_merge.specs.Tournaments.{HasKey, key_at, key_under}
+use Rattle.ix_merge.specs.declared.contender.Contender.{Contender}
+use Rattle.ix_merge.proofs.KeyOrder.{first_itself}
 
 abbrev Bytes : List ℕ → Type 0
 Bytes text = (place : ℕ) → get_or text place 0 < 256
@@ -55,6 +57,20 @@ lead_halves first (suc count) text =
     let more : lead (first + suc count) text ≡ lead (first + count) text * 256 + get_or text (first + count) 0 = rw add-suc refl in
     let byte = get_or-drop first text count 0 in
     rw (more, pow-suc) (omega arith)
+
+-- that of 8 bytes, as they are read at once
+pub lead_at_once : (bytes : List ℕ) → from_be_bytes w64 bytes ≡ lead 8 bytes
+unfolding lead
+lead_at_once bytes = omega arith
+
+-- that of a text shows no more than so many bytes
+pub lead_of_front : (count front : ℕ) (text : List ℕ) → count ≤ front → lead count (take front text) ≡ lead count text
+unfolding lead
+lead_of_front zero front text few = refl
+lead_of_front (suc count) front text few =
+    let h = lead_of_front count front text (omega arith) in
+    let byte = get_or-take front text count 0 (omega arith) in
+    omega arith
 
 -- that of no bytes
 pub lead_none : (count : ℕ) → lead count [] ≡ 0
@@ -111,73 +127,186 @@ below_by_lead (suc count) one other bytes bytes' low =
 pub same_by_lead : (count : ℕ) (one other : List ℕ) → Bytes one → Bytes other → lead count one ≡ lead count other → length one ≡ length other → length one ≤ count → one ≡ other
 same_by_lead count one other bytes bytes' same long few = same_number_lists one other long (λ place within. same_bytes count one other bytes bytes' same place (omega arith))
 
--- ---- the order of two keys by their standings
+-- ---- ranks
 
--- the lower lead is that of the lower key
-lower_first : (key key' : Key) (standing standing' : Standing) → IsStanding key standing → IsStanding key' standing' → standing.lead < standing'.lead → IsUpTo key key'
-lower_first key key' standing standing' is is' low = inl (below_by_lead 16 key.term key'.term (bytes_of key.term is.bytes) (bytes_of key'.term is'.bytes) (omega (arith, is.led, is'.led)))
+-- what a rank shows of a term, and the end of the numbers behind it
+pub rank_parts : (key : Key) (rank : ℕ) → IsRank key rank → (rank / 2 ^ 32 ≡ lead 10 key.term * 256 + min (length key.term) 11) × (rank % 2 ^ 32 ≡ key.end)
+unfolding rank_of
+rank_parts key rank is = let e = is.is in let f = is.ends in (omega arith, omega arith)
 
--- of one lead that shows the shorter term whole
-shorter_first : (key key' : Key) (standing standing' : Standing) → IsStanding key standing → IsStanding key' standing' → standing.lead ≡ standing'.lead → standing.length < standing'.length → standing.length ≤ 16 → IsUpTo key key'
-shorter_first key key' standing standing' is is' led short few =
-    let bytes = bytes_of key.term is.bytes in
-    let bytes' = bytes_of key'.term is'.bytes in
-    let same : lead 16 key.term ≡ lead 16 key'.term = sym is.led ∙ led ∙ is'.led in
-    let long = is.long in
-    let long' = is'.long in
-    inl (below_longer key.term key'.term (λ place within. same_bytes 16 key.term key'.term bytes bytes' same place (omega arith)) (omega arith))
+-- the ranks of keys are below that of none
+pub rank_below : (key : Key) (rank : ℕ) → IsRank key rank → rank < 2 ^ 120
+unfolding rank_of
+rank_below key rank is =
+    let e = is.is in
+    let f = is.ends in
+    let fits = lead_fits 10 key.term (bytes_of key.term is.bytes) in
+    let few = min-le_right (length key.term) 11 in
+    omega arith
 
--- of one term that both show whole
-sooner_first : (key key' : Key) (standing standing' : Standing) → IsStanding key standing → IsStanding key' standing' → standing.lead ≡ standing'.lead → standing.length ≡ standing'.length → standing.length ≤ 16 → standing.end ≤ standing'.end → IsUpTo key key'
-sooner_first key key' standing standing' is is' led long few ends =
-    inr (
-      same_by_lead 16 key.term key'.term (bytes_of key.term is.bytes) (bytes_of key'.term is'.bytes) (sym is.led ∙ led ∙ is'.led) (sym is.long ∙ long ∙ is'.long) (omega (arith, is.long)),
-      omega (arith, is.ends, is'.ends),
-    )
+-- a lead of ten bytes leaves five of fifteen
+pub lead_low : (text : List ℕ) → Bytes text → lead 10 text < 2 ^ 80
+lead_low text bytes = let fits = lead_fits 10 text bytes in omega arith
 
--- whichever it is, where the first shows its term whole or they begin in different ways
-up_to_by_standing : (key key' : Key) (standing standing' : Standing) → IsStanding key standing → IsStanding key' standing' → (result : Bool) → IsTrue result ↔ StandsBefore standing standing' → (standing.lead ≡ standing'.lead → standing.length ≤ 16)
-    → MatchBool result (IsUpTo key key') (IsUpTo key' key)
-up_to_by_standing key key' standing standing' is is' true told few = yes (told.0 refl)
-  where
-    yes : StandsBefore standing standing' → IsUpTo key key'
-    yes (inl low) = lower_first key key' standing standing' is is' low
-    yes (inr (led, inl short)) = shorter_first key key' standing standing' is is' led short (few led)
-    yes (inr (led, inr (long, ends))) = sooner_first key key' standing standing' is is' led long (few led) ends
-up_to_by_standing key key' standing standing' is is' false told few = elim (cases_lt standing.lead standing'.lead) [
-  | inl low ↦ no (inl low)
+-- the rank of a term and an end, from its parts
+pub is_rank : (term : List ℕ) (end led long ends : ℕ) → Bytes term → end < 2 ^ 32 → led ≡ lead 10 term → long ≡ min (length term) 11 → ends ≡ end → IsRank (record { term = term; end = end }) ((led * 256 + long) * 2 ^ 32 + ends)
+unfolding rank_of
+is_rank term end led long ends bytes low is is' is'' = record { bytes = All-from_get_or (λ byte. byte < 256) term 0 (λ place within. bytes place); ends = low; is = rw (is, is', is'') refl }
+
+-- in which order numbers of three parts stand
+by_parts : (a a' b b' e e' : ℕ) → b ≤ 11 → b' ≤ 11 → e < 2 ^ 32 → e' < 2 ^ 32 → (a * 256 + b) * 2 ^ 32 + e ≤ (a' * 256 + b') * 2 ^ 32 + e'
+    → (a < a') ⊎ ((a ≡ a') × ((b < b') ⊎ ((b ≡ b') × (e ≤ e'))))
+by_parts a a' b b' e e' few few' ends ends' up = elim (cases_lt a a') [
+  | inl low ↦ inl low
   | inr high ↦
-      elim (cases_eq standing.lead standing'.lead) [
-        | inl led ↦ alike led (cases_lt standing.length standing'.length) (cases_eq standing.length standing'.length) (cases_lt standing'.end standing.end)
-        | inr apart ↦ lower_first key' key standing' standing is' is (omega arith)
+      let same : a ≡ a' = omega arith in
+      elim (cases_lt b b') [
+        | inl short ↦ inr (same, inl short)
+        | inr long ↦ inr (same, inr (omega arith, omega arith))
       ]
 ]
+
+-- the lower rank is that of the key that comes first, unless both show the same beginning of longer terms
+up_to_by_rank : (key key' : Key) (rank rank' : ℕ) → IsRank key rank → IsRank key' rank' → rank ≤ rank' → (rank / 2 ^ 32 ≡ rank' / 2 ^ 32 → rank / 2 ^ 32 % 256 ≢ 11) → IsUpTo key key'
+unfolding rank_of
+up_to_by_rank key key' rank rank' is is' up apart =
+    let e = is.is in
+    let e' = is'.is in
+    by (by_parts (lead 10 key.term) (lead 10 key'.term) (min (length key.term) 11) (min (length key'.term) 11) key.end key'.end (min-le_right (length key.term) 11) (min-le_right (length key'.term) 11) is.ends is'.ends (omega arith))
   where
-    no : StandsBefore standing standing' → IsUpTo key' key
-    no before = let e = told.1 before in absurd cc
+    bytes : Bytes key.term
+    bytes = bytes_of key.term is.bytes
 
-    alike : standing.lead ≡ standing'.lead → (standing.length < standing'.length) ⊎ (standing'.length ≤ standing.length) → (standing.length ≡ standing'.length) ⊎ (standing.length ≢ standing'.length)
-        → (standing'.end < standing.end) ⊎ (standing.end ≤ standing'.end) → IsUpTo key' key
-    alike led (inl short) same ends = no (inr (led, inl short))
-    alike led (inr long) (inl same) (inr ends) = no (inr (led, inr (same, ends)))
-    alike led (inr long) (inl same) (inl later) = sooner_first key' key standing' standing is' is (sym led) (sym same) (let h = few led in omega arith) (omega arith)
-    alike led (inr long) (inr apart) ends = shorter_first key' key standing' standing is' is (sym led) (omega arith) (let h = few led in omega arith)
+    bytes' : Bytes key'.term
+    bytes' = bytes_of key'.term is'.bytes
 
-pub first_by_standing : (key key' : Option Key) (standing standing' : Standing) → IsSome key → IsSome key' → HasStanding key standing → HasStanding key' standing' → (result : Bool) → IsTrue result ↔ StandsBefore standing standing'
-    → (standing.lead ≡ standing'.lead → standing.length ≤ 16) → MatchBool result (ComesFirst key key') (ComesFirst key' key)
-first_by_standing None key' standing standing' some some' is is' result told few = absurd cc
-first_by_standing (Some key) None standing standing' some some' is is' result told few = absurd cc
-first_by_standing (Some key) (Some key') standing standing' some some' is is' result told few = up_to_by_standing key key' standing standing' is is' result told few
+    by : (lead 10 key.term < lead 10 key'.term)
+        ⊎ ((lead 10 key.term ≡ lead 10 key'.term) × ((min (length key.term) 11 < min (length key'.term) 11) ⊎ ((min (length key.term) 11 ≡ min (length key'.term) 11) × (key.end ≤ key'.end)))) → IsUpTo key key'
+    by (inl low) = inl (below_by_lead 10 key.term key'.term bytes bytes' low)
+    by (inr (led, inl short)) =
+        inl (below_longer key.term key'.term (λ place within. same_bytes 10 key.term key'.term bytes bytes' led place (omega arith)) (omega arith))
+    by (inr (led, inr (long, ends))) =
+        let parts = (rank_parts key rank is).0 in
+        let parts' = (rank_parts key' rank' is').0 in
+        let other = apart (omega arith) in
+        let few : length key.term ≤ 10 = whole (lead 10 key.term) (length key.term) (λ eleven. other (rw (parts, eleven) (digit (lead 10 key.term)))) in
+        inr (same_by_lead 10 key.term key'.term bytes bytes' led (omega arith) few, ends)
+      where
+        whole : (a n : ℕ) → (min n 11 ≢ 11) → n ≤ 10
+        whole a n other = elim (cases_lt n 11) [ inl low ↦ omega arith | inr high ↦ absurd (other (omega arith)) ]
 
--- the winner of two places that have keys, told by their standings, where the first shows its term whole or they begin in different ways
-pub winner_by_standing : (keys : List (Option Key)) (standings : List Standing) (one other : ℕ) (left right : Option ℕ) (none : Standing) (result : Bool) → AreStandings keys standings → left ≡ Some one → right ≡ Some other → HasKey keys left → HasKey keys right
-    → IsTrue result ↔ StandsBefore (get_or standings one none) (get_or standings other none) → (nat_eq (get_or standings one none).lead (get_or standings other none).lead && nat_lt 16 (get_or standings one none).length) ≡ false
-    → MatchBool result (IsWinner keys (Some one) left right) (IsWinner keys (Some other) left right)
-winner_by_standing keys standings one other left right none result are is is' has has' told known =
-    let k : HasKey keys (Some one) = subst (HasKey keys) is has in
-    let k' : HasKey keys (Some other) = subst (HasKey keys) is' has' in
-    winner_told keys one other left right result is is'
-    (first_by_standing (key_at keys one) (key_at keys other) (get_or standings one none) (get_or standings other none) k.1 k'.1 (are.each one none k.0) (are.each other none k'.0) result told (shown_whole _ _ _ known))
+        digit : (a : ℕ) → (a * 256 + 11) % 256 ≡ 11
+        digit a = omega arith
+
+-- ---- what contenders hold
+
+pub holder_some : (contender : Contender) → contender.rank ≢ 2 ^ 120 → holder contender ≡ Some contender.place
+unfolding holder
+holder_some contender other = grind (arith, nat_tests)
+
+pub holder_none : (contender : Contender) → contender.rank ≡ 2 ^ 120 → holder contender ≡ None
+unfolding holder
+holder_none contender last = grind (arith, nat_tests)
+
+-- that of a source with a term at hand
+pub stands_for : {S : Type 0} (heading : S → Heading) (current : S → Option (List ℕ)) (source : S) (term : List ℕ) (end place rank : ℕ) → current source ≡ Some term → end ≡ end_of (heading source)
+    → IsRank (record { term = term; end = end }) rank → StandsFor (key_of heading current source) place (record { rank = rank; place = place })
+stands_for heading current source term end place rank is ends ranked =
+    let below = rank_below (record { term = term; end = end }) rank ranked in
+    let held = holder_some (record { rank = rank; place = place }) (λ last. omega arith) in
+    let ranked' : IsRank (record { term = term; end = end_of (heading source) }) rank = subst (λ n. IsRank (record { term = term; end = n }) rank) ends ranked in
+    rw is (held, ranked')
+
+-- one that holds a place has the rank of the key there
+held_key : (keys : List (Option Key)) (contender : Contender) (place : ℕ) → Contends keys contender → holder contender ≡ Some place
+    → (key : Key) × (key_under keys (holder contender) ≡ Some key) × IsRank key contender.rank
+held_key keys contender place contends holds = by (key_at keys place) refl
   where
-    shown_whole : (m n count : ℕ) → (nat_eq m n && nat_lt 16 count) ≡ false → m ≡ n → count ≤ 16
-    shown_whole m n count known same = grind (arith, nat_tests)
+    by : (at : Option Key) → key_at keys place ≡ at → (key : Key) × (key_under keys (holder contender) ≡ Some key) × IsRank key contender.rank
+    by None none = let has : HasKey keys (Some place) = subst (HasKey keys) holds contends.has_key in let some = rw none at has.1 in absurd cc
+    by (Some key) there = (key, ap (key_under keys) holds ∙ there, contends.ranked place key holds there)
+
+-- the one of the lower rank comes first
+pub first_by_rank : (keys : List (Option Key)) (one other : Contender) → Contends keys one → Contends keys other → one.rank ≤ other.rank → (one.rank / 2 ^ 32 ≡ other.rank / 2 ^ 32 → one.rank / 2 ^ 32 % 256 ≢ 11)
+    → ComesFirst (key_under keys (holder one)) (key_under keys (holder other))
+first_by_rank keys one other contends contends' up apart = by (holder other) refl
+  where
+    by : (held : Option ℕ) → holder other ≡ held → ComesFirst (key_under keys (holder one)) (key_under keys (holder other))
+    by None is = rw is tt
+    by (Some place) is =
+        let there' = held_key keys other place contends' is in
+        let below = rank_below there'.0 other.rank there'.2 in
+        let there = held_key keys one one.place contends (holder_some one (λ last. omega arith)) in
+        rw (there.1, there'.1) (up_to_by_rank there.0 there'.0 one.rank other.rank there.2 there'.2 up apart)
+
+-- a contender's rank is that of none at the most
+pub contends_low : (keys : List (Option Key)) (contender : Contender) → Contends keys contender → contender.rank ≤ 2 ^ 120
+contends_low keys contender contends = elim (cases_eq contender.rank (2 ^ 120)) [
+  | inl last ↦ omega arith
+  | inr other ↦
+      let there = held_key keys contender contender.place contends (holder_some contender other) in
+      let below = rank_below there.0 contender.rank there.2 in
+      omega arith
+]
+
+-- ---- of two contenders
+
+wins_first : (keys : List (Option Key)) (one other : Contender) → ComesFirst (key_under keys (holder one)) (key_under keys (holder other)) → Wins keys one one other
+wins_first keys one other first = record { of_two = inl refl; wins = record { of_two = inl refl; first = first_itself (key_under keys (holder one)); first_too = first } }
+
+wins_second : (keys : List (Option Key)) (one other : Contender) → ComesFirst (key_under keys (holder other)) (key_under keys (holder one)) → Wins keys other one other
+wins_second keys one other first = record { of_two = inr refl; wins = record { of_two = inr refl; first = first; first_too = first_itself (key_under keys (holder other)) } }
+
+-- the one that goes before is picked
+pub wins_picked : (keys : List (Option Key)) (one other : Contender) (before : Bool) (rank place : ℕ) → GoesBefore keys before (holder one) (holder other) → rank ≡ cond before one.rank other.rank → place ≡ cond before one.place other.place
+    → Wins keys (record { rank = rank; place = place }) one other
+wins_picked keys one other true rank place told is is' = rw (is, is') (wins_first keys one other told)
+wins_picked keys one other false rank place told is is' = rw (is, is') (wins_second keys one other told)
+
+-- that of the lower rank goes before, where they do not seem alike
+pub before_by_rank : (keys : List (Option Key)) (one other : Contender) (alike : Bool) → Contends keys one → Contends keys other → IsTrue alike ↔ SeemAlike one other → alike ≡ false → GoesBefore keys (leb one.rank other.rank) (holder one) (holder other)
+before_by_rank keys one other alike contends contends' told unlike = by (leb one.rank other.rank) refl
+  where
+    by : (before : Bool) → leb one.rank other.rank ≡ before → GoesBefore keys before (holder one) (holder other)
+    by true is = first_by_rank keys one other contends contends' (grind (arith, nat_tests)) (λ same long. let e = told.1 (same, long) in absurd cc)
+    by false is =
+        let up : other.rank ≤ one.rank = grind (arith, nat_tests) in
+        first_by_rank keys other one contends' contends up (λ same long. let e = told.1 (sym same, omega arith) in absurd cc)
+
+-- both hold their places, where they seem alike
+pub alike_hold : (keys : List (Option Key)) (one other : Contender) → Contends keys one → Contends keys other → SeemAlike one other
+    → (holder one ≡ Some one.place) × (holder other ≡ Some other.place) × HasKey keys (Some one.place) × HasKey keys (Some other.place)
+alike_hold keys one other contends contends' alike =
+    let same = alike.0 in
+    let long = alike.1 in
+    let holds = holder_some one (λ last. omega arith) in
+    let holds' = holder_some other (λ last. omega arith) in
+    (holds, holds', subst (HasKey keys) holds contends.has_key, subst (HasKey keys) holds' contends'.has_key)
+
+-- that of the lower term goes before, where they do
+pub before_by_term : (keys : List (Option Key)) (one other : Contender) (bar : ℕ) → Contends keys one → Contends keys other → SeemAlike one other → IsBar keys bar one.place other.place → GoesBefore keys (leb one.rank bar) (holder one) (holder other)
+before_by_term keys one other bar contends contends' alike told = by told
+  where
+    hold : (holder one ≡ Some one.place) × (holder other ≡ Some other.place) × HasKey keys (Some one.place) × HasKey keys (Some other.place)
+    hold = alike_hold keys one other contends contends' alike
+
+    by : IsBar keys bar one.place other.place → GoesBefore keys (leb one.rank bar) (holder one) (holder other)
+    by (inl (any, first)) =
+        let there = held_key keys one one.place contends hold.0 in
+        let below = rank_below there.0 one.rank there.2 in
+        let up : leb one.rank bar ≡ true = grind (arith, nat_tests) in
+        rw (hold.0, hold.1, up) first
+    by (inr (none, second)) =
+        let long = alike.1 in
+        let some : 0 < one.rank = omega arith in
+        let down : leb one.rank bar ≡ false = grind (arith, nat_tests) in
+        rw (hold.0, hold.1, down) second
+
+pub bar_low : (keys : List (Option Key)) (bar one other : ℕ) → IsBar keys bar one other → bar ≤ 2 ^ 120
+bar_low keys bar one other (inl (any, first)) = omega arith
+bar_low keys bar one other (inr (none, second)) = omega arith
+
+-- a number that is 0 where the test holds and 1 where not picks by the test
+pub picked_so : (test : Bool) (later one other result : ℕ) → later ≡ cond test 0 1 → result ≡ cond (nat_eq later 0) one other → result ≡ cond test one other
+picked_so true later one other result is told = told ∙ ap (λ n. cond (nat_eq n 0) one other) is
+picked_so false later one other result is told = told ∙ ap (λ n. cond (nat_eq n 0) one other) is

@@ -1,5 +1,6 @@
 pub mod Behind
 pub mod Closing
+pub mod ContenderSteps
 pub mod Covering
 pub mod Enclosed
 pub mod Faulting
@@ -18,7 +19,6 @@ pub mod Rounds
 pub mod Shares
 pub mod ShiftedLists
 pub mod Spans
-pub mod StandingSteps
 pub mod Starts
 pub mod StopTerms
 pub mod Turning

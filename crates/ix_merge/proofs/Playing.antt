@@ -1,9 +1,9 @@
 -- Nodes of a tournament are settled one by one, from below.
-use Rattle.std.proofs.Common.{◌≡◌, ◌≢◌, ℕ, zero, suc, ◌+◌, ◌*◌, ◌-◌, ◌/◌, ◌%◌, ◌<◌, ◌≤◌, ◌⊎◌, List, length, set, cond, Bool, true, false, MatchBool, is_some, Option, Some, None, IsSome, inl, inr, refl, sym, ap, ◌∙◌, subst, ⊎_elim, arith, length-set}
+use Rattle.std.proofs.Common.{◌≡◌, ◌≢◌, ℕ, zero, suc, ◌+◌, ◌*◌, ◌-◌, ◌/◌, ◌%◌, ◌<◌, ◌≤◌, ◌⊎◌, List, length, set, cond, is_some, Option, Some, None, IsSome, inl, inr, refl, sym, ap, ◌∙◌, subst, ⊎_elim, arith, length-set}
 use Rattle.std.proofs.lemmas.Bool.{cases_lt, cases_eq}
 use Rattle.std.proofs.lemmas.List.{get_or-set_same, get_or-set_other, get_or_past}
 use Rattle.ix_merge.specs.Keys.{Key, ComesFirst}
-use Rattle.ix_merge.specs.Tournaments.{key_at, key_under, holder_at, leaf_of, HasKey, IsWinner, IsSettled, above, StandsOver, IsSettledBut, AreLeaves, IsTournament}
+use Rattle.ix_merge.specs.Tournaments.{key_at, key_under, holder_at, leaf_of, HasKey, IsWinner, IsSettled, above, StandsOver, IsSettledBut, IsTournament}
 use Rattle.ix_merge.proofs.KeyOrder.{first_itself, first_further}
 
 pub leaf_has_key : (keys : List (Option Key)) (place : ℕ) → place < length keys → HasKey keys (leaf_of keys place)
@@ -59,12 +59,6 @@ pub record IsSettledFrom (keys : List (Option Key)) (tree : List (Option ℕ)) (
   pub sized : length tree ≡ 2 * length keys
   pub settled : (node : ℕ) → low ≤ node → 1 ≤ node → node < 2 * length keys → IsSettled keys tree node
 
-pub leaves_settled : (keys : List (Option Key)) (tree : List (Option ℕ)) (low : ℕ) → length keys ≤ low → AreLeaves keys tree → IsSettledFrom keys tree low
-leaves_settled keys tree low behind leaves = record {
-  sized = leaves.sized;
-  settled = λ node from some within. settled_leaf keys tree node (omega arith) within (leaves.leaf node (omega arith) within);
-}
-
 -- both nodes below have keys
 pub below_have_keys : (keys : List (Option Key)) (tree : List (Option ℕ)) (node : ℕ) → IsSettledFrom keys tree (node + 1) → 1 ≤ node → node < length keys
     → HasKey keys (holder_at tree (2 * node)) × HasKey keys (holder_at tree (2 * node + 1))
@@ -93,7 +87,7 @@ above-last zero node = refl
 above-last (suc levels) node = above-last levels (node / 2)
 
 -- what stands above one node is the next above it, or stands above that
-over_next : (high low : ℕ) → StandsOver high low → (high ≡ low / 2) ⊎ StandsOver high (low / 2)
+pub over_next : (high low : ℕ) → StandsOver high low → (high ≡ low / 2) ⊎ StandsOver high (low / 2)
 over_next high low (zero, is) = inl (sym is)
 over_next high low (suc levels, is) = inr (levels, is)
 
@@ -101,7 +95,7 @@ halved : (levels node : ℕ) → above levels node ≤ node
 halved zero node = omega arith
 halved (suc levels) node = let h = halved levels (node / 2) in omega arith
 
-over_lower : (high low : ℕ) → StandsOver high low → high ≤ low / 2
+pub over_lower : (high low : ℕ) → StandsOver high low → high ≤ low / 2
 over_lower high low (levels, is) = let h = halved levels (low / 2) in omega arith
 
 -- nothing stands above the first
@@ -164,14 +158,6 @@ winner_above keys tree low at one best carried beside wins =
           let before : at ≡ 2 * (low / 2) = omega arith in
           winner_turned keys one (holder_at tree (2 * (low / 2) + 1)) (holder_at tree (2 * (low / 2))) (subst (λ m. P m (2 * (low / 2))) last (subst (P low) before here))
     ]
-
--- ---- of two places
-
--- the one that comes first
-pub winner_told : (keys : List (Option Key)) (one other : ℕ) (left right : Option ℕ) (result : Bool) → left ≡ Some one → right ≡ Some other
-    → MatchBool result (ComesFirst (key_at keys one) (key_at keys other)) (ComesFirst (key_at keys other) (key_at keys one)) → MatchBool result (IsWinner keys (Some one) left right) (IsWinner keys (Some other) left right)
-winner_told keys one other left right true is is' told = rw (is, is') (record { of_two = inl refl; first = first_itself (key_at keys one); first_too = told })
-winner_told keys one other left right false is is' told = rw (is, is') (record { of_two = inr refl; first = told; first_too = first_itself (key_at keys other) })
 
 -- ---- one key changes
 
@@ -240,7 +226,7 @@ module _ (keys : List (Option Key)) (tree : List (Option ℕ)) (place : ℕ) (ke
   leaf_kept : (other : ℕ) → other ≢ place → leaf_of keys' other ≡ leaf_of keys other
   leaf_kept other apart = ap (λ (k : Option Key). cond (is_some k) (Some other) None) (there other apart)
 
-  free : (node : ℕ) → 1 ≤ node → node < 2 * length keys → node ≢ length keys + place → ¬ (StandsOver node (length keys + place)) → ¬ (holder_at tree node ≡ Some place)
+  pub free : (node : ℕ) → 1 ≤ node → node < 2 * length keys → node ≢ length keys + place → ¬ (StandsOver node (length keys + place)) → ¬ (holder_at tree node ≡ Some place)
   free node some low apart under holds = ⊎_elim apart under (held_by keys tree place (2 * length keys) node played some low (omega arith) holds)
 
   child_free : (node child : ℕ) → ¬ (StandsOver node (length keys + place)) → child / 2 ≡ node → ¬ (StandsOver child (length keys + place))

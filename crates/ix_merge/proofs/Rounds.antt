@@ -1,22 +1,19 @@
 -- What the tournament and the order of the sources keep from turn to turn.
-use Rattle.std.proofs.Common.{◌≡◌, ℕ, ◌+◌, ◌<◌, List, [], ◌∷◌, length, map, get_or, set, Bool, true, false, cond, Option, Some, None, is_some, inl, refl, sym, ap, subst, ◌∙◌, arith, length-set}
-use Rattle.std.proofs.lemmas.List.{get_or-map, get_or-set_same, length-map, map-set}
-use Rattle.std.specs.Bool.{then_some}
+use Rattle.std.proofs.Common.{◌≡◌, ℕ, ◌+◌, ◌<◌, List, [], ◌∷◌, length, map, get_or, set, Option, Some, None, is_some, inl, refl, sym, ap, subst, ◌∙◌, arith}
+use Rattle.std.proofs.lemmas.List.{get_or-map, length-map, map-set}
 use Rattle.ix_text.specs.Parts.{DictionaryEntry}
 use Rattle.ix_run.specs.Heads.{Heading}
 use Rattle.ix_run.specs.Sources.{Giving, IsLawfulFront, Yielding, entry_with}
 use Rattle.ix_merge.specs.Keys.{Key, key_of}
 use Rattle.ix_merge.specs.Starting.{HaveStarted}
-use Rattle.ix_merge.specs.Tournaments.{IsSettledBut, IsTournament, holder_at, key_at, leaf_of}
+use Rattle.ix_merge.specs.Contenders.{IsContest, IsContestBut, StandsFor}
+use Rattle.ix_merge.specs.Tournaments.{IsTournament, holder_at}
+use Rattle.ix_merge.specs.declared.contender.Contender.{Contender}
 use Rattle.ix_merge.specs.Turns.{bare_entry}
 use Rattle.ix_merge.proofs.Behind.{AreBehind, IsBehind}
-use Rattle.ix_merge.proofs.Playing.{changed_settled, holds_none}
+use Rattle.ix_merge.proofs.ContenderSteps.{AreLeavesBefore, contest_changed, leaves_more}
+use Rattle.ix_merge.proofs.Playing.{holds_none}
 use Rattle.ix_merge.proofs.Readings.{Below}
-
--- what `then_some` answers
-pub then_some-cond : (more : Bool) (place : ℕ) → then_some more place ≡ cond more (Some place) None
-then_some-cond true place = refl
-then_some-cond false place = refl
 
 -- a text of some byte is above the one of none
 above_none : (text : List ℕ) → 0 < length text → Below [] text
@@ -31,21 +28,23 @@ module _ {S : Type 0} (heading : S → Heading) (current : S → Option (List �
   some_key source None e = rw e refl
   some_key source (Some term) e = rw e refl
 
-  -- the leaf of a source that went on is set
-  pub leaf_changed : (now : List S) (tree : List (Option ℕ)) (place : ℕ) (new : S) (more : Bool) → place < length now → IsTournament (keys now) tree → more ≡ is_some (current new)
-      → IsSettledBut (keys (set now place new)) (set tree (length (set now place new) + place) (cond more (Some place) None)) (length (set now place new) + place)
-  leaf_changed now tree place new more within played is =
+  -- the leaf of a source that started is set
+  pub leaf_begun : (now : List S) (tree : List Contender) (place : ℕ) (new : S) (one : Contender) → place < length now → StandsFor (key_of heading current new) place one → AreLeavesBefore (keys now) tree place
+      → AreLeavesBefore (keys (set now place new)) (set tree (length now + place) one) (place + 1)
+  leaf_begun now tree place new one within stands before =
       let many : length (keys now) ≡ length now = length-map now (key_of heading current) in
-      let count : length (set now place new) ≡ length (keys now) = length-set now place new ∙ sym many in
-      let same : keys (set now place new) ≡ set (keys now) place (key_of heading current new) = map-set (key_of heading current) now place new in
-      let there : key_at (set (keys now) place (key_of heading current new)) place ≡ key_of heading current new = get_or-set_same (keys now) place (key_of heading current new) None (omega arith) in
-      let leaf : leaf_of (set (keys now) place (key_of heading current new)) place ≡ cond more (Some place) None =
-      ap (λ (k : Option Key). cond (is_some k) (Some place) None) there ∙ ap (λ (b : Bool). cond b (Some place) None) (some_key new (current new) refl ∙ sym is) in
-      let all = changed_settled (keys now) tree place (key_of heading current new) (omega arith) played in
-      let P : List (Option Key) → ℕ → Option ℕ → Type 0 = λ ks n l. IsSettledBut ks (set tree (n + place) l) (n + place) in
-      subst (λ n. P (keys (set now place new)) n (cond more (Some place) None)) (sym count)
-      (subst (λ (ks : List (Option Key)). P ks (length (keys now)) (cond more (Some place) None)) (sym same)
-      (subst (λ (l : Option ℕ). P (set (keys now) place (key_of heading current new)) (length (keys now)) l) leaf all))
+      subst (λ (ks : List (Option Key)). AreLeavesBefore ks (set tree (length now + place) one) (place + 1)) (sym (map-set (key_of heading current) now place new))
+      (subst (λ n. AreLeavesBefore (set (keys now) place (key_of heading current new)) (set tree (n + place) one) (place + 1)) many
+      (leaves_more (keys now) tree place (key_of heading current new) one (omega arith) stands before))
+
+  -- the leaf of a source that went on is set
+  pub leaf_changed : (now : List S) (tree : List Contender) (place : ℕ) (new : S) (one : Contender) → place < length now → IsContest (keys now) tree → StandsFor (key_of heading current new) place one
+      → IsContestBut (keys (set now place new)) (set tree (length now + place) one) (length now + place)
+  leaf_changed now tree place new one within contest stands =
+      let many : length (keys now) ≡ length now = length-map now (key_of heading current) in
+      subst (λ (ks : List (Option Key)). IsContestBut ks (set tree (length now + place) one) (length now + place)) (sym (map-set (key_of heading current) now place new))
+      (subst (λ n. IsContestBut (set (keys now) place (key_of heading current new)) (set tree (n + place) one) (n + place)) many
+      (contest_changed (keys now) tree place (key_of heading current new) one (omega arith) contest stands))
 
   -- no source has a term
   pub none_left : (now : List S) (tree : List (Option ℕ)) → IsTournament (keys now) tree → holder_at tree 1 ≡ None → (place : ℕ) (source : S) → place < length now → current (get_or now place source) ≡ None

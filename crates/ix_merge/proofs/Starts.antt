@@ -1,13 +1,12 @@
 -- The first terms of sources are read, one after the other.
-use Rattle.std.proofs.Common.{◌≡◌, ◌≢◌, inl, inr, ℕ, ◌+◌, ◌*◌, ◌-◌, ◌<◌, ◌≤◌, List, [], ◌∷◌, length, map, get_or, set, Bool, cond, Option, Some, None, MatchOption, is_some, refl, sym, ap, subst, ◌∙◌, option_map, arith, length-set}
+use Rattle.std.proofs.Common.{◌≡◌, inl, inr, ℕ, ◌+◌, ◌^◌, ◌<◌, ◌≤◌, List, [], ◌∷◌, length, map, get_or, set, Option, Some, None, MatchOption, refl, sym, ap, subst, ◌∙◌, option_map, arith, length-set}
 use Rattle.std.proofs.lemmas.Bool.{cases_eq}
 use Rattle.std.proofs.lemmas.List.{get_or-map, get_or-set_same, get_or-set_other, get_or_default, length-map, same_lists}
 use Rattle.ix_text.specs.Parts.{DictionaryEntry, Posting}
 use Rattle.ix_run.specs.Heads.{Heading}
-use Rattle.ix_run.specs.Sources.{BeginsTerm, EndsTerms, Giving, Yielding, IsUnread, entry_with}
-use Rattle.ix_merge.specs.Keys.{Key, key_of}
+use Rattle.ix_run.specs.Sources.{BeginsTerm, EndsTerms, Giving, IsLawfulFront, Yielding, IsUnread, entry_with}
+use Rattle.ix_merge.specs.Keys.{end_of}
 use Rattle.ix_merge.specs.Starting.{HasStarted, HaveStarted}
-use Rattle.ix_merge.specs.Tournaments.{AreLeaves, holder_at, key_at, leaf_of}
 use Rattle.ix_merge.specs.Turns.{bare_entry}
 
 module _ {S : Type 0} (heading : S → Heading) (current : S → Option (List ℕ)) (yields : Yielding S) (gives : Giving S) where
@@ -54,28 +53,23 @@ module _ {S : Type 0} (heading : S → Heading) (current : S → Option (List �
           let source = source_at xs k within in
           get_or-map heading ys k source d (omega (arith, st.as_many)) ∙ (st.each k source within).same ∙ sym (get_or-map heading xs k source d within)
 
-  -- Those before a place have started, and have leaves; the others are as they were.
-  pub record HaveBegun (old now : List S) (tree : List (Option ℕ)) (count : ℕ) : Type 0 where
+  -- Those before a place have started; the others are as they were.
+  pub record HaveBegun (old now : List S) (count : ℕ) : Type 0 where
     pub as_many : length now ≡ length old
-    pub sized : length tree ≡ 2 * length old
     pub started : (place : ℕ) (source : S) → place < count → place < length old → HasStarted heading current yields gives (get_or old place source) (get_or now place source)
-    pub leaf : (place : ℕ) → place < count → place < length old → holder_at tree (length old + place) ≡ leaf_of (map (key_of heading current) now) place
     pub unread : (place : ℕ) (source : S) → count ≤ place → get_or now place source ≡ get_or old place source
 
-  pub begun_none : (old : List S) (tree : List (Option ℕ)) → length tree ≡ 2 * length old → HaveBegun old old tree 0
-  begun_none old tree sized = record {
+  pub begun_none : (old : List S) → HaveBegun old old 0
+  begun_none old = record {
     as_many = refl;
-    sized = sized;
     started = λ place source low within. absurd (omega arith);
-    leaf = λ place low within. absurd (omega arith);
     unread = λ place source low. refl;
   }
 
-  pub begun_more : (old now : List S) (tree : List (Option ℕ)) (count : ℕ) (source new : S) (more : Bool) → HaveBegun old now tree count → count < length old → get_or now count source ≡ source
-      → HasStarted heading current yields gives source new → more ≡ is_some (current new) → HaveBegun old (set now count new) (set tree (length now + count) (cond more (Some count) None)) (count + 1)
-  begun_more old now tree count source new more begun within here started is = record {
+  pub begun_more : (old now : List S) (count : ℕ) (source new : S) → HaveBegun old now count → count < length old → get_or now count source ≡ source
+      → HasStarted heading current yields gives source new → HaveBegun old (set now count new) (count + 1)
+  begun_more old now count source new begun within here started = record {
     as_many = length-set now count new ∙ begun.as_many;
-    sized = length-set tree (length now + count) (cond more (Some count) None) ∙ begun.sized;
     started = λ place d low w. elim (cases_eq place count) [
       | inl same ↦
           let P : ℕ → Type 0 = λ n. HasStarted heading current yields gives (get_or old n d) (get_or (set now count new) n d) in
@@ -87,52 +81,13 @@ module _ {S : Type 0} (heading : S → Heading) (current : S → Option (List �
           let e : get_or (set now count new) place d ≡ get_or now place d = get_or-set_other now count place new d other in
           rw e (begun.started place d (omega arith) w)
     ];
-    leaf = λ place low w. elim (cases_eq place count) [
-      | inl same ↦
-          let P : ℕ → Type 0 = λ n. holder_at (set tree (length now + count) (cond more (Some count) None)) (length old + n) ≡ leaf_of (map (key_of heading current) (set now count new)) n in
-          subst P (sym same)
-          (ap (λ n. holder_at (set tree (length now + count) (cond more (Some count) None)) (n + count)) (sym begun.as_many)
-          ∙ get_or-set_same tree (length now + count) (cond more (Some count) None) None (omega (arith, begun.sized, begun.as_many))
-          ∙ sym leaf_new)
-      | inr other ↦
-          let a : length old + place ≢ length now + count = λ e. other (omega (arith, begun.as_many)) in
-          get_or-set_other tree (length now + count) (length old + place) (cond more (Some count) None) None a
-          ∙ begun.leaf place (omega arith) w
-          ∙ sym (ap (λ (k : Option Key). cond (is_some k) (Some place) None) (key_other place other w))
-    ];
     unread = λ place d low. get_or-set_other now count place new d (λ e. omega arith) ∙ begun.unread place d (omega arith);
   }
-    where
-      key_new : key_at (map (key_of heading current) (set now count new)) count ≡ key_of heading current new
-      key_new =
-          get_or-map (key_of heading current) (set now count new) count source None (omega (arith, length-set now count new, begun.as_many))
-          ∙ ap (key_of heading current) (get_or-set_same now count new source (omega (arith, begun.as_many)))
 
-      some_key : (o : Option (List ℕ)) → current new ≡ o → is_some (key_of heading current new) ≡ is_some (current new)
-      some_key None e = rw e refl
-      some_key (Some term) e = rw e refl
+  pub begun_all : (old now : List S) (count : ℕ) → length old ≤ count → HaveBegun old now count → HaveStarted heading current yields gives old now
+  begun_all old now count all begun = record { as_many = begun.as_many; each = λ place source within. begun.started place source (omega arith) within }
 
-      leaf_new : leaf_of (map (key_of heading current) (set now count new)) count ≡ cond more (Some count) None
-      leaf_new =
-          ap (λ (k : Option Key). cond (is_some k) (Some count) None) key_new
-          ∙ ap (λ (b : Bool). cond b (Some count) None) (some_key (current new) refl ∙ sym is)
-
-      key_other : (place : ℕ) → place ≢ count → place < length old → key_at (map (key_of heading current) (set now count new)) place ≡ key_at (map (key_of heading current) now) place
-      key_other place other w =
-          get_or-map (key_of heading current) (set now count new) place source None (omega (arith, length-set now count new, begun.as_many))
-          ∙ ap (key_of heading current) (get_or-set_other now count place new source other)
-          ∙ sym (get_or-map (key_of heading current) now place source None (omega (arith, begun.as_many)))
-
-  pub begun_all : (old now : List S) (tree : List (Option ℕ)) (count : ℕ) → length old ≤ count → HaveBegun old now tree count
-      → HaveStarted heading current yields gives old now × AreLeaves (map (key_of heading current) now) tree
-  begun_all old now tree count all begun = (
-    record { as_many = begun.as_many; each = λ place source within. begun.started place source (omega arith) within },
-    record {
-      sized = begun.sized ∙ ap (λ n. 2 * n) (sym (length-map now (key_of heading current) ∙ begun.as_many));
-      leaf = λ node low high.
-          let many = length-map now (key_of heading current) in
-          let place : ℕ = node - length (map (key_of heading current) now) in
-          let e : length old + place ≡ node = omega (arith, many, begun.as_many) in
-          ap (holder_at tree) (sym e) ∙ begun.leaf place (omega (arith, many, begun.as_many)) (omega (arith, many, begun.as_many));
-    },
-  )
+  -- where one has started its numbers end low
+  pub ends_low : (lawfully : (source : S) (finished : List DictionaryEntry) (at_hand : Option DictionaryEntry) → gives source finished at_hand → IsLawfulFront (heading source) finished at_hand)
+      (old new : S) → HasStarted heading current yields gives old new → end_of (heading new) < 2 ^ 32
+  ends_low lawfully old new started = let within = (lawfully new [] (bare_entry (current new)) started.gives_none).whole.within in omega arith

@@ -1,5 +1,6 @@
 pub mod AnySources
 pub mod Beginnings
+pub mod Contenders
 pub mod Covers
 pub mod Headings
 pub mod Keys
@@ -9,7 +10,6 @@ pub mod Merging
 pub mod Pieces
 pub mod Refusals
 pub mod Rows
-pub mod Standings
 pub mod Starting
 pub mod Tournaments
 pub mod Turns

@@ -49,11 +49,6 @@ pub record IsSettledBut (keys : List (Option Key)) (tree : List (Option ℕ)) (l
   pub sized : length tree ≡ 2 * length keys
   pub settled : (node : ℕ) → 1 ≤ node → node < 2 * length keys → ¬ (StandsOver node low) → IsSettled keys tree node
 
--- Each leaf is settled.
-pub record AreLeaves (keys : List (Option Key)) (tree : List (Option ℕ)) : Type 0 where
-  pub sized : length tree ≡ 2 * length keys
-  pub leaf : (node : ℕ) → length keys ≤ node → node < 2 * length keys → holder_at tree node ≡ leaf_of keys (node - length keys)
-
 -- Each node is settled: the first holds the place of the least key.
 pub record IsTournament (keys : List (Option Key)) (tree : List (Option ℕ)) : Type 0 where
   pub sized : length tree ≡ 2 * length keys

@@ -4,12 +4,12 @@
 
 mod any_source;
 mod concatenation;
+mod contender;
 mod entry;
 mod index_head;
 mod index_source;
 mod merge_error;
 mod overview;
-mod standing;
 mod terms;
 mod tournament;
 mod turn;

@@ -3,17 +3,16 @@ ghost use Rattle.std.specs.Prelude.{◌≡◌, ◌≤◌, ◌*◌, ◌^◌, ℕ,
 ghost use Rattle.ix_file.specs.Told.{Told, entries_of};
 ghost use Rattle.ix_file.specs.Writers.{WasTold, sink, sink_name};
 ghost use Rattle.ix_run.specs.Sources.{IsUnread, KeepsFaults};
+ghost use Rattle.ix_merge.specs.Contenders.{AreLeaves};
 ghost use Rattle.ix_merge.specs.Keys.{key_of};
 ghost use Rattle.ix_merge.specs.Merged.{HasMergedSome};
 ghost use Rattle.ix_merge.specs.Merging.{AreApart, IsRefusalAt, IsRefusalOf, KeepFaults, TellsAll, WasToldNoTerm};
 ghost use Rattle.ix_merge.specs.Rows.{tokens_under};
-ghost use Rattle.ix_merge.specs.Standings.{AreStandings};
 ghost use Rattle.ix_merge.specs.Starting.{HasStarted, HaveStarted};
-ghost use Rattle.ix_merge.specs.Tournaments.{AreLeaves};
 
 use crate::MergeError;
+use crate::contender::Contender;
 use crate::entry::EntryAtHand;
-use crate::standing::Standing;
 use crate::tournament::{end, first_of, play_again, play_all};
 use crate::turn::take_turn;
 use ix_file::IndexWriter;
@@ -49,26 +48,20 @@ pub(crate) fn merge_terms<S: Source, W: Write>(
     let Some(nodes) = sources.len().checked_mul(2) else {
         return Err(MergeError::Memory);
     };
-    let Ok(mut tree) = vec![in alloc; None; nodes] else {
-        return Err(MergeError::Memory);
-    };
-    let Ok(mut standings) = vec![in alloc; Standing::none(); sources.len()] else {
+    let Ok(mut tree) = vec![in alloc; Contender::none(); nodes] else {
         return Err(MergeError::Memory);
     };
     let mut entry = EntryAtHand::none(alloc);
-    merge_by(sources, &mut standings, &mut tree, &mut entry, writer)
+    merge_by(sources, &mut tree, &mut entry, writer)
 }
 
-/// The same, with room for the standing of each source, the nodes of a tournament, twice as many as there are sources, and
-/// an entry that was not begun.
+/// The same, with room for the nodes of a tournament, twice as many as there are sources, and an entry that was not begun.
 fn merge_by<S: Source, W: Write>(
     sources: &mut [S],
-    standings: &mut [Standing],
-    tree: &mut [Option<usize>],
+    tree: &mut [Contender],
     entry: &mut EntryAtHand,
     writer: &mut IndexWriter<'_, W>,
 ) -> Result<(), MergeError<S::Error>>
-    requires as_many { length standings.old ≡ length sources.old }
     requires sized { length tree.old ≡ 2 * length sources.old }
     requires none { string_bytes entry.old.term ≡ [] }
     requires unread { All (IsUnread S.gives) sources.old }
@@ -85,45 +78,37 @@ fn merge_by<S: Source, W: Write>(
         (W.contents (sink writer.new))) }
     ensures refused { IfErr result (IsRefusalOf S.faults sources.old) }
 {
-    begin_all(sources, standings, tree)?;
-    play_all(sources, standings, tree);
+    begin_all(sources, tree)?;
+    play_all(sources, tree);
     while let Some(place) = first_of(tree) {
+        let leaf = sources.len() + place;
         let source = &mut sources[place];
         let more = take_turn(place, source, entry, writer)?;
-        standings[place].follow(source, more);
-        let leaf = sources.len() + place;
-        tree[leaf] = more.then_some(place);
-        play_again(sources, standings, tree, leaf);
+        tree[leaf] = Contender::of(place, source, more, tree[leaf].end());
+        play_again(sources, tree, leaf);
     }
     Ok(())
 }
 
-/// Reads the first term of each source, and sets the leaves of a tournament and where each source stands.
+/// Reads the first term of each source, and sets the leaves of a tournament.
 fn begin_all<S: Source>(
     sources: &mut [S],
-    standings: &mut [Standing],
-    tree: &mut [Option<usize>],
+    tree: &mut [Contender],
 ) -> Result<(), MergeError<S::Error>>
-    requires as_many { length standings.old ≡ length sources.old }
     requires sized { length tree.old ≡ 2 * length sources.old }
     requires unread { All (IsUnread S.gives) sources.old }
     ensures started { OnOk result
         (HaveStarted S.heading S.current S.yields S.gives sources.old sources.new) }
     ensures leaves { OnOk result (AreLeaves (map (key_of S.heading S.current) sources.new)
         tree.new) }
-    ensures standings { OnOk result (AreStandings (map (key_of S.heading S.current) sources.new)
-        standings.new) }
     ensures no_more_faults { OnOk result (KeepFaults S.faults sources.old sources.new) }
     ensures refused { IfErr result (IsRefusalOf S.faults sources.old) }
 {
     for place in 0..sources.len() {
+        let leaf = sources.len() + place;
         let source = &mut sources[place];
         let more = begin_source(place, source)?;
-        let standing = &mut standings[place];
-        standing.end = end(source);
-        standing.follow(source, more);
-        let leaf = sources.len() + place;
-        tree[leaf] = more.then_some(place);
+        tree[leaf] = Contender::of(place, source, more, end(source));
     }
     Ok(())
 }

@@ -1,17 +1,17 @@
 -- From turn to turn: the sources gave what was told, and the tournament holds the least of what they have at hand.
-use Rattle.std.proofs.Common.{◌≡◌, ◌+◌, ◌*◌, ◌-◌, ◌^◌, ◌<◌, ℕ, List, Option, length, length-set, map, get_or, set, string_bytes, refl, sym, subst, ◌∙◌, arith}
+use Rattle.std.proofs.Common.{◌≡◌, ◌*◌, ◌-◌, ◌^◌, ◌<◌, List, length, length-set, map, get_or, string_bytes, refl, sym, ap, subst, ◌∙◌, arith}
 use Rattle.std.proofs.Math.Seq.{map-set_same}
 use Rattle.std.proofs.lemmas.List.{get_or_default, length-map}
 use Rattle.ix_run.specs.Heads.{Heading}
-use Rattle.ix_merge.specs.Keys.{key_of}
+use Rattle.ix_merge.specs.Contenders.{holder}
+use Rattle.ix_merge.specs.Keys.{end_of, key_of}
 use Rattle.ix_merge.specs.Merging.{AreApart}
-use Rattle.ix_merge.specs.Tournaments.{IsSettledBut}
 use Rattle.std.proofs.lemmas.Result.{err_from_is_err_and}
 use Rattle.ix_merge.proofs.Faulting.{keep_more, refusal_at}
 use Rattle.ix_merge.proofs.MergingSteps.{behind_then, longer, may_take, merged_nothing, merged_some_then, merging_first, merging_more, share_here, tells_all}
 use Rattle.ix_merge.proofs.Playing.{HoldsFirst, holds_first}
-use Rattle.ix_merge.proofs.Rounds.{behind_first, leaf_changed, none_left, then_some-cond}
-use Rattle.ix_merge.proofs.StandingSteps.{end_stays, standings_changed}
+use Rattle.ix_merge.proofs.Rounds.{behind_first, leaf_changed, none_left}
+use Rattle.ix_merge.proofs.ContenderSteps.{end_stays}
 use Rattle.ix_merge.proofs.Starts.{started_headed}
 use Rattle.ix_merge.proofs.Turning.{on_err_if}
 use Rattle.ix_merge.proofs.terms.merge_by.Goals as goal
@@ -29,8 +29,7 @@ loop-place-init g c =
       headed = started_headed g.S.Source.heading g.S.Source.current g.S.Source.yields g.S.Source.gives c.args.sources.now c.begin_all.new.sources started;
       no_more_faults = c.in_ok-begin_all.ensures.no_more_faults;
       same_writer = refl;
-      standings = c.in_ok-begin_all.ensures.standings;
-      played = c.play_all.ensures;
+      contest = c.play_all.ensures;
       behind = behind_first g.S.Source.heading g.S.Source.current g.S.Source.yields g.S.Source.gives g.met.S.Source.given_lawfully c.args.sources.now c.begin_all.new.sources (string_bytes c.args.entry.now.term) c.args.entry.now.next started c.requires.none;
       merging = λ before told was none.
           merging_first g.S.Source.heading g.S.Source.current g.S.Source.yields g.S.Source.gives g.W.Write.contents g.met.S.Source.given_lawfully c.args.sources.now c.begin_all.new.sources before told c.args.writer.now
@@ -43,7 +42,7 @@ take_turn-requires-clause-may g c =
     let r = c.requires.told in
     let merging = i.merging r.before r.told r.was r.no_term in
     let first : HoldsFirst (map (key_of g.S.Source.heading g.S.Source.current) c.loop-place.sources) c.in-Some.place =
-    holds_first (map (key_of g.S.Source.heading g.S.Source.current) c.loop-place.sources) c.loop-place.tree c.in-Some.place i.played (sym c.first_of.ensures ∙ c.in-Some.is) in
+    holds_first (map (key_of g.S.Source.heading g.S.Source.current) c.loop-place.sources) (map holder c.loop-place.tree) c.in-Some.place i.contest.played (sym c.first_of.ensures ∙ c.in-Some.is) in
     let within : c.in-Some.place < length c.loop-place.sources = omega (arith, first.within, length-map c.loop-place.sources (key_of g.S.Source.heading g.S.Source.current)) in
     let source = get_or c.loop-place.sources c.in-Some.place c.index-sources-place.result in
     let here : get_or c.loop-place.sources c.in-Some.place source ≡ source = get_or_default c.loop-place.sources c.in-Some.place source c.index-sources-place.result within in
@@ -63,7 +62,7 @@ returns-in_err-more-clause-some g c before told was none =
     let i = c.loop-place.invariant in
     let merging = i.merging before told was none in
     let first : HoldsFirst (map (key_of g.S.Source.heading g.S.Source.current) c.loop-place.sources) c.in-Some.place =
-    holds_first (map (key_of g.S.Source.heading g.S.Source.current) c.loop-place.sources) c.loop-place.tree c.in-Some.place i.played (sym c.first_of.ensures ∙ c.in-Some.is) in
+    holds_first (map (key_of g.S.Source.heading g.S.Source.current) c.loop-place.sources) (map holder c.loop-place.tree) c.in-Some.place i.contest.played (sym c.first_of.ensures ∙ c.in-Some.is) in
     let within : c.in-Some.place < length c.loop-place.sources = omega (arith, first.within, length-map c.loop-place.sources (key_of g.S.Source.heading g.S.Source.current)) in
     let source = get_or c.loop-place.sources c.in-Some.place c.index-sources-place.result in
     let here : get_or c.loop-place.sources c.in-Some.place source ≡ source = get_or_default c.loop-place.sources c.in-Some.place source c.index-sources-place.result within in
@@ -78,7 +77,7 @@ pub returns-in_err-more-clause-refused : goal.returns-in_err-more-clause-refused
 returns-in_err-more-clause-refused g c =
     let i = c.loop-place.invariant in
     let first : HoldsFirst (map (key_of g.S.Source.heading g.S.Source.current) c.loop-place.sources) c.in-Some.place =
-    holds_first (map (key_of g.S.Source.heading g.S.Source.current) c.loop-place.sources) c.loop-place.tree c.in-Some.place i.played (sym c.first_of.ensures ∙ c.in-Some.is) in
+    holds_first (map (key_of g.S.Source.heading g.S.Source.current) c.loop-place.sources) (map holder c.loop-place.tree) c.in-Some.place i.contest.played (sym c.first_of.ensures ∙ c.in-Some.is) in
     let within : c.in-Some.place < length c.loop-place.sources = omega (arith, first.within, length-map c.loop-place.sources (key_of g.S.Source.heading g.S.Source.current)) in
     let source = get_or c.loop-place.sources c.in-Some.place c.index-sources-place.result in
     let here : get_or c.loop-place.sources c.in-Some.place source ≡ source = get_or_default c.loop-place.sources c.in-Some.place source c.index-sources-place.result within in
@@ -90,29 +89,21 @@ pub play_again-requires-clause-others : goal.play_again-requires-clause-others
 play_again-requires-clause-others g c =
     let i = c.loop-place.invariant in
     let first : HoldsFirst (map (key_of g.S.Source.heading g.S.Source.current) c.loop-place.sources) c.in-Some.place =
-    holds_first (map (key_of g.S.Source.heading g.S.Source.current) c.loop-place.sources) c.loop-place.tree c.in-Some.place i.played (sym c.first_of.ensures ∙ c.in-Some.is) in
+    holds_first (map (key_of g.S.Source.heading g.S.Source.current) c.loop-place.sources) (map holder c.loop-place.tree) c.in-Some.place i.contest.played (sym c.first_of.ensures ∙ c.in-Some.is) in
     let within : c.in-Some.place < length c.loop-place.sources = omega (arith, first.within, length-map c.loop-place.sources (key_of g.S.Source.heading g.S.Source.current)) in
-    let sources = set c.loop-place.sources c.in-Some.place c.take_turn.new.source in
-    subst (λ (leaf : Option ℕ). IsSettledBut (map (key_of g.S.Source.heading g.S.Source.current) sources) (set c.loop-place.tree (length sources + c.in-Some.place) leaf) (length sources + c.in-Some.place)) (sym (c.then_some.ensures ∙ then_some-cond c.in_ok-more.more c.in-Some.place))
-    (leaf_changed g.S.Source.heading g.S.Source.current c.loop-place.sources c.loop-place.tree c.in-Some.place c.take_turn.new.source c.in_ok-more.more within i.played c.in_ok-more.ensures.more)
+    leaf_changed g.S.Source.heading g.S.Source.current c.loop-place.sources c.loop-place.tree c.in-Some.place c.take_turn.new.source c.of.result within i.contest c.of.ensures
 
-pub follow-requires-clause-end : goal.follow-requires-clause-end
-follow-requires-clause-end g c =
+pub of-requires-clause-end : goal.of-requires-clause-end
+of-requires-clause-end g c =
     let i = c.loop-place.invariant in
     let first : HoldsFirst (map (key_of g.S.Source.heading g.S.Source.current) c.loop-place.sources) c.in-Some.place =
-    holds_first (map (key_of g.S.Source.heading g.S.Source.current) c.loop-place.sources) c.loop-place.tree c.in-Some.place i.played (sym c.first_of.ensures ∙ c.in-Some.is) in
+    holds_first (map (key_of g.S.Source.heading g.S.Source.current) c.loop-place.sources) (map holder c.loop-place.tree) c.in-Some.place i.contest.played (sym c.first_of.ensures ∙ c.in-Some.is) in
     let within : c.in-Some.place < length c.loop-place.sources = omega (arith, first.within, length-map c.loop-place.sources (key_of g.S.Source.heading g.S.Source.current)) in
     let source = get_or c.loop-place.sources c.in-Some.place c.index-sources-place.result in
     let here : get_or c.loop-place.sources c.in-Some.place source ≡ source = get_or_default c.loop-place.sources c.in-Some.place source c.index-sources-place.result within in
-    end_stays g.S.Source.heading g.S.Source.current c.loop-place.sources c.loop-place.standings c.in-Some.place source c.take_turn.new.source _ i.standings within here first.there c.take_turn.ensures.heading
-
-pub play_again-requires-clause-standings : goal.play_again-requires-clause-standings
-play_again-requires-clause-standings g c =
-    let i = c.loop-place.invariant in
-    let first : HoldsFirst (map (key_of g.S.Source.heading g.S.Source.current) c.loop-place.sources) c.in-Some.place =
-    holds_first (map (key_of g.S.Source.heading g.S.Source.current) c.loop-place.sources) c.loop-place.tree c.in-Some.place i.played (sym c.first_of.ensures ∙ c.in-Some.is) in
-    let within : c.in-Some.place < length c.loop-place.sources = omega (arith, first.within, length-map c.loop-place.sources (key_of g.S.Source.heading g.S.Source.current)) in
-    standings_changed g.S.Source.heading g.S.Source.current c.loop-place.sources c.loop-place.standings c.in-Some.place c.take_turn.new.source c.follow.new.self within c.follow.ensures i.standings
+    c.end.ensures
+    ∙ end_stays g.S.Source.heading g.S.Source.current c.loop-place.sources c.loop-place.tree c.in-Some.place source _ i.contest within here first.there
+    ∙ sym (ap end_of c.take_turn.ensures.heading)
 
 pub loop-place-smaller : goal.loop-place-smaller
 loop-place-smaller g c =
@@ -120,7 +111,7 @@ loop-place-smaller g c =
     let r = c.requires.told in
     let merging = i.merging r.before r.told r.was r.no_term in
     let first : HoldsFirst (map (key_of g.S.Source.heading g.S.Source.current) c.loop-place.sources) c.in-Some.place =
-    holds_first (map (key_of g.S.Source.heading g.S.Source.current) c.loop-place.sources) c.loop-place.tree c.in-Some.place i.played (sym c.first_of.ensures ∙ c.in-Some.is) in
+    holds_first (map (key_of g.S.Source.heading g.S.Source.current) c.loop-place.sources) (map holder c.loop-place.tree) c.in-Some.place i.contest.played (sym c.first_of.ensures ∙ c.in-Some.is) in
     let within : c.in-Some.place < length c.loop-place.sources = omega (arith, first.within, length-map c.loop-place.sources (key_of g.S.Source.heading g.S.Source.current)) in
     let source = get_or c.loop-place.sources c.in-Some.place c.index-sources-place.result in
     let here : get_or c.loop-place.sources c.in-Some.place source ≡ source = get_or_default c.loop-place.sources c.in-Some.place source c.index-sources-place.result within in
@@ -138,7 +129,7 @@ pub loop-place-preserved : goal.loop-place-preserved
 loop-place-preserved g c =
     let i = c.loop-place.invariant in
     let first : HoldsFirst (map (key_of g.S.Source.heading g.S.Source.current) c.loop-place.sources) c.in-Some.place =
-    holds_first (map (key_of g.S.Source.heading g.S.Source.current) c.loop-place.sources) c.loop-place.tree c.in-Some.place i.played (sym c.first_of.ensures ∙ c.in-Some.is) in
+    holds_first (map (key_of g.S.Source.heading g.S.Source.current) c.loop-place.sources) (map holder c.loop-place.tree) c.in-Some.place i.contest.played (sym c.first_of.ensures ∙ c.in-Some.is) in
     let within : c.in-Some.place < length c.loop-place.sources = omega (arith, first.within, length-map c.loop-place.sources (key_of g.S.Source.heading g.S.Source.current)) in
     let source = get_or c.loop-place.sources c.in-Some.place c.index-sources-place.result in
     let here : get_or c.loop-place.sources c.in-Some.place source ≡ source = get_or_default c.loop-place.sources c.in-Some.place source c.index-sources-place.result within in
@@ -154,8 +145,7 @@ loop-place-preserved g c =
           keep_more g.S.Source.faults c.args.sources.now c.loop-place.sources c.in-Some.place source i.as_many i.no_more_faults within here
           c.take_turn.new.source c.in_ok-more.ensures.no_more_faults;
       same_writer = c.take_turn.ensures.same_writer ∙ i.same_writer;
-      standings = standings_changed g.S.Source.heading g.S.Source.current c.loop-place.sources c.loop-place.standings c.in-Some.place c.take_turn.new.source c.follow.new.self within c.follow.ensures i.standings;
-      played = c.play_again.ensures;
+      contest = c.play_again.ensures;
       behind =
           behind_then g.S.Source.heading g.S.Source.current g.S.Source.yields g.S.Source.gives g.W.Write.contents g.met.S.Source.given_lawfully c.args.sources.now c.loop-place.sources r.before r.told c.loop-place.writer
           (string_bytes c.loop-place.entry.term) c.loop-place.entry.next merging i.behind c.requires.few c.in-Some.place source within here c.take_turn.new.source c.take_turn.new.writer (string_bytes c.take_turn.new.entry.term) c.take_turn.new.entry.next
@@ -175,4 +165,4 @@ returns-clause-merged g c before told was none =
     let i = c.loop-place.invariant in
     tells_all g.S.Source.heading g.S.Source.current g.S.Source.yields g.S.Source.gives g.W.Write.contents g.met.S.Source.given_lawfully c.args.sources.now c.loop-place.sources before told c.loop-place.writer
     (string_bytes c.loop-place.entry.term) c.loop-place.entry.next (i.merging before told was none)
-    (none_left g.S.Source.heading g.S.Source.current c.loop-place.sources c.loop-place.tree i.played (sym c.first_of.ensures ∙ c.in_default.is))
+    (none_left g.S.Source.heading g.S.Source.current c.loop-place.sources (map holder c.loop-place.tree) i.contest.played (sym c.first_of.ensures ∙ c.in_default.is))

@@ -8,7 +8,3 @@ returns-in_default-clause-some g c before told was none =
 pub returns-in_default-vec-clause-some : goal.returns-in_default-vec-clause-some
 returns-in_default-vec-clause-some g c before told was none =
     merged_nothing g.S.Source.heading g.S.Source.current g.S.Source.yields g.S.Source.gives g.W.Write.contents g.met.S.Source.given_lawfully c.args.sources.now c.args.writer.now before told c.requires.unread was none
-
-pub returns-in_default-vec-2-clause-some : goal.returns-in_default-vec-2-clause-some
-returns-in_default-vec-2-clause-some g c before told was none =
-    merged_nothing g.S.Source.heading g.S.Source.current g.S.Source.yields g.S.Source.gives g.W.Write.contents g.met.S.Source.given_lawfully c.args.sources.now c.args.writer.now before told c.requires.unread was none

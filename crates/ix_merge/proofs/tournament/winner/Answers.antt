@@ -1,17 +1,15 @@
-use Rattle.std.proofs.Common.{map}
-use Rattle.std.proofs.lemmas.Bool.Decides.{when_false, when_true}
+use Rattle.std.proofs.Common.{leb, map}
 use Rattle.ix_merge.specs.Keys.{key_of}
-use Rattle.ix_merge.proofs.Leads.{winner_by_standing}
+use Rattle.ix_merge.proofs.Leads.{contends_low, picked_so, wins_picked}
 use Rattle.ix_merge.proofs.tournament.winner.Goals as goal
 
-pub returns-then-first : goal.returns-then-first
-returns-then-first g c =
-    when_true _ _ c.if-first.true
-    (winner_by_standing (map (key_of g.S.Source.heading g.S.Source.current) c.args.sources.now) c.args.standings.now c.in-Some-Some.one c.in-Some-Some.other c.args.left c.args.right _ c.stands_before-first.result
-    c.requires.standings c.in-Some-Some.is-0 c.in-Some-Some.is-1 c.requires.left c.requires.right c.stands_before-first.ensures c.if-standing-other_standing.false)
+pub above-later-requires-clause-rank : goal.above-later-requires-clause-rank
+above-later-requires-clause-rank g c = contends_low (map (key_of g.S.Source.heading g.S.Source.current) c.args.sources.now) c.args.one c.requires.one
 
-pub returns-else-first : goal.returns-else-first
-returns-else-first g c =
-    when_false _ _ c.if-first.false
-    (winner_by_standing (map (key_of g.S.Source.heading g.S.Source.current) c.args.sources.now) c.args.standings.now c.in-Some-Some.one c.in-Some-Some.other c.args.left c.args.right _ c.stands_before-first.result
-    c.requires.standings c.in-Some-Some.is-0 c.in-Some-Some.is-1 c.requires.left c.requires.right c.stands_before-first.ensures c.if-standing-other_standing.false)
+pub returns : goal.returns
+returns g c =
+    let before = leb c.args.one.rank c.bar.result in
+    wins_picked (map (key_of g.S.Source.heading g.S.Source.current) c.args.sources.now) c.args.one c.args.other before c.picked_rank.result c.picked_place.result
+    c.bar.ensures.before
+    (picked_so before c.above-later.result c.args.one.rank c.args.other.rank c.picked_rank.result c.above-later.ensures c.picked_rank.ensures)
+    (picked_so before c.above-later.result c.args.one.place c.args.other.place c.picked_place.result c.above-later.ensures c.picked_place.ensures)
