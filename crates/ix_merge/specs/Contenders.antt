@@ -1,5 +1,5 @@
 -- What contends for sources in a tournament: of each its place, and a number in the order of the keys, as far as it shows them.
-use Rattle.std.specs.Prelude.{◌≡◌, ℕ, zero, suc, ◌+◌, ◌-◌, ◌*◌, ◌/◌, ◌%◌, ◌^◌, ◌<◌, ◌≤◌, ◌⊎◌, Bool, MatchBool, List, length, map, min, All, Option, Some, None, MatchOption, nat_eq, slice_index, slice_index_or, if◌then◌else◌}
+use Rattle.std.specs.Prelude.{◌≡◌, ℕ, zero, suc, ◌+◌, ◌*◌, ◌/◌, ◌%◌, ◌^◌, ◌<◌, ◌≤◌, ◌⊎◌, Bool, MatchBool, List, length, map, min, All, Option, Some, None, MatchOption, nat_eq, slice_index, slice_index_or, if◌then◌else◌}
 use Rattle.ix_merge.specs.Keys.{ComesFirst, Key}
 use Rattle.ix_merge.specs.Tournaments.{HasKey, IsSettledBut, IsTournament, IsWinner, StandsOver, key_at, key_under}
 use Rattle.ix_merge.specs.declared.contender.Contender.{Contender}
