@@ -2,6 +2,7 @@ pub mod CodeLemmas
 pub mod Faulting
 pub mod Fronts
 pub mod HeadLemmas
+pub mod HeldLists
 pub mod InputLemmas
 pub mod ListSteps
 pub mod OrderLemmas

@@ -14,10 +14,10 @@ use Rattle.ix_run_text.specs.Sources.{EndsPostings, GivesList, GivesPosting, Giv
 use Rattle.ix_run_text.proofs.WholeLists.{list_below, postings_behind, shift_postings}
 
 -- one posting more, counted from elsewhere
-shifted-push : (first : ℕ) (postings : List Posting) (posting : Posting) → shifted first (postings ++ posting ∷ []) ≡ shifted first postings ++ shifted_posting first posting ∷ []
+pub shifted-push : (first : ℕ) (postings : List Posting) (posting : Posting) → shifted first (postings ++ posting ∷ []) ≡ shifted first postings ++ shifted_posting first posting ∷ []
 shifted-push first postings posting = map-append (shifted_posting first) postings (posting ∷ [])
 
-documents_shifted-push : (first : ℕ) (postings : List Posting) (posting : Posting) → documents_of (shifted first (postings ++ posting ∷ [])) ≡ documents_of (shifted first postings) ++ (first + posting.0) ∷ []
+pub documents_shifted-push : (first : ℕ) (postings : List Posting) (posting : Posting) → documents_of (shifted first (postings ++ posting ∷ [])) ≡ documents_of (shifted first postings) ++ (first + posting.0) ∷ []
 documents_shifted-push first postings posting = ap documents_of (shifted-push first postings posting) ∙ map-append (λ (p : Posting). p.0) (shifted first postings) (shifted_posting first posting ∷ [])
 
 -- What the next posting of a list that is taken must be.
@@ -40,7 +40,7 @@ module _ {Source : Type 0} (yields : Yielding Source) (gives : Giving Source) (h
     pub next_is : near ≡ next_after next (documents_of (shifted (heading old).first told))
     pub coded : more ≡ bytes ++ list_bytes_from next (shifted (heading old).first told)
 
-  pub takes_none : TakesOn old 0 next bytes
+  unfoldable pub takes_none : TakesOn old 0 next bytes
   takes_none = record {
     same_heading = refl;
     same_term = refl;
@@ -55,7 +55,7 @@ module _ {Source : Type 0} (yields : Yielding Source) (gives : Giving Source) (h
 
   module _ (now : Source) (documents near : ℕ) (more : List ℕ) (takes : TakesOn now documents near more) where
     module _ (new : Source) (posting : Posting) (step : GivesPosting yields gives now new posting) where
-      given_more : (finished : List DictionaryEntry) (entry : DictionaryEntry) → gives old finished (Some entry) → gives new finished (Some (extended entry (takes.told ++ posting ∷ [])))
+      pub given_more : (finished : List DictionaryEntry) (entry : DictionaryEntry) → gives old finished (Some entry) → gives new finished (Some (extended entry (takes.told ++ posting ∷ [])))
       given_more finished entry given =
           subst (λ (ps : List Posting). gives new finished (Some (entry_with entry.term ps))) (append_assoc entry.postings takes.told (posting ∷ []))
           (step.given finished (extended entry takes.told) (takes.given finished entry given))
@@ -96,7 +96,7 @@ module _ {Source : Type 0} (yields : Yielding Source) (gives : Giving Source) (h
             within = end.2;
           }
 
-      pub takes_more : (after : List ℕ) → heading new ≡ heading now → current new ≡ current now → after ≡ more ++ posting_bytes ((heading old).first + posting.0 + 1 - near) (shifted_posting (heading old).first posting)
+      unfoldable pub takes_more : (after : List ℕ) → heading new ≡ heading now → current new ≡ current now → after ≡ more ++ posting_bytes ((heading old).first + posting.0 + 1 - near) (shifted_posting (heading old).first posting)
           → TakesOn new (documents + 1) ((heading old).first + posting.0 + 1) after
       takes_more after same stays grown =
           let first : ℕ = (heading old).first in

@@ -13,7 +13,7 @@ use Rattle.ix_vbyte.specs.Gaps.{Ascends, gaps_from, gaps_of, next_after}
 use Rattle.ix_vbyte.specs.Postings.{codes_of}
 use Rattle.ix_vbyte.proofs.Gaps.{Ascends-push, next_after-push}
 use Rattle.ix_run_text.proofs.Passing.{passes_on}
-use Rattle.ix_run_text.specs.Inputs.{Passes}
+use Rattle.ix_run_text.specs.Inputs.{Buffered, Passes}
 use Rattle.ix_run_text.specs.ReadPostings.{StandNext, numbers_at}
 use Rattle.ix_run_text.specs.RunTextErrors.{IsRefusal}
 use Rattle.ix_run_text.specs.declared.run_text_error.RunTextError.{RunTextError}
@@ -76,7 +76,7 @@ codes_push read x next is =
     codes_middle 0 read x [] ∙ ap (λ (bytes : List ℕ). codes_of (gaps_of read) ++ bytes) (append-nil (code_of (x + 1 - next_after 0 read)))
     ∙ ap (λ (n : ℕ). codes_of (gaps_of read) ++ code_of (x + 1 - n)) (sym is)
 
-pub passed_more : (a b c : List ℕ) (read : List ℕ) (x next : ℕ) → next ≡ next_after 0 read → Passes a b (codes_of (gaps_of read)) → Passes b c (code_of (x + 1 - next)) → Passes a c (codes_of (gaps_of (read ++ x ∷ [])))
+pub passed_more : (a b c : Buffered) (read : List ℕ) (x next : ℕ) → next ≡ next_after 0 read → Passes a b (codes_of (gaps_of read)) → Passes b c (code_of (x + 1 - next)) → Passes a c (codes_of (gaps_of (read ++ x ∷ [])))
 passed_more a b c read x next is before now = subst (Passes a c) (sym (codes_push read x next is)) (passes_on a b c (codes_of (gaps_of read)) (code_of (x + 1 - next)) before now)
 
 pub taken_more : (old now new : Option (List ℕ)) (end next used limit : ℕ) (read : List ℕ) (x bytes : ℕ) → AreTaken old now end next used limit read

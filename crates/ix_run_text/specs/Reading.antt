@@ -143,9 +143,15 @@ pub record GivesFirst {R : Type 0} (remaining : R → Option (List ℕ)) (reader
 abbrev pub heading_from : ℕ → Parts → Heading
 heading_from first parts = record { first = first; stop = parts.stop; rows = parts.rows }
 
+-- Of the list at hand nothing was taken, and its bytes are buffered.
+pub record IsHeldWhole {R : Type 0} (reader : RunReader R) : Type 0 where
+  pub fresh : reader.next ≡ 0
+  pub held : reader.bytes ≤ (passed reader.input).left
+
 -- From the old state to the new one a reader took the bytes of this posting from its list, in which its document is
 -- counted from the one before.
 pub record TookPosting {R : Type 0} (old new : RunReader R) (posting : Posting) : Type 0 where
   pub above : old.next ≤ posting.0
+  pub next : new.next ≡ posting.0 + 1
   pub sized : new.bytes + length (posting_bytes (posting.0 + 1 - old.next) posting) ≡ old.bytes
   pub passed : Passes (passed old.input) (passed new.input) (posting_bytes (posting.0 + 1 - old.next) posting)

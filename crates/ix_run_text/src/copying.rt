@@ -2,7 +2,7 @@
 ghost use Rattle.std.specs.Prelude.{◌≡◌, ◌<◌, ◌≤◌, ◌+◌, ◌-◌, ◌^◌, ◌++◌, List, ℕ, length, OnOk, OnErr};
 ghost use Rattle.ix_vbyte.specs.Gaps.{Ascends};
 ghost use Rattle.ix_vbyte.specs.Postings.{posting_bytes};
-ghost use Rattle.ix_run_text.specs.Inputs.{Passes, passed};
+ghost use Rattle.ix_run_text.specs.Inputs.{Buffered, Passes, passed};
 
 use crate::input::Input;
 use ix_vbyte::{code_len, push_code_and, push_posting};
@@ -35,7 +35,7 @@ pub(crate) fn push_taken<R: Read>(
     requires follows { next ≤ document }
     requires low { document < 2 ^ 32 - 1 }
     requires ascending { Ascends 0 (2 ^ 32 - 1) positions.now }
-    requires passed { (before : List ℕ)
+    requires passed { (before : Buffered)
         × Passes before (passed input.now) (posting_bytes taken.gap (document, positions.now)) }
     requires size { taken.bytes ≡ length (posting_bytes taken.gap (document, positions.now)) }
     ensures ok { OnOk result (out.new.items

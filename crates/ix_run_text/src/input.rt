@@ -1,5 +1,5 @@
 //! What is left of a reader, buffered.
-ghost use Rattle.std.specs.Prelude.{◌≡◌, ◌<◌, ◌≤◌, ◌++◌, ◌+◌, ◌*◌, ◌%◌, List, [], ℕ, length, take, vec_len, IfOk, IfErr, IfNone, IfSome, OnOk, MatchBool};
+ghost use Rattle.std.specs.Prelude.{◌≡◌, ◌<◌, ◌≤◌, ◌++◌, ◌+◌, ◌*◌, ◌%◌, List, [], ℕ, length, take, vec_len, ◌∷◌, IfOk, IfErr, IfNone, IfSome, IsTrue, OnOk, MatchBool};
 ghost use Rattle.std.specs.Io.{ReadsAtMost};
 ghost use Rattle.std.specs.Io.KnownBytes.{Consumes, IsAtEnd, Keeps};
 ghost use Rattle.std.specs.Option.{option_to_list};
@@ -29,7 +29,7 @@ pub(crate) struct Input<R> {
 }
 
 impl<R: Read> Input<R> {
-    ghost use Rattle.ix_run_text.specs.Inputs.{EndsWith, Passes, known_left, passed};
+    ghost use Rattle.ix_run_text.specs.Inputs.{EndsWith, FillsIfEmpty, Passes, known_left, passed};
 
     /// The input that has what the reader has.
     pub(crate) fn new(alloc: Global, reader: R) -> Result<Input<R>, AllocError>
@@ -52,7 +52,7 @@ impl<R: Read> Input<R> {
         ensures has { IfOk result (λ has.
             MatchBool has (self.new.start < self.new.end)
             (IsAtEnd (known_left R.remaining self.new))) }
-        ensures passed { OnOk result (Passes (passed self.old) (passed self.new) []) }
+        ensures passed { OnOk result (FillsIfEmpty (passed self.old) (passed self.new)) }
         ensures refused { IfErr result (λ error. error ≡ ReadRefused) }
     {
         if self.start < self.end {
@@ -71,8 +71,8 @@ impl<R: Read> Input<R> {
             (option_to_list byte)) }
         ensures end { IfOk result (λ byte.
             IfNone byte (IsAtEnd (known_left R.remaining self.new))) }
-        ensures passed { IfOk result (λ byte.
-            Passes (passed self.old) (passed self.new) (option_to_list byte)) }
+        ensures passed { IfOk result (λ found. IfSome found (λ byte.
+            Passes (passed self.old) (passed self.new) (byte ∷ []))) }
         ensures refused { IfErr result (λ error. error ≡ ReadRefused) }
     {
         if !self.has_byte()? {
@@ -242,11 +242,20 @@ impl<R: Read> Input<R> {
         Err(RunTextError::Number(VbError::TooBig))
     }
 
+    /// Whether so many bytes are buffered.
+    #[inline(always)]
+    pub(crate) fn holds(&self, count: usize) -> bool
+        ensures { IsTrue result → count ≤ (passed self.now).left }
+    {
+        count <= self.end - self.start
+    }
+
     /// The bytes that were taken last, so many, where they are all still buffered.
     #[inline(always)]
     pub(crate) fn behind(&self, count: usize) -> Option<&[u8]>
-        ensures { IfSome result (λ bytes. EndsWith (passed self.now) bytes.now
+        ensures last { IfSome result (λ bytes. EndsWith (passed self.now).taken bytes.now
             × (length bytes.now ≡ count)) }
+        ensures none { IfNone result (length (passed self.now).taken < count) }
     {
         if count > self.start {
             return None;

@@ -270,7 +270,7 @@ impl<R: Read + Drop> RunReader<R> {
         ensures failed { HasFailed self.old → result ≡ Err Refused }
 
         // What it took.
-        ensures taken { IfOk result (λ found. IfSome found (λ document.
+        ensures taken { IfOk result (λ found. MatchOption found (self.new ≡ self.old) (λ document.
             TookPosting self.old self.new (document, positions.new.items))) }
     {
         if matches!(self.place, Place::Failed) {

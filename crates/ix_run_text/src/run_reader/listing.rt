@@ -1,20 +1,109 @@
-//! The postings of a list, one by one into a list of a whole collection.
+//! The postings of a list, into a list of a whole collection.
 
 use super::RunReader;
 use crate::copying::{TakenPosting, push_taken};
 use crate::{ListError, Listed, RunTextError};
+use ix_vbyte::cursor::Postings;
 use std::io::Read;
 
 impl<R: Read + Drop> RunReader<R> {
-    ghost use Rattle.std.specs.Prelude.{◌≡◌, ◌≤◌, List, Some, IsSome, IfErr, IfOk, OnErr, OnOk};
+    ghost use Rattle.std.specs.Prelude.{◌≡◌, ◌≤◌, List, Some, IsSome, IsTrue, IfErr, IfOk, OnErr, OnOk};
     ghost use Rattle.ix_text.specs.Parts.{DictionaryEntry};
-    ghost use Rattle.ix_run_text.specs.Reading.{HasRead, IsDrained, MayYield, term_of};
+    ghost use Rattle.ix_run_text.specs.Reading.{HasRead, IsDrained, IsHeldWhole, MayYield, term_of};
     ghost use Rattle.ix_run_text.specs.RunReaders.{heading_read};
     ghost use Rattle.ix_run_text.specs.Sources.{GivesList, KeepsFaults};
     ghost use Rattle.ix_run_text.specs.Faults.{IsListFault, MayFault};
 
     /// `take_list`, with room for the positions of one posting.
     pub(super) fn take_postings(
+        &mut self,
+        next: u32,
+        positions: &mut Vec<u32>,
+        out: &mut Vec<u8>,
+    ) -> Result<Listed, ListError<RunTextError>>
+        requires at_hand { IsSome (term_of self.old) }
+        requires begun { (finished : List DictionaryEntry)
+            × ((entry : DictionaryEntry) × HasRead self.old finished (Some entry)) }
+        requires low { next ≤ (heading_read self.old).first }
+        ensures heading { heading_read self.new ≡ heading_read self.old }
+        ensures current { term_of self.new ≡ term_of self.old }
+        ensures drained { OnOk result (IsDrained self.new) }
+        ensures given { IfOk result (λ listed. GivesList (MayYield R.remaining) HasRead
+            self.old self.new (heading_read self.old).first next listed.documents listed.next
+            out.old.items out.new.items) }
+        ensures refused { OnErr result (out.new.items ≡ out.old.items) }
+        ensures fault { IfErr result (IsListFault (MayFault R.remaining self.old)) }
+        ensures no_more_faults { OnOk result
+            (KeepsFaults (MayFault R.remaining) self.old self.new) }
+    {
+        if self.holds_list() {
+            self.take_whole(next, positions, out)
+        } else {
+            self.take_each(next, positions, out)
+        }
+    }
+
+    /// Whether nothing was taken of the list at hand, and it is buffered whole.
+    fn holds_list(&self) -> bool
+        ensures { IsTrue result → IsHeldWhole self.now }
+    {
+        self.next == 0 && self.input.holds(self.bytes)
+    }
+
+    /// The same of a list of which nothing was taken yet and which is buffered whole: its postings are checked, and then
+    /// its bytes are copied at once.
+    fn take_whole(
+        &mut self,
+        next: u32,
+        positions: &mut Vec<u32>,
+        out: &mut Vec<u8>,
+    ) -> Result<Listed, ListError<RunTextError>>
+        requires at_hand { IsSome (term_of self.old) }
+        requires begun { (finished : List DictionaryEntry)
+            × ((entry : DictionaryEntry) × HasRead self.old finished (Some entry)) }
+        requires low { next ≤ (heading_read self.old).first }
+        requires whole { IsHeldWhole self.old }
+        ensures heading { heading_read self.new ≡ heading_read self.old }
+        ensures current { term_of self.new ≡ term_of self.old }
+        ensures drained { OnOk result (IsDrained self.new) }
+        ensures given { IfOk result (λ listed. GivesList (MayYield R.remaining) HasRead
+            self.old self.new (heading_read self.old).first next listed.documents listed.next
+            out.old.items out.new.items) }
+        ensures refused { OnErr result (out.new.items ≡ out.old.items) }
+        ensures fault { IfErr result (IsListFault (MayFault R.remaining self.old)) }
+        ensures no_more_faults { OnOk result
+            (KeepsFaults (MayFault R.remaining) self.old self.new) }
+    {
+        let first = self.head.first;
+        let bytes = self.bytes;
+        let mut listed = Listed { documents: 0, next };
+        'checked: loop {
+            match self.next_of_list(positions) {
+                Ok(None) => break,
+                Ok(Some(document)) => {
+                    listed = Listed {
+                        documents: listed.documents + 1,
+                        next: first + document + 1,
+                    };
+                }
+                Err(error) => return Err(ListError::Source(error)),
+            }
+        }
+        if listed.documents == 0 {
+            return Ok(listed);
+        }
+        let Some(list) = self.input.behind(bytes) else {
+            unreachable!()
+        };
+        let postings = Postings::new(list, listed.documents);
+        if postings.push_shifted(out, first, next).is_err() {
+            return Err(ListError::Memory);
+        }
+        Ok(listed)
+    }
+
+    /// The same of any list, posting by posting.
+    fn take_each(
         &mut self,
         next: u32,
         positions: &mut Vec<u32>,

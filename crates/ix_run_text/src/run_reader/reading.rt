@@ -125,7 +125,8 @@ impl<R: Read + Drop> Source for RunReader<R> {
 
     /// Appends all postings of the term at hand that are left, coded as one list: their documents counted in the
     /// whole collection, and the first gap taken from `next`, which is one above the document before them, or 0. Each
-    /// is checked as `next_posting` does it; of several positions the bytes are mostly copied.
+    /// is checked as `next_posting` does it. The bytes of a list that is buffered whole, as almost all are, are then copied
+    /// at once.
     ///
     /// `ListError::Memory` where the list finds no room, and `ListError::Source` with the errors of `next_posting`. A
     /// refusal leaves the term at hand, and `out` as it was; some postings of the term may have been passed.

@@ -5,7 +5,7 @@ use Rattle.std.proofs.lemmas.List.{take_more_set, length-take, length-set}
 use Rattle.std.specs.Io.KnownBytes.{Consumes}
 use Rattle.ix_vbyte.specs.Reading.{IsCut, IsTooBig, StartsWithCode, StartsWithZero}
 use Rattle.ix_vbyte.specs.Code.{code_of}
-use Rattle.ix_run_text.specs.Inputs.{known_left, Passes, passed}
+use Rattle.ix_run_text.specs.Inputs.{Buffered, known_left, Passes, passed}
 use Rattle.ix_run_text.proofs.CodeLemmas.{big_stays, ends_here, fault_of_front, six_too_many, zero_stays}
 use Rattle.ix_vbyte.proofs.Fronts.{cut_at_once}
 use Rattle.ix_run_text.proofs.Passing.{passes_none, passes_on}
@@ -65,7 +65,7 @@ returns-clause-fault g c =
     let loop = c.loop-place in
     absurd (six_too_many (take loop.place loop.seen) (omega (arith, length-take loop.place loop.seen)) loop.invariant.cut)
 
-passed_more : (a b c : List ℕ) (seen : List ℕ) (place byte : ℕ) → place < length seen → Passes a b (take place seen) → Passes b c (byte ∷ []) → Passes a c (take (place + 1) (set seen place byte))
+passed_more : (a b c : Buffered) (seen : List ℕ) (place byte : ℕ) → place < length seen → Passes a b (take place seen) → Passes b c (byte ∷ []) → Passes a c (take (place + 1) (set seen place byte))
 passed_more a b c seen place byte lt before now =
     subst (Passes a c) (sym (take_more_set seen place byte lt)) (passes_on a b c (take place seen) (byte ∷ []) before now)
 

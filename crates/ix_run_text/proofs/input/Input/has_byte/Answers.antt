@@ -4,7 +4,7 @@ use Rattle.std.proofs.lemmas.List.{with_items_is}
 use Rattle.std.specs.Vec.{with_items}
 use Rattle.ix_run_text.specs.Inputs.{known_left, passed}
 use Rattle.ix_run_text.proofs.InputLemmas.{held-filled, found_or_ended}
-use Rattle.ix_run_text.proofs.Passing.{passes_anew, take_zero}
+use Rattle.ix_run_text.proofs.Passing.{fills_anew, take_zero}
 use Rattle.ix_run_text.proofs.input.Input.has_byte.Goals as goal
 
 pub returns-clause-kept : goal.returns-clause-kept
@@ -24,4 +24,4 @@ returns-clause-has g c =
 
 pub returns-clause-passed : goal.returns-clause-passed
 unfolding passed
-returns-clause-passed g c = passes_anew _ _ (take_zero (with_items c.args.self.now.buffer c.read_some.new.buffer).items)
+returns-clause-passed g c = let empty = c.if-self.false in fills_anew _ _ (take_zero (with_items c.args.self.now.buffer c.read_some.new.buffer).items) (omega (arith, empty))

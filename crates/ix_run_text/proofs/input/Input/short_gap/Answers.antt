@@ -21,5 +21,5 @@ pub returns-then-byte-gt128-clause-passed : goal.returns-then-byte-gt128-clause-
 unfolding passed
 returns-then-byte-gt128-clause-passed g c some =
     let input = c.args.self.now in
-    subst (Passes (take input.start input.buffer.items) (take (input.start + 1) input.buffer.items)) (sym (code_of-one c.index-byte.result.now (c.from.result - 128) (omega (arith, c.if-byte-gt128.true)) (omega arith) (omega arith)))
+    subst (Passes (record { taken = take input.start input.buffer.items; left = input.end - input.start }) (record { taken = take (input.start + 1) input.buffer.items; left = input.end - (input.start + 1) })) (sym (code_of-one c.index-byte.result.now (c.from.result - 128) (omega (arith, c.if-byte-gt128.true)) (omega arith) (omega arith)))
     (passes_byte input.buffer.items input.start input.end c.index-byte.result.now c.if-start-self.true (omega (arith, input.buffer.ok.0, input.within)) c.index-byte.ensures)

@@ -7,7 +7,7 @@ use Rattle.ix_run_text.specs.Reading.{HasRead, MayYield, term_of}
 use Rattle.ix_run_text.specs.RunReaders.{heading_read}
 use Rattle.ix_run_text.proofs.ListSteps.{if_granted, if_refused, taken_back, takes_more, takes_none}
 use Rattle.ix_run_text.proofs.ReaderLists.{next_listed}
-use Rattle.ix_run_text.proofs.run_reader.RunReader.take_postings.Goals as goal
+use Rattle.ix_run_text.proofs.run_reader.RunReader.take_each.Goals as goal
 
 pub postings-init : goal.postings-init
 postings-init g c = record {

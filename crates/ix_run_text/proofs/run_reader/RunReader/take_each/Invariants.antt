@@ -5,7 +5,7 @@ use Rattle.ix_run_text.specs.Reading.{HasRead, MayYield, term_of}
 use Rattle.ix_run_text.specs.RunReaders.{heading_read}
 use Rattle.ix_run_text.specs.Sources.{KeepsFaults}
 use Rattle.ix_run_text.proofs.ListSteps.{TakesOn}
-use Rattle.ix_run_text.proofs.run_reader.RunReader.take_postings.Given as goal
+use Rattle.ix_run_text.proofs.run_reader.RunReader.take_each.Given as goal
 
 abbrev pub invariant-postings : goal.invariant-postings
 invariant-postings g l = record {
