@@ -6,8 +6,8 @@ pub mod Gaps
 pub mod Numbers
 pub mod OnePosition
 pub mod Postings
-pub mod ShortPostings
 pub mod Reading
+pub mod ShortPostings
 pub mod Skips
 pub mod Texts
 pub mod Walking
