@@ -73,9 +73,37 @@ module _ {R : Type 0} (remaining : R → Option (List ℕ)) (old : RunReader R) 
       took = took_more old now new takes.taken.told posting takes.took took;
     }
 
+  -- What stands when no posting is left.
+  pub record EndsWhole (now : RunReader R) (documents near : ℕ) : Type 0 where
+    pub takes : TakesWhole now documents near
+    pub drained : IsDrained now
+    pub last : EndsPostings (MayYield remaining) HasRead now now
+    pub at_hand : IsSome (term_of old)
+    pub begun : (finished : List DictionaryEntry) × ((entry : DictionaryEntry) × HasRead old finished (Some entry))
+    pub whole : IsHeldWhole old
+
+  -- The reader found none, and stands where it stood.
+  pub whole_ended : (now new : RunReader R) (documents near : ℕ) → TakesWhole now documents near → new ≡ now → IsDrained new × EndsPostings (MayYield remaining) HasRead now new
+      → IsSome (term_of old) → (finished : List DictionaryEntry) × ((entry : DictionaryEntry) × HasRead old finished (Some entry)) → IsHeldWhole old → EndsWhole new documents near
+  whole_ended now new documents near takes same (drained, last) at_hand begun whole = record {
+    takes = subst (λ (reader : RunReader R). TakesWhole reader documents near) (sym same) takes;
+    drained = drained;
+    last = subst (λ (reader : RunReader R). EndsPostings (MayYield remaining) HasRead reader new) (sym same) last;
+    at_hand = at_hand;
+    begun = begun;
+    whole = whole;
+  }
+
+  module _ (now : RunReader R) (documents near : ℕ) (done : EndsWhole now documents near) where
+    abbrev takes : TakesWhole now documents near
+    takes = done.takes
+
     -- what was given is lawful
-    told_lawful : (finished : List DictionaryEntry) (entry : DictionaryEntry) → HasRead old finished (Some entry) → 0 < documents → ArePostings 0 (2 ^ 28) takes.taken.told × (old.head.first + 2 ^ 28 ≤ 2 ^ 32 - 1)
-    told_lawful finished entry given some =
+    told_lawful : 0 < documents → ArePostings 0 (2 ^ 28) takes.taken.told × (old.head.first + 2 ^ 28 ≤ 2 ^ 32 - 1)
+    told_lawful some =
+        let finished = done.begun.0 in
+        let entry = done.begun.1.0 in
+        let given = done.begun.1.1 in
         let told = takes.taken.told in
         let longer : DictionaryEntry = extended entry told in
         let counted = takes.taken.counted in
@@ -84,22 +112,21 @@ module _ {R : Type 0} (remaining : R → Option (List ℕ)) (old : RunReader R) 
         let bounded : old.head.first + length (heading_read old).rows ≤ 2 ^ 28 = subst (λ (h : Heading). h.first + length h.rows ≤ 2 ^ 28) takes.taken.same_heading whole.within in
         (postings_behind 0 (2 ^ 28) entry.postings told (list_below (heading_read now) finished longer [] (rw (append-nil) whole)), omega (arith, bounded))
 
-    module _ (begun : (finished : List DictionaryEntry) × ((entry : DictionaryEntry) × HasRead old finished (Some entry))) (whole : IsHeldWhole old)
-        (at_hand : IsSome (term_of old)) (drained : IsDrained now) (some : 0 < documents) where
+    module _ (some : 0 < documents) where
       list_is : list_bytes_from old.next takes.taken.told ≡ list_bytes takes.taken.told
-      list_is = ap (λ (n : ℕ). list_bytes_from n takes.taken.told) whole.fresh
+      list_is = ap (λ (n : ℕ). list_bytes_from n takes.taken.told) done.whole.fresh
 
       size : length (list_bytes_from old.next takes.taken.told) ≡ old.bytes
       size =
           let sized = takes.took.sized in
-          let none = none_left now (subst IsSome (sym takes.taken.same_term) at_hand) drained in
+          let none = none_left now (subst IsSome (sym takes.taken.same_term) done.at_hand) done.drained in
           omega (arith, sized, none)
 
       -- its bytes are still buffered
       pub whole_there : old.bytes ≤ length (passed now.input).taken
       whole_there =
           let passes = takes.took.passed in
-          let held = whole.held in
+          let held = done.whole.held in
           let (no_gone, _) = passes.held (omega (arith, size, held)) in
           let all : (passed now.input).taken ≡ (passed old.input).taken ++ list_bytes_from old.next takes.taken.told =
           subst (λ (gone : List ℕ). gone ++ (passed now.input).taken ≡ (passed old.input).taken ++ list_bytes_from old.next takes.taken.told) no_gone passes.is in
@@ -113,7 +140,7 @@ module _ {R : Type 0} (remaining : R → Option (List ℕ)) (old : RunReader R) 
 
         are_told : ArePostings 0 (2 ^ 32 - 1) takes.taken.told
         are_told =
-            let are = (told_lawful begun.0 begun.1.0 begun.1.1 some).0 in
+            let are = (told_lawful some).0 in
             record {
               documents = Ascends-wider 0 (2 ^ 28) (2 ^ 32 - 1) (documents_of takes.taken.told) (omega arith) are.documents;
               each =
@@ -131,24 +158,24 @@ module _ {R : Type 0} (remaining : R → Option (List ℕ)) (old : RunReader R) 
 
           pub whole_shifted : next ≤ old.head.first → ArePostings next (2 ^ 32 - 1) (shifted old.head.first read)
           whole_shifted low =
-              let (are, within) = told_lawful begun.0 begun.1.0 begun.1.1 some in
+              let (are, within) = told_lawful some in
               subst (λ (ps : List Posting). ArePostings next (2 ^ 32 - 1) (shifted old.head.first ps)) (sym read_told)
               (shift_postings old.head.first 0 (2 ^ 28) next (2 ^ 32 - 1) takes.taken.told (omega (arith, low)) within are)
 
-          pub whole_given : (new : RunReader R) (after : List ℕ) → EndsPostings (MayYield remaining) HasRead now new → after ≡ bytes ++ list_bytes_from next (shifted old.head.first read)
-              → GivesList (MayYield remaining) HasRead old new old.head.first next documents near bytes after
-          whole_given new after ended pushed =
+          pub whole_given : (after : List ℕ) → after ≡ bytes ++ list_bytes_from next (shifted old.head.first read)
+              → GivesList (MayYield remaining) HasRead old now old.head.first next documents near bytes after
+          whole_given after pushed =
               let same : takes.coded ≡ after =
               takes.taken.coded ∙ ap (λ (ps : List Posting). bytes ++ list_bytes_from next (shifted old.head.first ps)) (sym read_told) ∙ sym pushed in
               takes_all (MayYield remaining) HasRead heading_read term_of old next bytes now documents near after
-              (subst (λ (more : List ℕ). TakesOn (MayYield remaining) HasRead heading_read term_of old next bytes now documents near more) same takes.taken) new ended
+              (subst (λ (more : List ℕ). TakesOn (MayYield remaining) HasRead heading_read term_of old next bytes now documents near more) same takes.taken) now done.last
 
     -- a list of no posting
-    pub none_given : (new : RunReader R) → EndsPostings (MayYield remaining) HasRead now new → documents ≡ 0 → GivesList (MayYield remaining) HasRead old new old.head.first next documents near bytes bytes
-    none_given new ended none =
+    pub none_given : documents ≡ 0 → GivesList (MayYield remaining) HasRead old now old.head.first next documents near bytes bytes
+    none_given none =
         let counted = takes.taken.counted in
         let nothing : takes.taken.told ≡ [] = nil_from_length takes.taken.told (omega (arith, none, counted)) in
         let same : takes.coded ≡ bytes =
         takes.taken.coded ∙ ap (λ (ps : List Posting). bytes ++ list_bytes_from next (shifted old.head.first ps)) nothing ∙ append-nil bytes in
         takes_all (MayYield remaining) HasRead heading_read term_of old next bytes now documents near bytes
-        (subst (λ (more : List ℕ). TakesOn (MayYield remaining) HasRead heading_read term_of old next bytes now documents near more) same takes.taken) new ended
+        (subst (λ (more : List ℕ). TakesOn (MayYield remaining) HasRead heading_read term_of old next bytes now documents near more) same takes.taken) now done.last

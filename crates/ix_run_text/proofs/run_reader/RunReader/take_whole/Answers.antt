@@ -1,8 +1,6 @@
 -- What was given so far is lawful, and its bytes are still buffered.
-use Rattle.std.proofs.Common.{◌<◌, arith, subst, sym, ◌∙◌}
-use Rattle.ix_run_text.specs.Reading.{HasRead, MayYield}
-use Rattle.ix_run_text.specs.Sources.{EndsPostings}
-use Rattle.ix_run_text.proofs.HeldLists.{TakesWhole, none_given, whole_given, whole_list, whole_more, whole_none, whole_shifted, whole_there}
+use Rattle.std.proofs.Common.{arith, sym, ◌∙◌}
+use Rattle.ix_run_text.proofs.HeldLists.{none_given, whole_ended, whole_given, whole_list, whole_more, whole_none, whole_shifted, whole_there}
 use Rattle.ix_run_text.proofs.ListSteps.{if_granted}
 use Rattle.ix_run_text.proofs.ReaderLists.{next_listed}
 use Rattle.ix_run_text.proofs.run_reader.RunReader.take_whole.Goals as goal
@@ -46,81 +44,44 @@ returns-in-Err-clause-fault g c = c.checked.invariant.no_more_faults c.in-Err.er
 
 pub returns-then-listed-eq0-clause-given : goal.returns-then-listed-eq0-clause-given
 returns-then-listed-eq0-clause-given g c =
-    let remaining = g.R.Read.remaining in
-    let old = c.args.self.now in
-    let now = c.next_of_list.new.self in
-    let out = c.args.out.now.items in
-    let documents = c.checked.listed.documents in
-    let near = c.checked.listed.next in
-    let same = rw c.in-Ok-None.field-0-is at c.in-Ok-None.ensures.taken in
-    let takes = subst (λ reader. TakesWhole remaining old c.args.next out reader documents near) (sym same) c.checked.invariant.takes in
-    let (drained, ended) = rw c.in-Ok-None.field-0-is at c.in-Ok-None.ensures.given in
-    let last = subst (λ reader. EndsPostings (MayYield remaining) HasRead reader now) (sym same) ended in
-    none_given remaining old c.args.next out now documents near takes now last c.if-listed-eq0.true
+    let done =
+    whole_ended g.R.Read.remaining c.args.self.now c.args.next c.args.out.now.items c.checked.self c.next_of_list.new.self c.checked.listed.documents c.checked.listed.next c.checked.invariant.takes
+    (rw c.in-Ok-None.field-0-is at c.in-Ok-None.ensures.taken) (rw c.in-Ok-None.field-0-is at c.in-Ok-None.ensures.given) c.requires.at_hand c.requires.begun c.requires.whole in
+    none_given _ _ _ _ _ _ _ done c.if-listed-eq0.true
 
 pub returns-then-listed-eq0-clause-no_more_faults : goal.returns-then-listed-eq0-clause-no_more_faults
 returns-then-listed-eq0-clause-no_more_faults g c error may = c.checked.invariant.no_more_faults error (c.in-Ok-None.ensures.no_more_faults error may)
 
 pub unreachable-requires : goal.unreachable-requires
 unreachable-requires g c =
-    let remaining = g.R.Read.remaining in
-    let old = c.args.self.now in
-    let now = c.next_of_list.new.self in
-    let out = c.args.out.now.items in
-    let documents = c.checked.listed.documents in
-    let near = c.checked.listed.next in
-    let same = rw c.in-Ok-None.field-0-is at c.in-Ok-None.ensures.taken in
-    let takes = subst (λ reader. TakesWhole remaining old c.args.next out reader documents near) (sym same) c.checked.invariant.takes in
-    let (drained, ended) = rw c.in-Ok-None.field-0-is at c.in-Ok-None.ensures.given in
-    let some : 0 < documents = omega (arith, c.if-listed-eq0.false) in
-    let there = whole_there remaining old c.args.next out now documents near takes c.requires.begun c.requires.whole c.requires.at_hand drained some in
+    let done =
+    whole_ended g.R.Read.remaining c.args.self.now c.args.next c.args.out.now.items c.checked.self c.next_of_list.new.self c.checked.listed.documents c.checked.listed.next c.checked.invariant.takes
+    (rw c.in-Ok-None.field-0-is at c.in-Ok-None.ensures.taken) (rw c.in-Ok-None.field-0-is at c.in-Ok-None.ensures.given) c.requires.at_hand c.requires.begun c.requires.whole in
+    let there = whole_there _ _ _ _ _ _ _ done (omega (arith, c.if-listed-eq0.false)) in
     let gone = c.in_default.ensures.none in
     absurd (omega (arith, there, gone))
 
 pub new-postings-requires : goal.new-postings-requires
 new-postings-requires g c =
-    let remaining = g.R.Read.remaining in
-    let old = c.args.self.now in
-    let now = c.next_of_list.new.self in
-    let out = c.args.out.now.items in
-    let documents = c.checked.listed.documents in
-    let near = c.checked.listed.next in
-    let same = rw c.in-Ok-None.field-0-is at c.in-Ok-None.ensures.taken in
-    let takes = subst (λ reader. TakesWhole remaining old c.args.next out reader documents near) (sym same) c.checked.invariant.takes in
-    let (drained, ended) = rw c.in-Ok-None.field-0-is at c.in-Ok-None.ensures.given in
-    let some : 0 < documents = omega (arith, c.if-listed-eq0.false) in
-    whole_list remaining old c.args.next out now documents near takes c.requires.begun c.requires.whole c.requires.at_hand drained some c.in-Some.list.now c.in-Some.ensures.last.0 c.in-Some.ensures.last.1
+    let done =
+    whole_ended g.R.Read.remaining c.args.self.now c.args.next c.args.out.now.items c.checked.self c.next_of_list.new.self c.checked.listed.documents c.checked.listed.next c.checked.invariant.takes
+    (rw c.in-Ok-None.field-0-is at c.in-Ok-None.ensures.taken) (rw c.in-Ok-None.field-0-is at c.in-Ok-None.ensures.given) c.requires.at_hand c.requires.begun c.requires.whole in
+    whole_list _ _ _ _ _ _ _ done (omega (arith, c.if-listed-eq0.false)) c.in-Some.list.now c.in-Some.ensures.last.0 c.in-Some.ensures.last.1
 
 pub push_shifted-requires : goal.push_shifted-requires
 push_shifted-requires g c =
-    let remaining = g.R.Read.remaining in
-    let old = c.args.self.now in
-    let now = c.next_of_list.new.self in
-    let out = c.args.out.now.items in
-    let documents = c.checked.listed.documents in
-    let near = c.checked.listed.next in
-    let same = rw c.in-Ok-None.field-0-is at c.in-Ok-None.ensures.taken in
-    let takes = subst (λ reader. TakesWhole remaining old c.args.next out reader documents near) (sym same) c.checked.invariant.takes in
-    let (drained, ended) = rw c.in-Ok-None.field-0-is at c.in-Ok-None.ensures.given in
-    let some : 0 < documents = omega (arith, c.if-listed-eq0.false) in
-    whole_shifted remaining old c.args.next out now documents near takes c.requires.begun c.requires.whole c.requires.at_hand drained some c.in-Some.list.now c.in-Some.ensures.last.0 c.in-Some.ensures.last.1
-    c.new-postings.result c.new-postings.ensures c.requires.low
+    let done =
+    whole_ended g.R.Read.remaining c.args.self.now c.args.next c.args.out.now.items c.checked.self c.next_of_list.new.self c.checked.listed.documents c.checked.listed.next c.checked.invariant.takes
+    (rw c.in-Ok-None.field-0-is at c.in-Ok-None.ensures.taken) (rw c.in-Ok-None.field-0-is at c.in-Ok-None.ensures.given) c.requires.at_hand c.requires.begun c.requires.whole in
+    whole_shifted _ _ _ _ _ _ _ done (omega (arith, c.if-listed-eq0.false)) c.in-Some.list.now c.in-Some.ensures.last.0 c.in-Some.ensures.last.1 c.new-postings.result c.new-postings.ensures c.requires.low
 
 pub returns-clause-given : goal.returns-clause-given
 returns-clause-given g c =
-    let remaining = g.R.Read.remaining in
-    let old = c.args.self.now in
-    let now = c.next_of_list.new.self in
-    let out = c.args.out.now.items in
-    let documents = c.checked.listed.documents in
-    let near = c.checked.listed.next in
-    let same = rw c.in-Ok-None.field-0-is at c.in-Ok-None.ensures.taken in
-    let takes = subst (λ reader. TakesWhole remaining old c.args.next out reader documents near) (sym same) c.checked.invariant.takes in
-    let (drained, ended) = rw c.in-Ok-None.field-0-is at c.in-Ok-None.ensures.given in
-    let last = subst (λ reader. EndsPostings (MayYield remaining) HasRead reader now) (sym same) ended in
-    let some : 0 < documents = omega (arith, c.if-listed-eq0.false) in
-    whole_given remaining old c.args.next out now documents near takes c.requires.begun c.requires.whole c.requires.at_hand drained some c.in-Some.list.now c.in-Some.ensures.last.0 c.in-Some.ensures.last.1
-    c.new-postings.result c.new-postings.ensures now c.push_shifted.new.out.items last (if_granted c.push_shifted.result (sym c.is_err.ensures.value ∙ c.if-is_err.false) c.push_shifted.ensures.ok)
+    let done =
+    whole_ended g.R.Read.remaining c.args.self.now c.args.next c.args.out.now.items c.checked.self c.next_of_list.new.self c.checked.listed.documents c.checked.listed.next c.checked.invariant.takes
+    (rw c.in-Ok-None.field-0-is at c.in-Ok-None.ensures.taken) (rw c.in-Ok-None.field-0-is at c.in-Ok-None.ensures.given) c.requires.at_hand c.requires.begun c.requires.whole in
+    whole_given _ _ _ _ _ _ _ done (omega (arith, c.if-listed-eq0.false)) c.in-Some.list.now c.in-Some.ensures.last.0 c.in-Some.ensures.last.1 c.new-postings.result c.new-postings.ensures c.push_shifted.new.out.items
+    (if_granted c.push_shifted.result (sym c.is_err.ensures.value ∙ c.if-is_err.false) c.push_shifted.ensures.ok)
 
 pub returns-clause-no_more_faults : goal.returns-clause-no_more_faults
 returns-clause-no_more_faults g c error may = c.checked.invariant.no_more_faults error (c.in-Ok-None.ensures.no_more_faults error may)
