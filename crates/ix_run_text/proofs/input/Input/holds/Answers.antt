@@ -5,4 +5,4 @@ use Rattle.ix_run_text.proofs.input.Input.holds.Goals as goal
 
 pub returns : goal.returns
 unfolding passed
-returns g c is = grind (arith, nat_tests)
+returns g c = (λ is. grind (arith, nat_tests), λ few. grind (arith, nat_tests))
