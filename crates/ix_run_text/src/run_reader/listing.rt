@@ -7,7 +7,7 @@ use ix_vbyte::cursor::Postings;
 use std::io::Read;
 
 impl<R: Read + Drop> RunReader<R> {
-    ghost use Rattle.std.specs.Prelude.{◌≡◌, ◌≤◌, List, Some, IsSome, IsTrue, IfErr, IfOk, OnErr, OnOk};
+    ghost use Rattle.std.specs.Prelude.{◌≡◌, ◌≤◌, ◌↔◌, List, Some, IsSome, IsTrue, IfErr, IfOk, OnErr, OnOk};
     ghost use Rattle.ix_text.specs.Parts.{DictionaryEntry};
     ghost use Rattle.ix_run_text.specs.Reading.{HasRead, IsDrained, IsHeldWhole, MayYield, term_of};
     ghost use Rattle.ix_run_text.specs.RunReaders.{heading_read};
@@ -45,7 +45,7 @@ impl<R: Read + Drop> RunReader<R> {
 
     /// Whether nothing was taken of the list at hand, and it is buffered whole.
     fn holds_list(&self) -> bool
-        ensures { IsTrue result → IsHeldWhole self.now }
+        ensures { IsTrue result ↔ IsHeldWhole self.now }
     {
         self.next == 0 && self.input.holds(self.bytes)
     }
