@@ -1,5 +1,6 @@
 pub mod AnySources
 pub mod Beginnings
+pub mod Brackets
 pub mod Contenders
 pub mod Covers
 pub mod Headings

@@ -3,6 +3,7 @@
 #![tactic(auto)]
 
 mod any_source;
+mod bracket;
 mod concatenation;
 mod contender;
 mod entry;
