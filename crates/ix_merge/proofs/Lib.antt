@@ -1,9 +1,10 @@
 pub mod Behind
 pub mod Closing
-pub mod ContenderSteps
+pub mod Contests
 pub mod Covering
 pub mod Enclosed
 pub mod Faulting
+pub mod Gathering
 pub mod GramsExist
 pub mod IndexSources
 pub mod KeyOrder
@@ -12,7 +13,7 @@ pub mod Leads
 pub mod MergedMore
 pub mod MergingSteps
 pub mod Parting
-pub mod Playing
+pub mod PlayedNodes
 pub mod Readings
 pub mod Refused
 pub mod Rounds

@@ -1,6 +1,6 @@
 use Rattle.std.proofs.Common.{sym, arith}
 use Rattle.ix_merge.proofs.Leads.{lead_more, lead_room, lead_zero}
-use Rattle.ix_merge.proofs.contender.bytes_of.Goals as goal
+use Rattle.ix_merge.proofs.rank.bytes_of.Goals as goal
 
 pub loop-place-init : goal.loop-place-init
 loop-place-init c = sym (lead_zero c.args.text.now)
