@@ -5,11 +5,11 @@ use Rattle.std.proofs.lemmas.List.{get_or_default, get_or_past, get_or-set_same,
 use Rattle.std.specs.List.{Contains}
 use Rattle.ix_text.specs.TokenNumbers.{AreDistinct}
 use Rattle.ix_run.specs.Heads.{Heading}
-use Rattle.ix_merge.specs.Brackets.{AreStale, above, rank_at}
+use Rattle.ix_merge.specs.Brackets.{AreStale, IsPlayed, above, rank_at}
 use Rattle.ix_merge.specs.Keys.{Key, ComesFirst, IsUpTo, end_of, key_of}
 use Rattle.ix_merge.specs.Ranks.{StandsFor}
 use Rattle.ix_merge.specs.Tournaments.{AreFirst, AreLeaves, AreNext, HoldsFirst, IsAbove, IsNext, ends_of, key_at, keys_of, term_at, term_in}
-use Rattle.ix_merge.proofs.PlayedNodes.{stale_leaf}
+use Rattle.ix_merge.proofs.StaleNodes.{played_stale, stale_leaf}
 
 -- the numbers of keys end where those of their sources do
 abbrev pub AreEnds : List (Option Key) → List ℕ → Type 0
@@ -28,7 +28,7 @@ holds_first keys ends inner term place rest are first =
     let within = first.within 0 0 (omega arith) in
     record {
       within = let w = within.1 in omega arith;
-      there = rw here.1 tt;
+      there = rw here.1 refl;
       first = λ other inside. rw here.1 (⊎_elim
           (λ among. beside other here.0 here.1 here.2 back among)
           (λ is. higher here.0 here.2 (key_at keys other) is)
@@ -40,7 +40,7 @@ holds_first keys ends inner term place rest are first =
     higher key same (Some other) is = inl (rw same is)
 
     beside : (other : ℕ) (key : Key) → key_at keys place ≡ Some key → key.term ≡ term → (inner + place) - inner ≡ place → Contains ((inner + place) ∷ rest) (inner + other) → ComesFirst (Some key) (key_at keys other)
-    beside other key at same back (k, (within, is)) =
+    beside other key at same back (k, within, is) =
         let back' : (inner + other) - inner ≡ other = omega arith in
         let is' : get_or ((inner + place) ∷ rest) k 0 ≡ inner + other = get_or_default ((inner + place) ∷ rest) k 0 (inner + other) within ∙ is in
         let has : term_at keys other ≡ Some term = subst (λ n. term_at keys n ≡ Some term) back' (subst (λ n. term_at keys (n - inner) ≡ Some term) is' (first.has k 0 within)) in
@@ -112,44 +112,54 @@ module _ (keys : List (Option Key)) (ends ranks : List ℕ) (inner : ℕ) (stale
   apart : (k d : ℕ) → k < length rest → (inner ≤ get_or rest k d) × (get_or rest k d - inner ≢ place)
   apart k d inside =
       let low = (is.first.within (suc k) d (omega arith)).0 in
-      (low, λ same. is.first.distinct.0 (k, (inside, get_or_default rest k (inner + place) d inside ∙ omega arith)))
+      (low, λ same. is.first.distinct.0 (k, inside, get_or_default rest k (inner + place) d inside ∙ omega arith))
 
   others' : (other : ℕ) → other < length keys' → Contains rest (inner + other) ⊎ IsAbove is.term (key_at keys' other)
   others' other inside = elim (cases_eq other place) [
     | inl same ↦ inr (subst (λ n. IsAbove is.term (key_at keys' n)) (sym same) (rw key_there higher))
-    | inr apart ↦ ⊎_elim (λ among. inl (later among)) (λ is'. inr (rw (key_other other apart) is')) (is.first.others other (omega (arith, many)))
+    | inr differ ↦ ⊎_elim (λ among. inl (later differ among)) (λ is'. inr (rw (key_other other differ) is')) (is.first.others other (omega (arith, many)))
   ]
     where
-      later : Contains ((inner + place) ∷ rest) (inner + other) → Contains rest (inner + other)
-      later (zero, (inside, there)) = ?
-      later (suc k, (inside, there)) = (k, (omega arith, there))
+      later : other ≢ place → Contains ((inner + place) ∷ rest) (inner + other) → Contains rest (inner + other)
+      later differ (zero, inside, there) = absurd (differ (omega arith))
+      later differ (suc k, inside, there) = (k, omega arith, there)
 
   pub went_on : AreNext keys' ends ranks' inner stale rest
   went_on = record {
     leaves = leaves';
     stales = stale_leaf ranks inner stale (inner + place) rank is.stales (omega arith) (let room = is.leaves.room in omega (arith, within)) (is.closed 0 0 (omega arith));
-    first = λ some. (is.term, record {
-      has = λ k d inside. rw (key_other (get_or rest k d - inner) (apart k d inside).1) (is.first.has (suc k) d (omega arith));
-      within = λ k d inside. let w = is.first.within (suc k) d (omega arith) in (w.0, let h = w.1 in omega (arith, many));
-      others = others';
-      distinct = is.first.distinct.1;
-      ordered = λ i j d up inside. is.first.ordered (suc i) (suc j) d (omega arith) (omega arith);
-    });
+    first = λ some. (
+      is.term,
+      record {
+        has = λ k d inside. rw (key_other (get_or rest k d - inner) (apart k d inside).1) (is.first.has (suc k) d (omega arith));
+        within = λ k d inside. let w = is.first.within (suc k) d (omega arith) in (w.0, let h = w.1 in omega (arith, many));
+        others = others';
+        distinct = is.first.distinct.1;
+        ordered = λ i j d up inside. is.first.ordered (suc i) (suc j) d (omega arith) (omega arith);
+      },
+    );
     closed = λ k d inside. is.closed (suc k) d (omega arith);
   }
+
+-- before the first turn
+pub next_none : (keys : List (Option Key)) (ends ranks : List ℕ) (inner : ℕ) → AreLeaves keys ranks inner → IsPlayed ranks inner → AreNext keys ends ranks inner [] []
+next_none keys ends ranks inner leaves played = record {
+  leaves = leaves;
+  stales = played_stale ranks inner played;
+  first = λ some. absurd (omega arith);
+  closed = λ k d within. absurd (omega arith);
+}
 
 -- ---- the keys of sources
 
 module _ {S : Type 0} (heading : S → Heading) (current : S → Option (List ℕ)) where
   -- they end where these do
   pub are_ends : (sources : List S) → AreEnds (keys_of heading current sources) (ends_of heading sources)
-  are_ends [] place key is = absurd (past place is)
-    where
-      past : (place : ℕ) → get_or {A = Option Key} [] place None ≡ Some key → ⊥
-      past place is = ?
+  are_ends [] place key is = let none : key_at [] place ≡ None = get_or_past {X = Option Key} [] place None (omega arith) in absurd cc
   are_ends (source ∷ sources) zero key is = by (current source) refl is
     where
       by : (term : Option (List ℕ)) → current source ≡ term → key_of heading current source ≡ Some key → key.end ≡ end_of (heading source)
-      by None none is' = ?
-      by (Some term) some is' = ?
+      by None none is' = let absent : key_of heading current source ≡ None = rw none refl in absurd cc
+      by (Some term) some is' = let known : key_of heading current source ≡ Some (record { term = term; end = end_of (heading source) }) = rw some refl in
+          let same : record { term = term; end = end_of (heading source) } ≡ key = cc in sym (ap (λ (k : Key). k.end) same)
   are_ends (source ∷ sources) (suc place) key is = are_ends sources place key is

@@ -69,7 +69,8 @@ pub(crate) fn gather(ranks: &[u128], inner: usize, nodes: &mut [usize]) -> Gathe
     nodes[0] = 0;
     let mut at = 0;
     let mut all = 1;
-    while at < all && nodes[at] < inner {
+    // The nodes found never run out before a leaf: below the last of them stands another of the rank.
+    while nodes[at] < inner {
         let below = WAYS * nodes[at];
         all = note(ranks, least, below + 1, all, nodes);
         all = note(ranks, least, below + 2, all, nodes);

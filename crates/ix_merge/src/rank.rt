@@ -28,11 +28,7 @@ pub(crate) fn rank_of<S: Source>(source: &S, more: bool) -> u128
     requires more { more ≡ is_some (S.current source.now) }
     ensures { StandsFor (S.current source.now) result }
 {
-    if more {
-        term_rank(source.term())
-    } else {
-        LAST
-    }
+    if more { term_rank(source.term()) } else { LAST }
 }
 
 /// Whether a rank does not show its term whole.

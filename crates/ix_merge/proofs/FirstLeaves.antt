@@ -1,0 +1,215 @@
+-- The leaves of the least rank are those of the sources that come first.
+use Rattle.std.proofs.Common.{◌≡◌, ◌≢◌, ◌⊎◌, inl, inr, ℕ, zero, suc, ◌+◌, ◌-◌, ◌%◌, ◌^◌, ◌<◌, ◌≤◌, List, [], ◌∷◌, ◌++◌, length, get_or, take, drop, All, Option, Some, None, IsSome, MatchOption, refl, sym, ap, subst, ◌∙◌, ⊎_elim, option_map, arith, length-append}
+use Rattle.std.proofs.lemmas.Bool.{cases_eq, cases_lt}
+use Rattle.std.proofs.lemmas.List.{get_or_default, get_or-drop, get_or-take, length-drop, length-take, length-take-le, drop-take, take-append-le, take-take}
+use Rattle.std.proofs.Math.Seq.{drop-append_seam, take-length}
+use Rattle.std.specs.List.{Contains}
+use Rattle.std.specs.List.Sorted.{IsStrictlyIncreasing}
+use Rattle.ix_merge.specs.Brackets.{AreNodesOf, AreStale, IsPlayed, KeepsLeaves, above, rank_at}
+use Rattle.ix_merge.specs.Keys.{Key}
+use Rattle.ix_merge.specs.Ranks.{IsRank, StandsFor}
+use Rattle.ix_merge.specs.Tournaments.{AreAtHand, AreFirst, AreLeaves, AreNext, ArePicked, HaveTerm, HaveNoTerm, IsAbove, key_at, term_at, term_in}
+use Rattle.ix_merge.proofs.StaleNodes.{root_least}
+use Rattle.ix_merge.proofs.Leads.{below_by_rank, same_by_rank, rank_below}
+
+-- what is put back into a vector is its items
+pub put_back : (count : ℕ) (xs ys : List ℕ) → length xs ≡ count → take count (xs ++ ys) ≡ xs
+put_back count xs ys sized = take-append-le count xs ys (omega arith) ∙ ap (λ n. take n xs) (sym sized) ∙ take-length xs
+
+-- a part of what was gathered
+pub part_of : (from to : ℕ) (xs : List ℕ) → from ≤ to → take (to - from) (drop from xs) ≡ drop from (take to xs)
+part_of from to xs up = let e : from + (to - from) ≡ to = omega arith in sym (drop-take from (to - from) xs) ∙ ap (λ n. drop from (take n xs)) e
+
+-- of a list whose middle part was changed, what stands before it and the first elements of it
+pub stale_part : (from : ℕ) (xs ys : List ℕ) → from ≤ length xs → take from (take from xs ++ ys) ≡ take from xs
+stale_part from xs ys within = put_back from (take from xs) ys (length-take-le from xs within)
+
+pub pending_part : (from count : ℕ) (xs part behind : List ℕ) → from ≤ length xs → count ≤ length part → drop from (take (from + count) (take from xs ++ (part ++ behind))) ≡ take count part
+pending_part from count xs part behind within few =
+    let l = length-take-le from xs within in
+    let seam : drop (length (take from xs)) (take from xs ++ (part ++ behind)) ≡ part ++ behind = drop-append_seam (take from xs) (part ++ behind) in
+    drop-take from count (take from xs ++ (part ++ behind)) ∙ ap (take count) (ap (λ n. drop n (take from xs ++ (part ++ behind))) (sym l) ∙ seam) ∙ take-append-le count part behind few
+
+-- the leaves stay where their ranks do
+pub kept_leaves : (keys : List (Option Key)) (old new : List ℕ) (inner : ℕ) → KeepsLeaves inner old new → AreLeaves keys old inner → AreLeaves keys new inner
+kept_leaves keys old new inner kept leaves = record {
+  room = let room = leaves.room in let sized = kept.sized in omega arith;
+  leaf = λ place within. rw (kept.kept (inner + place) (omega arith)) (leaves.leaf place within);
+  none = λ node behind within. let sized = kept.sized in kept.kept node (omega arith) ∙ leaves.none node behind (omega arith);
+}
+
+-- an element of the rest of a list is one of the list
+pub contained_behind : (from : ℕ) (xs : List ℕ) (x : ℕ) → Contains (drop from xs) x → Contains xs x
+contained_behind from xs x (k, within, is) =
+    let l = length-drop from xs in
+    (from + k, omega arith, sym (get_or-drop from xs k x) ∙ is)
+
+-- the rank of a term at hand, known by what stands for it
+rank_of_term : (term : Option (List ℕ)) (rank : ℕ) → StandsFor term rank → rank ≢ 2 ^ 120 → (known : List ℕ) × (term ≡ Some known) × IsRank known rank
+rank_of_term None rank stands other = absurd (other stands)
+rank_of_term (Some known) rank stands other = (known, refl, stands)
+
+has_key : (key : Option Key) (term : List ℕ) → term_in key ≡ Some term → IsSome key
+has_key None term is = absurd cc
+has_key (Some key) term is = refl
+
+-- The nodes of the least rank were gathered: first so many that stand over others, and then leaves.
+pub record AreGathered (keys : List (Option Key)) (ranks : List ℕ) (inner over : ℕ) (all : List ℕ) : Type 0 where
+  pub leaves : AreLeaves keys ranks inner
+  pub played : IsPlayed ranks inner
+  pub other : rank_at ranks 0 ≢ 2 ^ 120
+  pub nodes : AreNodesOf ranks (rank_at ranks 0) all
+  pub stales : AreStale ranks inner (take over all)
+  pub behind : (at : ℕ) → over ≤ at → at < length all → inner ≤ get_or all at 0
+  pub some : over < length all
+
+pub are_gathered : (keys : List (Option Key)) (ranks : List ℕ) (inner : ℕ) (nodes : List ℕ) (over all : ℕ) → AreLeaves keys ranks inner → IsPlayed ranks inner → rank_at ranks 0 ≢ 2 ^ 120
+    → AreNodesOf ranks (rank_at ranks 0) (take all nodes) → AreStale ranks inner (take over nodes) → ((at : ℕ) → over ≤ at → at < all → inner ≤ get_or nodes at 0) → over < all → all ≤ length nodes
+    → AreGathered keys ranks inner over (take all nodes)
+are_gathered keys ranks inner nodes over all leaves played other of stales behind some within =
+    let sized : length (take all nodes) ≡ all = length-take-le all nodes within in
+    record {
+      leaves = leaves;
+      played = played;
+      other = other;
+      nodes = of;
+      stales = subst (AreStale ranks inner) (sym (take-take over all nodes (omega arith))) stales;
+      behind = λ at low inside. let e = get_or-take all nodes at 0 (omega arith) in let b = behind at low (omega arith) in omega arith;
+      some = omega arith;
+    }
+
+-- no source has a term where the root has the rank of none
+module _ (keys : List (Option Key)) (ranks : List ℕ) (inner : ℕ) (leaves : AreLeaves keys ranks inner) (played : IsPlayed ranks inner) where
+  pub none_left : rank_at ranks 0 ≡ 2 ^ 120 → HaveNoTerm keys
+  none_left last place within = by (key_at keys place) refl
+    where
+      by : (key : Option Key) → key_at keys place ≡ key → key_at keys place ≡ None
+      by None is = is
+      by (Some key) is =
+          let stands : IsRank key.term (rank_at ranks (inner + place)) = rw is at (leaves.leaf place within) in
+          let low = rank_below key.term (rank_at ranks (inner + place)) stands in
+          let room = leaves.room in
+          let least = root_least ranks inner played (inner + place) (omega arith) in
+          absurd (omega arith)
+
+-- of gathered nodes the leaves come first
+module _ (keys : List (Option Key)) (ranks : List ℕ) (inner over : ℕ) (all : List ℕ) (gathering : AreGathered keys ranks inner over all) where
+  abbrev found : List ℕ
+  found = drop over all
+
+  -- what is known of each of these leaves
+  leaf_is : (leaf : ℕ) → Contains found leaf → (inner ≤ leaf) × (leaf < inner + length keys) × (rank_at ranks leaf ≡ rank_at ranks 0) × StandsFor (term_at keys (leaf - inner)) (rank_at ranks 0)
+  leaf_is leaf (k, within, is) =
+      let l = length-drop over all in
+      let there : get_or all (over + k) 0 ≡ leaf = get_or_default all (over + k) 0 leaf (omega arith) ∙ sym (get_or-drop over all k leaf) ∙ is in
+      let low : inner ≤ leaf = subst (λ n. inner ≤ n) there (gathering.behind (over + k) (omega arith) (omega arith)) in
+      let sound = subst (λ n. (n < length ranks) × (rank_at ranks n ≡ rank_at ranks 0)) there (gathering.nodes.sound (over + k) 0 (omega arith)) in
+      elim (cases_lt leaf (inner + length keys)) [
+        | inl inside ↦
+            let place : inner + (leaf - inner) ≡ leaf = omega arith in
+            let stands : StandsFor (term_at keys (leaf - inner)) (rank_at ranks (inner + (leaf - inner))) = gathering.leaves.leaf (leaf - inner) (omega arith) in
+            (low, inside, sound.1, subst (λ n. StandsFor (term_at keys (leaf - inner)) n) (ap (rank_at ranks) place ∙ sound.1) stands)
+        | inr past ↦ absurd (gathering.other (sym sound.1 ∙ gathering.leaves.none leaf past sound.0))
+      ]
+
+  element : (k d : ℕ) → k < length found → Contains found (get_or found k d)
+  element k d within = (k, within, get_or_default found k (get_or found k d) d within)
+
+  pub at_hand : AreAtHand keys inner found
+  at_hand k d within =
+      let is = leaf_is (get_or found k d) (element k d within) in
+      let known = rank_of_term (term_at keys (get_or found k d - inner)) (rank_at ranks 0) is.3 gathering.other in
+      let low = is.0 in
+      let high = is.1 in
+      (is.0, (omega arith, has_key (key_at keys (get_or found k d - inner)) known.0 known.1))
+
+  pub found_rising : IsStrictlyIncreasing found
+  found_rising k within =
+      let l = length-drop over all in
+      let a = get_or-drop over all k 0 in
+      let b = get_or-drop over all (k + 1) 0 in
+      let n : over + (k + 1) ≡ (over + k) + 1 = omega arith in
+      let up = gathering.nodes.rising (over + k) (omega arith) in
+      rw (a, b, n) up
+
+  -- of a rank that shows its term whole, all have one
+  pub alike : 0 < length found → (rank_at ranks 0 % 256 ≢ 15) → (term : List ℕ) × HaveTerm keys inner term found
+  alike some whole =
+      let first = leaf_is (get_or found 0 0) (element 0 0 some) in
+      let known = rank_of_term (term_at keys (get_or found 0 0 - inner)) (rank_at ranks 0) first.3 gathering.other in (
+        known.0,
+        λ k d within.
+            let is = leaf_is (get_or found k d) (element k d within) in
+            let known' = rank_of_term (term_at keys (get_or found k d - inner)) (rank_at ranks 0) is.3 gathering.other in
+            known'.1 ∙ ap (λ (t : List ℕ). Some t) (same_by_rank known'.0 known.0 (rank_at ranks 0) known'.2 known.2 whole),
+      )
+
+  -- a leaf of the least rank is among them
+  is_found : (leaf : ℕ) → inner ≤ leaf → leaf < length ranks → rank_at ranks leaf ≡ rank_at ranks 0 → Contains found leaf
+  is_found leaf low within is = by (gathering.nodes.complete leaf within is)
+    where
+      by : Contains all leaf → Contains found leaf
+      by (k, inside, there) = elim (cases_lt k over) [
+        | inl before ↦
+            let l : k < length (take over all) = omega (arith, length-take over all) in
+            let lower = gathering.stales.within k leaf l in
+            let e : get_or (take over all) k leaf ≡ leaf = get_or-take over all k leaf before ∙ there in
+            absurd (let h = subst (λ n. n < inner) e lower in omega arith)
+        | inr after ↦
+            let l = length-drop over all in
+            let n : over + (k - over) ≡ k = omega arith in
+            (k - over, omega arith, get_or-drop over all (k - over) leaf ∙ ap (λ n. get_or all n leaf) n ∙ there)
+      ]
+
+  -- the leaves that are picked come first of all
+  module _ (ends : List ℕ) (picked : List ℕ) (are : ArePicked keys ends inner found picked) where
+    first_leaf : Contains found (get_or picked 0 0)
+    first_leaf = are.among 0 0 are.some
+
+    ranked : IsRank are.term (rank_at ranks 0)
+    ranked =
+        let is = leaf_is (get_or picked 0 0) first_leaf in
+        let e : term_at keys (get_or picked 0 0 - inner) ≡ Some are.term = are.has 0 0 are.some in
+        rw e at is.3
+
+    each : (place : ℕ) → place < length keys → Contains picked (inner + place) ⊎ IsAbove are.term (key_at keys place)
+    each place within = by (key_at keys place) refl
+      where
+        room : inner + place < length ranks
+        room = let r = gathering.leaves.room in omega arith
+
+        same : rank_at ranks (inner + place) ≡ rank_at ranks 0 → Contains picked (inner + place) ⊎ IsAbove are.term (key_at keys place)
+        same is = among (is_found (inner + place) (omega arith) room is)
+          where
+            among : Contains found (inner + place) → Contains picked (inner + place) ⊎ IsAbove are.term (key_at keys place)
+            among (k, inside, there) =
+                let back : (inner + place) - inner ≡ place = omega arith in
+                subst (λ n. Contains picked (inner + place) ⊎ IsAbove are.term (key_at keys n)) back
+                (subst (λ n. Contains picked n ⊎ IsAbove are.term (key_at keys (n - inner))) there (are.others k (inner + place) inside))
+
+        by : (key : Option Key) → key_at keys place ≡ key → Contains picked (inner + place) ⊎ IsAbove are.term (key_at keys place)
+        by None is = inr (rw is tt)
+        by (Some key) is = elim (cases_eq (rank_at ranks (inner + place)) (rank_at ranks 0)) [
+          | inl alike' ↦ same alike'
+          | inr apart ↦
+              let stands : IsRank key.term (rank_at ranks (inner + place)) = rw is at (gathering.leaves.leaf place within) in
+              let least = root_least ranks inner gathering.played (inner + place) room in
+              inr (rw is (below_by_rank are.term key.term (rank_at ranks 0) (rank_at ranks (inner + place)) ranked stands (omega arith)))
+        ]
+
+    pub gathered : ((node : ℕ) → Contains all node → 0 < node → Contains (take over all) (above node)) → AreNext keys ends ranks inner (take over all) picked
+    gathered closed = record {
+      leaves = gathering.leaves;
+      stales = gathering.stales;
+      first = λ some. (
+        are.term,
+        record {
+          has = are.has;
+          within = λ k d inside. let is = leaf_is (get_or picked k d) (are.among k d inside) in (is.0, is.1);
+          others = each;
+          distinct = are.distinct;
+          ordered = are.ordered;
+        },
+      );
+      closed = λ k d inside. closed (get_or picked k d) (contained_behind over all (get_or picked k d) (are.among k d inside));
+    }
