@@ -33,6 +33,7 @@ impl EntryAtHand {
     }
 
     /// Begins the entry of a term, of at most 255 bytes, where it is not the one at hand. Writes nothing.
+    #[inline(always)]
     pub(crate) fn begin<W: Write>(
         &mut self,
         term: &str,
@@ -50,12 +51,36 @@ impl EntryAtHand {
             (string_bytes self.old.term) self.old.next term.now self.new.next) }
         ensures error { IfErr result (λ error. error ≡ PutError.Memory) }
     {
-        if self.term.as_str() != term {
-            writer.term(term)?;
-            self.term.clear();
-            self.term.push_str(term)?;
-            self.next = 0;
+        if self.term.as_str() == term {
+            return Ok(());
         }
+        self.begin_other(term, writer)
+    }
+
+    /// The same of another term than the one at hand.
+    #[inline(never)]
+    fn begin_other<W: Write>(
+        &mut self,
+        term: &str,
+        writer: &mut IndexWriter<'_, W>,
+    ) -> Result<(), PutError>
+        requires short { length term.now ≤ 255 }
+        requires other { string_bytes self.old.term ≢ term.now }
+        requires ready { IsReady writer.old }
+        requires may { CanEndEntry writer.old }
+        ensures same_writer { sink_name writer.new ≡ sink_name writer.old }
+        ensures nothing_written { sink writer.new ≡ sink writer.old }
+        ensures term { OnOk result (string_bytes self.new.term ≡ term.now) }
+        ensures told { (before : Option (List ℕ)) (told : Told)
+            → WasTold W.contents before writer.old told → IsClosable told
+            → OnOk result (BeginsEntry W.contents before writer.new told
+            (string_bytes self.old.term) self.old.next term.now self.new.next) }
+        ensures error { IfErr result (λ error. error ≡ PutError.Memory) }
+    {
+        writer.term(term)?;
+        self.term.clear();
+        self.term.push_str(term)?;
+        self.next = 0;
         Ok(())
     }
 }

@@ -13,6 +13,8 @@ use std::marker::Model;
 #[derive(Drop)]
 pub struct RunSource<'a> {
     head: &'a RunHead,
+    // the number of its first document, which stands in the head too: heads lie far apart in memory
+    first: u32,
     // the terms that are left
     terms: TermWalk<'a>,
     // the term at hand
@@ -24,6 +26,7 @@ pub struct RunSource<'a> {
 }
 
 impl<'a> Model for RunSource<'a> {
+    ghost use Rattle.std.specs.Prelude.{◌≡◌};
     ghost use Rattle.std.specs.Option.{option_copied};
     ghost use Rattle.ix_run_text.specs.Heads.{heading_of};
     ghost use Rattle.ix_run.specs.RunSources.{EndsAt, IsAtPlace, SourceValue};
@@ -44,7 +47,8 @@ impl<'a> Model for RunSource<'a> {
           term = option_copied source.term;
           postings = source.postings;
         })
-        × EndsAt source.last source.postings };
+        × EndsAt source.last source.postings
+        × (source.first ≡ (heading_of source.head.now).first) };
 }
 
 impl<'a> RunSource<'a> {
@@ -71,6 +75,7 @@ impl<'a> RunSource<'a> {
     {
         RunSource {
             head,
+            first: head.first,
             terms,
             term: None,
             postings: Postings::new(&[], 0),
@@ -194,7 +199,7 @@ impl<'a> Source for RunSource<'a> {
         if documents == 0 {
             return Ok(Listed { documents, next });
         }
-        let first = self.head.first;
+        let first = self.first;
         if self.postings.push_shifted(out, first, next).is_err() {
             return Err(ListError::Memory);
         }

@@ -14,6 +14,7 @@ invariant_of-self c =
       place_next (heading_of c.self.inside.head.now) c.self.inside.terms (option_copied c.self.inside.term) (c.in-Some.posting.document, c.in-Some.posting.positions) c.next.new.self c.self.inside.postings
           (sym c.again-postings.ensures ∙ c.in-Some.ensures.steps) some c.self.invariant.0,
       ends_next c.self.inside.last c.self.inside.postings c.next.new.self (c.in-Some.posting.document, c.in-Some.posting.positions) (sym c.again-postings.ensures ∙ c.in-Some.ensures.steps) c.self.invariant.1,
+      c.self.invariant.2,
     )
 
 pub returns-clause-given : goal.returns-clause-given

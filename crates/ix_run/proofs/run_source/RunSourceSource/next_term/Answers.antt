@@ -18,6 +18,7 @@ invariant_of-self c =
       of_left P c.next.new.self c.self.inside.terms (c.in_default.ensures.1 ∙ sym c.in_default.ensures.0) (place_ended (heading_of c.self.inside.head.now) c.self.inside.terms (option_copied c.self.inside.term) c.self.inside.postings c.new-self-inside.result
           c.in_default.ensures.0 none c.self.invariant.0),
       ends_none c.self.inside.last c.new-self-inside.result none,
+      c.self.invariant.2,
     )
 
 pub returns-in_default-clause-begun : goal.returns-in_default-clause-begun
@@ -47,6 +48,7 @@ invariant_of-self-2 c =
           (λ told are counted bytes. c.new-self-inside-2.ensures told are counted bytes) c.self.invariant.0),
       ends_begun c.self.inside.terms (term_shown c.in-Some.term) c.next.new.self c.self.invariant.0.given.rest c.new-self-inside-2.result c.in-Some.term.last
           c.in-Some.ensures c.self.invariant.0.given.left (λ told are counted bytes. c.new-self-inside-2.ensures told are counted bytes) refl,
+      c.self.invariant.2,
     )
 
 pub returns-clause-begun : goal.returns-clause-begun
