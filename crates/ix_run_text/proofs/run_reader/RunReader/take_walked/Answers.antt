@@ -19,7 +19,7 @@ push_shifted-requires g c =
     let self = c.args.self.now in
     let walked = c.requires.walked in
     walked_shifted self c.args.after c.args.numbers.now walked c.in-Some.list.now c.in-Some.ensures.next.0 c.new-postings.result c.new-postings.ensures
-    c.args.next c.requires.low (walked_low self c.args.after c.args.numbers.now walked c.requires.begun)
+    _ (omega arith) (walked_low self c.args.after c.args.numbers.now walked c.requires.begun)
 
 pub overflow_add-listed : goal.overflow_add-listed
 overflow_add-listed g c =
