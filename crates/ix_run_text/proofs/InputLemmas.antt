@@ -96,13 +96,17 @@ part_taken known buffer start end count before kept le within =
     (Consumes-from_keeps before (prepend_known (held buffer start end) known) kept)
     (held-moved known (held buffer start end) part (held buffer (start + count) end) (held-range buffer start end count le))
 
+-- what is held, as the slice of the buffer that it is
+pub held-slice : (buffer : List ℕ) (start end : ℕ) → start ≤ end → take (end - start) (drop start buffer) ≡ held buffer start end
+held-slice buffer start end le =
+    let n : start + (end - start) ≡ end = omega arith in
+    sym (ap (λ (k : ℕ). drop start (take k buffer)) (sym n) ∙ drop-take start (end - start) buffer)
+
 -- what begins what is held is taken
 pub code_taken : (known : Option (List ℕ)) (buffer code : List ℕ) (start end count : ℕ) → start ≤ end → end ≤ length buffer → count ≡ length code
     → take (end - start) (drop start buffer) ≡ code ++ drop count (take (end - start) (drop start buffer))
     → Consumes (prepend_known (held buffer start end) known) (prepend_known (held buffer (start + count) end) known) code
 code_taken known buffer code start end count le within len front =
-    let all : held buffer start end ≡ take (end - start) (drop start buffer) =
-    let n : start + (end - start) ≡ end = omega arith in
-    ap (λ (k : ℕ). drop start (take k buffer)) (sym n) ∙ drop-take start (end - start) buffer in
+    let all = sym (held-slice buffer start end le) in
     held-moved known (held buffer start end) code (held buffer (start + count) end)
     (all ∙ front ∙ ap (λ (xs : List ℕ). code ++ drop count xs) (sym all) ∙ ap (λ (xs : List ℕ). code ++ xs) (drop-drop count start (take end buffer)))

@@ -2,7 +2,7 @@
 use Rattle.std.proofs.Common.{◌≡◌, ℕ, ◌+◌, ◌-◌, ◌^◌, ◌<◌, ◌≤◌, List, [], ◌∷◌, ◌++◌, length, take, drop, get_or, cond, false, Result, Ok, Err, is_ok, is_err, Contains, inl, inr, refl, sym, ap, ap₂, subst, ◌∙◌, arith, append_assoc, append-nil}
 use Rattle.std.proofs.lemmas.List.{drop-drop, length-append, map-append, take_all, take_more}
 use Rattle.std.proofs.lemmas.List.Elements.{Contains-get_or, Contains-push_cases}
-use Rattle.std.proofs.Math.Seq.{drop-append_seam}
+use Rattle.std.proofs.Math.Seq.{drop-append_seam, take-append_seam}
 use Rattle.ix_text.specs.Parts.{DocumentRow, Posting}
 use Rattle.ix_text.specs.TokenMarks.{ShareNumber}
 use Rattle.ix_text.specs.TokenNumbers.{numbers_of_posting, numbers_of_postings}
@@ -185,16 +185,21 @@ postings_more rows bytes rest documents next numbers document size after walked 
       numbers_are = found.numbers ∙ ap (λ (ns : List ℕ). ns ++ numbers_of_posting rows p) walked.numbers_are ∙ sym (numbers_of_postings-push rows ps p);
     }
 
-pub postings_all : (rows : List DocumentRow) (bytes rest : List ℕ) (documents next : ℕ) (numbers : List ℕ) → PostingsWalked rows bytes rest documents next numbers → rest ≡ []
-    → IsWalkedList rows bytes documents next numbers
-postings_all rows bytes rest documents next numbers walked none = record {
-  postings = walked.postings;
-  fit = walked.fit;
-  counted = walked.counted;
-  coded = walked.coded ∙ ap (λ (more : List ℕ). list_bytes walked.postings ++ more) none ∙ append-nil (list_bytes walked.postings);
-  next_is = walked.next_is;
-  numbers_are = walked.numbers_are;
-}
+pub postings_all : (rows : List DocumentRow) (bytes rest : List ℕ) (size documents next : ℕ) (numbers : List ℕ) → PostingsWalked rows bytes rest documents next numbers → length bytes - length rest ≡ size
+    → IsWalkedList rows bytes size documents next numbers
+postings_all rows bytes rest size documents next numbers walked same =
+    let list : List ℕ = list_bytes walked.postings in
+    let is : bytes ≡ list ++ rest = walked.coded in
+    let sized : size ≡ length list = omega (arith, same, ap length is, length-append list rest) in
+    record {
+      postings = walked.postings;
+      fit = walked.fit;
+      counted = walked.counted;
+      coded = ap₂ (λ (n : ℕ) (bs : List ℕ). take n bs) sized is ∙ take-append_seam list rest;
+      sized = sized;
+      next_is = walked.next_is;
+      numbers_are = walked.numbers_are;
+    }
 
 -- ---- what was appended
 

@@ -1,5 +1,5 @@
 -- A reader whose list was walked: what its calls ask, and what it gave when the list was taken.
-use Rattle.std.proofs.Common.{◌≡◌, ℕ, ◌-◌, ◌^◌, ◌<◌, ◌≤◌, List, ◌++◌, length, take, Option, All, Some, sym, ap, subst, ◌∙◌, arith}
+use Rattle.std.proofs.Common.{◌≡◌, ℕ, ◌-◌, ◌^◌, ◌<◌, ◌≤◌, List, ◌++◌, length, take, Option, All, Some, sym, subst, ◌∙◌, arith}
 use Rattle.std.proofs.lemmas.List.Elements.{All-weaker}
 use Rattle.std.specs.Io.KnownBytes.{Consumes}
 use Rattle.ix_text.specs.Parts.{DictionaryEntry, Posting}
@@ -21,21 +21,21 @@ use Rattle.ix_run_text.proofs.WholeLists.{shift_postings}
 
 module _ {R : Type 0} where
   -- the tokens of a list that was walked have marks
-  pub list_below_room : (reader : RunReader R) (bytes : List ℕ) (documents next : ℕ) (numbers : List ℕ) → IsWalkedList (heading_of reader.head).rows bytes documents next numbers
+  pub list_below_room : (reader : RunReader R) (bytes : List ℕ) (size documents next : ℕ) (numbers : List ℕ) → IsWalkedList (heading_of reader.head).rows bytes size documents next numbers
       → All (λ number. number < room reader.marks) numbers
-  list_below_room reader bytes documents next numbers list =
+  list_below_room reader bytes size documents next numbers list =
       subst (All (λ number. number < room reader.marks)) (sym list.numbers_are)
       (numbers_below (heading_of reader.head).rows (room reader.marks) list.postings reader.room list.fit)
 
   module _ (reader : RunReader R) (after : ℕ) (numbers : List ℕ) (walked : IsWalked reader after numbers) where
-    abbrev list : IsWalkedList (heading_of reader.head).rows (take reader.bytes (bytes_held reader.input)) reader.documents after numbers
+    abbrev list : IsWalkedList (heading_of reader.head).rows (bytes_held reader.input) reader.bytes reader.documents after numbers
     list = walked.list
 
     abbrev told : List Posting
     told = list.postings
 
     pub walked_below : All (λ number. number < room reader.marks) numbers
-    walked_below = list_below_room reader (take reader.bytes (bytes_held reader.input)) reader.documents after numbers list
+    walked_below = list_below_room reader (bytes_held reader.input) reader.bytes reader.documents after numbers list
 
     are_low : ArePostings 0 (2 ^ 28) told
     are_low = fit_are (heading_of reader.head).rows (2 ^ 28) reader.few_documents reader.few_tokens 0 told list.fit
@@ -83,13 +83,12 @@ module _ {R : Type 0} where
       walked_takes =
           let some = walked.some in
           let counted = list.counted in
-          let sized = walked.sized in
           record {
             here = walked_here;
             fresh = walked.held.fresh;
             some = omega (arith, some, counted);
             counted = counted;
-            sized = sym (ap length list.coded) ∙ sized;
+            sized = sym list.sized;
             taken = subst (Consumes left behind) list.coded consumes;
             fit = list.fit;
             are = are_low;

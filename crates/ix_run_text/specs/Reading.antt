@@ -1,5 +1,5 @@
 -- What a reader of a run text has read of its terms, and what it has left of them.
-use Rattle.std.specs.Prelude.{◌≡◌, ◌≢◌, ℕ, ◌+◌, List, [], ◌∷◌, ◌++◌, length, take, flat_map, string_bytes, slice_index_or, ◌-◌, ◌<◌, ◌≤◌, Option, Some, None, IfSome, option_map}
+use Rattle.std.specs.Prelude.{◌≡◌, ◌≢◌, ℕ, ◌+◌, List, [], ◌∷◌, ◌++◌, length, flat_map, string_bytes, slice_index_or, ◌-◌, ◌<◌, ◌≤◌, Option, Some, None, IfSome, option_map}
 use Rattle.ix_text.specs.Parts.{DictionaryEntry, Parts, Posting, terms_of}
 use Rattle.ix_text.specs.TokenMarks.{HoldsNumbers, ShareNumber}
 use Rattle.ix_text.specs.TokenNumbers.{AreDistinct, numbers_of_entries}
@@ -154,8 +154,7 @@ pub record IsHeldWhole {R : Type 0} (reader : RunReader R) : Type 0 where
 pub record IsWalked {R : Type 0} (reader : RunReader R) (next : ℕ) (numbers : List ℕ) : Type 0 where
   pub held : IsHeldWhole reader
   pub some : 0 < reader.documents
-  pub sized : length (take reader.bytes (bytes_held reader.input)) ≡ reader.bytes
-  pub list : IsWalkedList (heading_of reader.head).rows (take reader.bytes (bytes_held reader.input)) reader.documents next numbers
+  pub list : IsWalkedList (heading_of reader.head).rows (bytes_held reader.input) reader.bytes reader.documents next numbers
   pub free : (told : List ℕ) → HoldsNumbers reader.marks told → ¬ (ShareNumber numbers told)
 
 -- From the old state to the new one a reader took the bytes of this posting from its list, in which its document is

@@ -1,5 +1,5 @@
 -- A list of postings that was walked: the postings that its bytes spell, and the numbers of their tokens.
-use Rattle.std.specs.Prelude.{◌≡◌, ℕ, ◌+◌, ◌-◌, ◌^◌, ◌<◌, ◌≤◌, List, [], ◌∷◌, ◌++◌, ⊤, length, drop, sum_by}
+use Rattle.std.specs.Prelude.{◌≡◌, ℕ, ◌+◌, ◌-◌, ◌^◌, ◌<◌, ◌≤◌, List, [], ◌∷◌, ◌++◌, ⊤, length, take, drop, sum_by}
 use Rattle.ix_text.specs.Parts.{DocumentRow, Posting}
 use Rattle.ix_text.specs.TokenNumbers.{numbers_of_posting, numbers_of_postings}
 use Rattle.ix_text.specs.TokenTables.{HasTokens}
@@ -21,13 +21,14 @@ abbrev pub PostingsFit : List DocumentRow → ℕ → List Posting → Type 0
 PostingsFit rows next [] = ⊤
 PostingsFit rows next (posting ∷ postings) = PostingFits rows next posting × PostingsFit rows (posting.0 + 1) postings
 
--- The bytes are a whole list of so many postings of these documents; one above the last of them, and the numbers of
--- their tokens.
-pub record IsWalkedList (rows : List DocumentRow) (bytes : List ℕ) (documents next : ℕ) (numbers : List ℕ) : Type 0 where
+-- The bytes begin with a whole list of so many postings, in `size` of them, of these documents; one above the last of
+-- them, and the numbers of their tokens.
+pub record IsWalkedList (rows : List DocumentRow) (bytes : List ℕ) (size documents next : ℕ) (numbers : List ℕ) : Type 0 where
   pub postings : List Posting
   pub fit : PostingsFit rows 0 postings
   pub counted : length postings ≡ documents
-  pub coded : bytes ≡ list_bytes postings
+  pub coded : take size bytes ≡ list_bytes postings
+  pub sized : size ≡ length (list_bytes postings)
   pub next_is : next ≡ next_after 0 (documents_of postings)
   pub numbers_are : numbers ≡ numbers_of_postings rows postings
 

@@ -263,6 +263,14 @@ impl<R: Read> Input<R> {
         Some(&self.buffer[self.start - count..self.start])
     }
 
+    /// The bytes that are buffered and were not taken. Nothing is taken.
+    #[inline(always)]
+    pub(crate) fn held(&self) -> &[u8]
+        ensures { result.now ≡ bytes_held self.now }
+    {
+        &self.buffer[self.start..self.end]
+    }
+
     /// The bytes that come next, so many, where they are all buffered. Nothing is taken.
     #[inline(always)]
     pub(crate) fn ahead(&self, count: usize) -> Option<&[u8]>

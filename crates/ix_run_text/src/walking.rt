@@ -10,30 +10,36 @@ use crate::list::document_behind;
 use ix_text::{TokenMarks, TokenTable};
 use ix_vbyte::{decode, short_number, short_posting};
 
-/// Walks the list of so many postings that the bytes are, and answers one above its last document. `numbers` then holds
-/// the numbers of its tokens, and nothing else.
+/// Walks the list of so many postings that the bytes begin with, in `size` of them, and answers one above its last
+/// document. `numbers` then holds the numbers of its tokens, and nothing else. What stands behind the list lets its last
+/// postings be read as fast as its first.
 ///
-/// None where the bytes are no such list of these documents, or memory was refused. It does not tell why: a reader that goes
-/// posting by posting finds the first fault.
+/// None where the bytes begin with no such list of these documents, or memory was refused. It does not tell why: a reader
+/// that goes posting by posting finds the first fault.
 pub(crate) fn walk(
-    list: &[u8],
+    bytes: &[u8],
+    size: usize,
     documents: u32,
     tokens: &TokenTable,
     numbers: &mut Vec<u32>,
 ) -> Option<u32>
     requires { AreFew tokens.now }
     ensures { IfSome result (λ next. (rows : List DocumentRow) → HasTokens tokens.now rows
-        → IsWalkedList rows list.now documents next numbers.new.items) }
+        → IsWalkedList rows bytes.now size documents next numbers.new.items) }
 {
     numbers.clear();
-    let mut rest = list;
+    let mut rest = bytes;
     let mut next = 0;
     for _ in 0..documents {
-        let (document, size) = walk_posting(rest, next, tokens, numbers)?;
-        rest = &rest[size..];
+        let (document, taken) = walk_posting(rest, next, tokens, numbers)?;
+        rest = &rest[taken..];
         next = document + 1;
     }
-    if rest.is_empty() { Some(next) } else { None }
+    if bytes.len() - rest.len() == size {
+        Some(next)
+    } else {
+        None
+    }
 }
 
 /// The document of the posting that the bytes begin with, and how many bytes it takes. The numbers of its tokens are

@@ -93,8 +93,13 @@ impl<R: Read + Drop> RunReader<R> {
         if self.documents == 0 {
             return None;
         }
-        let list = self.input.ahead(self.bytes)?;
-        let after = walk(list, self.documents, &self.tokens, numbers)?;
+        let after = walk(
+            self.input.held(),
+            self.bytes,
+            self.documents,
+            &self.tokens,
+            numbers,
+        )?;
         if are_free(numbers, &self.marks) {
             Some(after)
         } else {

@@ -6,4 +6,4 @@ use Rattle.ix_run_text.proofs.WalkLemmas.{PostingsWalked}
 use Rattle.ix_run_text.proofs.walking.walk.Given as goal
 
 abbrev pub invariant-loop : goal.invariant-loop
-invariant-loop l = (rows : List DocumentRow) → HasTokens l.tokens rows → PostingsWalked rows l.list l.rest l.counter l.next l.numbers.items
+invariant-loop l = (rows : List DocumentRow) → HasTokens l.tokens rows → PostingsWalked rows l.bytes l.rest l.counter l.next l.numbers.items

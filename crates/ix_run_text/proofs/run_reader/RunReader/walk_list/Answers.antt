@@ -8,4 +8,4 @@ pub are_free-requires : goal.are_free-requires
 are_free-requires g c =
     let self = c.args.self.now in
     subst (λ (numbers : List ℕ). All (λ number. number < room self.marks) numbers) (sym c.deref.ensures.value)
-    (list_below_room self c.in_ok-list.list.now self.documents c.in_ok-after.after c.walk.new.numbers.items (c.in_ok-after.ensures _ self.table))
+    (list_below_room self c.held.result.now self.bytes self.documents c.in_ok-after.after c.walk.new.numbers.items (c.in_ok-after.ensures _ self.table))
