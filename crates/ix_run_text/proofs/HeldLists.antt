@@ -1,181 +1,145 @@
--- A list that is buffered whole: its postings are checked one by one, and its bytes are taken at once.
-use Rattle.std.proofs.Common.{◌≡◌, ℕ, ◌+◌, ◌-◌, ◌^◌, ◌<◌, ◌≤◌, List, [], ◌∷◌, ◌++◌, length, Option, Some, IsSome, refl, sym, ap, subst, ◌∙◌, arith, length-append}
-use Rattle.std.proofs.lemmas.List.{append-nil, map-append, nil_from_length}
-use Rattle.std.proofs.lemmas.List.Elements.{All-weaker}
+-- A list that is buffered whole: once it was walked, its bytes are copied and its tokens told at once.
+use Rattle.std.proofs.Common.{◌≡◌, ℕ, ◌+◌, ◌^◌, ◌<◌, List, [], ◌∷◌, ◌++◌, length, Option, Some, None, IfSome, refl, sym, ap, subst, ◌∙◌, arith, length-append}
+use Rattle.std.proofs.lemmas.List.{append_assoc, append-nil, map-append}
+use Rattle.std.specs.Io.KnownBytes.{Consumes}
+use Rattle.std.specs.List.{flat_map}
 use Rattle.ix_text.specs.Parts.{DictionaryEntry, Posting}
+use Rattle.ix_text.specs.TokenMarks.{HoldsNumbers}
+use Rattle.ix_text.specs.TokenNumbers.{AreDistinct, numbers_of_entries, numbers_of_posting, numbers_of_postings}
+use Rattle.ix_text.specs.declared.token_marks.TokenMarks.{TokenMarks}
+use Rattle.ix_text.proofs.DistinctNumbers.{distinct_front}
 use Rattle.ix_vbyte.specs.Gaps.{next_after}
-use Rattle.ix_vbyte.specs.Postings.{ArePostings, IsPosting, documents_of, list_bytes, list_bytes_from, posting_bytes, shifted, shifted_posting}
-use Rattle.ix_vbyte.specs.Walking.{IsCodedList}
-use Rattle.ix_vbyte.proofs.Gaps.{Ascends-wider, next_after-push}
-use Rattle.ix_vbyte.proofs.Postings.{list_bytes_from-push}
+use Rattle.ix_vbyte.specs.Postings.{ArePostings, documents_of, list_bytes, list_bytes_from}
+use Rattle.ix_vbyte.proofs.Postings.{list_apart}
 use Rattle.ix_run_text.specs.Heads.{Heading}
-use Rattle.ix_run_text.specs.Inputs.{EndsWith, Passes, passed}
-use Rattle.ix_run_text.specs.Reading.{HasRead, IsDrained, IsHeldWhole, MayYield, TookPosting, term_of}
-use Rattle.ix_run_text.specs.RunReaders.{heading_read}
-use Rattle.ix_run_text.specs.Sources.{EndsPostings, GivesList, GivesPosting, extended}
-use Rattle.ix_run_text.specs.declared.run_reader.RunReader.{RunReader}
-use Rattle.ix_run_text.proofs.ListSteps.{TakesOn, takes_all, takes_more, takes_none}
-use Rattle.ix_run_text.proofs.Passing.{last_of, passes_none, passes_on}
-use Rattle.ix_run_text.proofs.WholeLists.{list_below, postings_behind, shift_postings}
+use Rattle.ix_run_text.specs.Reading.{LieAhead, LieBehind, MayLieAhead, Standing, bytes_ahead}
+use Rattle.ix_run_text.specs.RunText.{term_bytes}
+use Rattle.ix_run_text.specs.Sources.{AreWhole, IsLawfulFront, closed, entry_with, extended}
+use Rattle.ix_run_text.specs.WalkedLists.{PostingsFit}
+use Rattle.ix_run_text.specs.declared.run_reader.Place.TheVariants.{AtTerm}
+use Rattle.ix_run_text.proofs.ReadFronts.{closed-none, extended-nil, front_more, numbers_more}
+use Rattle.ix_run_text.proofs.ReadSteps.{last_stays, no_entry, spelled_before}
+use Rattle.ix_run_text.proofs.ReadWholes.{closed-given}
+use Rattle.ix_run_text.proofs.WholeLists.{list_below, postings_behind}
 
--- From the old state to the new one a reader took the bytes of these postings from its list.
-pub record TookPostings {R : Type 0} (old new : RunReader R) (postings : List Posting) : Type 0 where
-  pub next : new.next ≡ next_after old.next (documents_of postings)
-  pub sized : new.bytes + length (list_bytes_from old.next postings) ≡ old.bytes
-  pub passed : Passes (passed old.input) (passed new.input) (list_bytes_from old.next postings)
+next_after-append : (next : ℕ) (xs ys : List ℕ) → next_after next (xs ++ ys) ≡ next_after (next_after next xs) ys
+next_after-append next [] ys = refl
+next_after-append next (x ∷ xs) ys = next_after-append (x + 1) xs ys
 
-module _ {R : Type 0} where
-  took_none : (reader : RunReader R) → TookPostings reader reader []
-  took_none reader = record { next = refl; sized = omega arith; passed = passes_none (passed reader.input) }
+-- postings that fit, one behind another, are given
+front_all : (heading : Heading) (finished : List DictionaryEntry) (entry : DictionaryEntry) (postings : List Posting) → IsLawfulFront heading finished (Some entry)
+    → PostingsFit heading.rows (next_after 0 (documents_of entry.postings)) postings
+    → AreDistinct (numbers_of_entries heading.rows (closed finished (Some entry) []) ++ numbers_of_postings heading.rows postings)
+    → IsLawfulFront heading finished (Some (extended entry postings))
+front_all heading finished entry [] front fit distinct = subst (λ (e : DictionaryEntry). IsLawfulFront heading finished (Some e)) (sym (extended-nil entry)) front
+front_all heading finished entry (p ∷ ps) front fit distinct =
+    let rows = heading.rows in
+    let longer : DictionaryEntry = extended entry (p ∷ []) in
+    let before : List ℕ = numbers_of_entries rows (closed finished (Some entry) []) in
+    let here : List ℕ = numbers_of_posting rows p in
+    let later : List ℕ = numbers_of_postings rows ps in
+    let parted : AreDistinct ((before ++ here) ++ later) = subst AreDistinct (sym (append_assoc before here later)) distinct in
+    let told : before ++ here ≡ numbers_of_entries rows (closed finished (Some longer) []) =
+    ap (λ (ns : List ℕ). before ++ ns) (sym (append-nil here)) ∙ sym (numbers_more rows finished entry (p ∷ [])) ∙ ap (numbers_of_entries rows) (closed-given finished entry p []) in
+    let next : p.0 + 1 ≡ next_after 0 (documents_of longer.postings) =
+    sym (ap (next_after 0) (map-append (λ (q : Posting). q.0) entry.postings (p ∷ [])) ∙ next_after-append 0 (documents_of entry.postings) (p.0 ∷ [])) in
+    let all = front_all heading finished longer ps (front_more heading finished entry p front fit.0 (distinct_front (before ++ here) later parted)) (subst (λ (n : ℕ). PostingsFit rows n ps) next fit.1) (subst (λ (ns : List ℕ). AreDistinct (ns ++ later)) told parted) in
+    subst (λ (qs : List Posting). IsLawfulFront heading finished (Some (entry_with entry.term qs))) (append_assoc entry.postings (p ∷ []) ps) all
 
-  took_more : (old now new : RunReader R) (postings : List Posting) (posting : Posting) → TookPostings old now postings → TookPosting now new posting → TookPostings old new (postings ++ posting ∷ [])
-  took_more old now new postings posting before took =
-      let last : List ℕ = posting_bytes (posting.0 + 1 - next_after old.next (documents_of postings)) posting in
-      let all = list_bytes_from-push old.next postings posting in
-      let behind : posting_bytes (posting.0 + 1 - now.next) posting ≡ last = ap (λ (n : ℕ). posting_bytes (posting.0 + 1 - n) posting) before.next in
-      let documents : documents_of (postings ++ posting ∷ []) ≡ documents_of postings ++ posting.0 ∷ [] = map-append (λ (p : Posting). p.0) postings (posting ∷ []) in
+-- A reader that took nothing of its list takes these postings, which are the whole list.
+pub record TakesAll (at : Standing) (postings : List Posting) (marks : TokenMarks) (left after : Option (List ℕ)) : Type 0 where
+  pub here : at.place ≡ AtTerm
+  pub fresh : at.next ≡ 0
+  pub some : 0 < length postings
+  pub counted : length postings ≡ at.documents
+  pub sized : length (list_bytes postings) ≡ at.bytes
+  pub taken : Consumes left after (list_bytes postings)
+  pub fit : PostingsFit at.heading.rows 0 postings
+  pub are : ArePostings 0 (2 ^ 28) postings
+  pub marked : (numbers : List ℕ) → HoldsNumbers at.marks numbers → AreDistinct numbers
+      → AreDistinct (numbers ++ numbers_of_postings at.heading.rows postings) × HoldsNumbers marks (numbers ++ numbers_of_postings at.heading.rows postings)
+
+module _ (at : Standing) (postings : List Posting) (next : ℕ) (marks : TokenMarks) (left after : Option (List ℕ)) (takes : TakesAll at postings marks left after) (last : next ≡ next_after 0 (documents_of postings)) where
+  -- where it stands then
+  abbrev pub emptied : Standing
+  emptied = record { heading = at.heading; place = at.place; last = at.last; next = next; documents = 0; bytes = 0; marks = marks }
+
+  pub behind_all : (finished : List DictionaryEntry) (entry : DictionaryEntry) → LieBehind at finished (Some entry) → LieBehind emptied finished (Some (extended entry postings))
+  behind_all finished entry behind =
+      let rows = at.heading.rows in
+      let before : List ℕ = numbers_of_entries rows (closed finished (Some entry) []) in
+      let start : 0 ≡ next_after 0 (documents_of entry.postings) = sym takes.fresh ∙ behind.next in
+      let marked = takes.marked before behind.marked behind.distinct in
+      let told : before ++ numbers_of_postings rows postings ≡ numbers_of_entries rows (closed finished (Some (extended entry postings)) []) =
+      sym (numbers_more rows finished entry postings) ∙ ap (numbers_of_entries rows) (sym (closed-none finished (extended entry postings))) in
       record {
-        next = took.next ∙ sym (ap (next_after old.next) documents ∙ next_after-push old.next (documents_of postings) posting.0);
-        sized =
-            let size = before.sized in
-            let gained = took.sized in
-            omega (arith, size, gained, ap length behind, ap length all, length-append (list_bytes_from old.next postings) last);
-        passed =
-            subst (Passes (passed old.input) (passed new.input)) (sym all)
-            (passes_on (passed old.input) (passed now.input) (passed new.input) (list_bytes_from old.next postings) last before.passed
-            (subst (Passes (passed now.input) (passed new.input)) behind took.passed));
+        lawful = front_all at.heading finished entry postings behind.lawful (subst (λ (n : ℕ). PostingsFit rows n postings) start takes.fit) marked.0;
+        of_term = behind.of_term;
+        last = behind.last ∙ last_stays finished entry.term (entry.postings ++ []) ((entry.postings ++ postings) ++ []);
+        next =
+            last ∙ ap (λ (n : ℕ). next_after n (documents_of postings)) start
+            ∙ sym (ap (next_after 0) (map-append (λ (p : Posting). p.0) entry.postings postings) ∙ next_after-append 0 (documents_of entry.postings) (documents_of postings));
+        posted = λ _. (let some = takes.some in omega (arith, some, length-append entry.postings postings));
+        marked = subst (HoldsNumbers marks) told marked.1;
+        distinct = subst AreDistinct told marked.0;
       }
 
-  -- no byte is left of a list of which no posting is
-  pub none_left : (reader : RunReader R) → IsSome (term_of reader) → IsDrained reader → reader.bytes ≡ 0
-  none_left reader some drained = reader.listed (drained (λ none. let no = subst IsSome none some in cc)).1
+  -- what may lie ahead of it then lay behind the list
+  pub ahead_all : (rest : List Posting) (entries : List DictionaryEntry) → MayLieAhead emptied after rest entries → (rest ≡ []) × MayLieAhead at left postings entries
+  ahead_all (p ∷ ps) entries ahead = absurd (let counted = ahead.are.counted in omega arith)
+  ahead_all [] entries ahead = (
+    refl,
+    record {
+      are = record {
+        counted = takes.counted;
+        sized = subst (λ (n : ℕ). length (list_bytes_from n postings) ≡ at.bytes) (sym takes.fresh) takes.sized;
+        ended = ahead.are.ended;
+      };
+      spelled = λ not.
+          let P : List ℕ → Type 0 = λ list. IfSome left (λ bytes. bytes ≡ bytes_ahead list entries) in
+          subst (λ (n : ℕ). P (list_bytes_from n postings)) (sym takes.fresh)
+          (subst P (append-nil (list_bytes postings)) (spelled_before left after (list_bytes postings) [] entries takes.taken (ahead.spelled not)));
+      whole = whole;
+    },
+  )
+    where
+      whole : (finished : List DictionaryEntry) (at_hand : Option DictionaryEntry) → LieBehind at finished at_hand → AreWhole at.heading (closed finished at_hand postings ++ entries)
+      whole finished None behind = no_entry at.place at.last takes.here behind.of_term
+      whole finished (Some entry) behind =
+          subst (AreWhole at.heading) (ap (λ (es : List DictionaryEntry). es ++ entries) (closed-none finished (extended entry postings)))
+          (ahead.whole finished (Some (extended entry postings)) (behind_all finished entry behind))
 
-module _ {R : Type 0} (remaining : R → Option (List ℕ)) (old : RunReader R) (next : ℕ) (bytes : List ℕ) where
-  -- What a loop over the postings keeps: those that were given, and what they took.
-  pub record TakesWhole (now : RunReader R) (documents near : ℕ) : Type 0 where
-    pub coded : List ℕ
-    pub taken : TakesOn (MayYield remaining) HasRead heading_read term_of old next bytes now documents near coded
-    pub took : TookPostings old now taken.told
+  -- postings that lay ahead are those that were taken
+  same_ahead : (a b : Option (List ℕ)) (others : List Posting) (tail : List ℕ) → Consumes a b (list_bytes postings) → a ≡ Some (list_bytes others ++ tail) → ArePostings 0 (2 ^ 28) others → length postings ≡ length others
+      → (postings ≡ others) × (b ≡ Some tail)
+  same_ahead None b others tail consumes e are same = absurd (cc)
+  same_ahead (Some xs) None others tail consumes e are same = absurd consumes
+  same_ahead (Some xs) (Some ys) others tail consumes e are same =
+      let is : xs ≡ list_bytes others ++ tail = cc in
+      let found = list_apart 0 (2 ^ 28) postings others ys tail takes.are are same (sym consumes ∙ is) in
+      (found.0, ap (λ (bytes : List ℕ). Some bytes) found.1)
 
-  pub whole_none : TakesWhole old 0 next
-  unfolding takes_none
-  whole_none = record { coded = bytes; taken = takes_none (MayYield remaining) HasRead heading_read term_of old next bytes; took = took_none old }
-
-  module _ (now : RunReader R) (documents near : ℕ) (takes : TakesWhole now documents near) where
-    pub whole_more : (new : RunReader R) (posting : Posting) → GivesPosting (MayYield remaining) HasRead now new posting → TookPosting now new posting
-        → heading_read new ≡ heading_read now → term_of new ≡ term_of now → TakesWhole new (documents + 1) (old.head.first + posting.0 + 1)
-    unfolding takes_more
-    whole_more new posting step took same stays = record {
-      coded = takes.coded ++ posting_bytes (old.head.first + posting.0 + 1 - near) (shifted_posting old.head.first posting);
-      taken =
-          takes_more (MayYield remaining) HasRead heading_read term_of old next bytes now documents near takes.coded takes.taken new posting step
-          (takes.coded ++ posting_bytes (old.head.first + posting.0 + 1 - near) (shifted_posting old.head.first posting)) same stays refl;
-      took = took_more old now new takes.taken.told posting takes.took took;
-    }
-
-  -- What stands when no posting is left.
-  pub record EndsWhole (now : RunReader R) (documents near : ℕ) : Type 0 where
-    pub takes : TakesWhole now documents near
-    pub drained : IsDrained now
-    pub last : EndsPostings (MayYield remaining) HasRead now now
-    pub at_hand : IsSome (term_of old)
-    pub begun : (finished : List DictionaryEntry) × ((entry : DictionaryEntry) × HasRead old finished (Some entry))
-    pub whole : IsHeldWhole old
-
-  -- The reader found none, and stands where it stood.
-  pub whole_ended : (now new : RunReader R) (documents near : ℕ) → TakesWhole now documents near → new ≡ now → IsDrained new × EndsPostings (MayYield remaining) HasRead now new
-      → IsSome (term_of old) → (finished : List DictionaryEntry) × ((entry : DictionaryEntry) × HasRead old finished (Some entry)) → IsHeldWhole old → EndsWhole new documents near
-  whole_ended now new documents near takes same (drained, last) at_hand begun whole = record {
-    takes = subst (λ (reader : RunReader R). TakesWhole reader documents near) (sym same) takes;
-    drained = drained;
-    last = subst (λ (reader : RunReader R). EndsPostings (MayYield remaining) HasRead reader new) (sym same) last;
-    at_hand = at_hand;
-    begun = begun;
-    whole = whole;
-  }
-
-  module _ (now : RunReader R) (documents near : ℕ) (done : EndsWhole now documents near) where
-    abbrev takes : TakesWhole now documents near
-    takes = done.takes
-
-    -- what was given is lawful
-    told_lawful : 0 < documents → ArePostings 0 (2 ^ 28) takes.taken.told × (old.head.first + 2 ^ 28 ≤ 2 ^ 32 - 1)
-    told_lawful some =
-        let finished = done.begun.0 in
-        let entry = done.begun.1.0 in
-        let given = done.begun.1.1 in
-        let told = takes.taken.told in
-        let longer : DictionaryEntry = extended entry told in
-        let counted = takes.taken.counted in
-        let posted : 0 < length longer.postings = omega (arith, some, counted, length-append entry.postings told) in
-        let whole = (takes.taken.given finished entry given).lawful.begun.posted posted in
-        let bounded : old.head.first + length (heading_read old).rows ≤ 2 ^ 28 = subst (λ (h : Heading). h.first + length h.rows ≤ 2 ^ 28) takes.taken.same_heading whole.within in
-        (postings_behind 0 (2 ^ 28) entry.postings told (list_below (heading_read now) finished longer [] (rw (append-nil) whole)), omega (arith, bounded))
-
-    module _ (some : 0 < documents) where
-      list_is : list_bytes_from old.next takes.taken.told ≡ list_bytes takes.taken.told
-      list_is = ap (λ (n : ℕ). list_bytes_from n takes.taken.told) done.whole.fresh
-
-      size : length (list_bytes_from old.next takes.taken.told) ≡ old.bytes
-      size =
-          let sized = takes.took.sized in
-          let none = none_left now (subst IsSome (sym takes.taken.same_term) done.at_hand) done.drained in
-          omega (arith, sized, none)
-
-      -- its bytes are still buffered
-      pub whole_there : old.bytes ≤ length (passed now.input).taken
-      whole_there =
-          let passes = takes.took.passed in
-          let held = done.whole.held in
-          let (no_gone, _) = passes.held (omega (arith, size, held)) in
-          let all : (passed now.input).taken ≡ (passed old.input).taken ++ list_bytes_from old.next takes.taken.told =
-          subst (λ (gone : List ℕ). gone ++ (passed now.input).taken ≡ (passed old.input).taken ++ list_bytes_from old.next takes.taken.told) no_gone passes.is in
-          omega (arith, size, ap length all, length-append (passed old.input).taken (list_bytes_from old.next takes.taken.told))
-
-      module _ (list : List ℕ) (ends : EndsWith (passed now.input).taken list) (sized : length list ≡ old.bytes) where
-        list_told : list ≡ list_bytes takes.taken.told
-        list_told =
-            let passes = takes.took.passed in
-            last_of passes.gone (passed old.input).taken (passed now.input).taken (list_bytes_from old.next takes.taken.told) list passes.is ends (sized ∙ sym size) ∙ list_is
-
-        are_told : ArePostings 0 (2 ^ 32 - 1) takes.taken.told
-        are_told =
-            let are = (told_lawful some).0 in
-            record {
-              documents = Ascends-wider 0 (2 ^ 28) (2 ^ 32 - 1) (documents_of takes.taken.told) (omega arith) are.documents;
-              each =
-                  All-weaker (IsPosting (2 ^ 28)) (IsPosting (2 ^ 32 - 1))
-                  (λ posting is. record { some = is.some; positions = Ascends-wider 0 (2 ^ 28) (2 ^ 32 - 1) posting.1 (omega arith) is.positions }) takes.taken.told are.each;
-            }
-
-        pub whole_list : IsCodedList documents list
-        whole_list = record { postings = takes.taken.told; are = are_told; counted = sym takes.taken.counted; coded = list_told }
-
-        -- and they are those of the postings
-        module _ (read : List Posting) (is : (postings : List Posting) → ArePostings 0 (2 ^ 32 - 1) postings → length postings ≡ documents → list ≡ list_bytes postings → read ≡ postings) where
-          read_told : read ≡ takes.taken.told
-          read_told = is takes.taken.told are_told (sym takes.taken.counted) list_told
-
-          pub whole_shifted : next ≤ old.head.first → ArePostings next (2 ^ 32 - 1) (shifted old.head.first read)
-          whole_shifted low =
-              let (are, within) = told_lawful some in
-              subst (λ (ps : List Posting). ArePostings next (2 ^ 32 - 1) (shifted old.head.first ps)) (sym read_told)
-              (shift_postings old.head.first 0 (2 ^ 28) next (2 ^ 32 - 1) takes.taken.told (omega (arith, low)) within are)
-
-          pub whole_given : (after : List ℕ) → after ≡ bytes ++ list_bytes_from next (shifted old.head.first read)
-              → GivesList (MayYield remaining) HasRead old now old.head.first next documents near bytes after
-          whole_given after pushed =
-              let same : takes.coded ≡ after =
-              takes.taken.coded ∙ ap (λ (ps : List Posting). bytes ++ list_bytes_from next (shifted old.head.first ps)) (sym read_told) ∙ sym pushed in
-              takes_all (MayYield remaining) HasRead heading_read term_of old next bytes now documents near after
-              (subst (λ (more : List ℕ). TakesOn (MayYield remaining) HasRead heading_read term_of old next bytes now documents near more) same takes.taken) now done.last
-
-    -- a list of no posting
-    pub none_given : documents ≡ 0 → GivesList (MayYield remaining) HasRead old now old.head.first next documents near bytes bytes
-    none_given none =
-        let counted = takes.taken.counted in
-        let nothing : takes.taken.told ≡ [] = nil_from_length takes.taken.told (omega (arith, none, counted)) in
-        let same : takes.coded ≡ bytes =
-        takes.taken.coded ∙ ap (λ (ps : List Posting). bytes ++ list_bytes_from next (shifted old.head.first ps)) nothing ∙ append-nil bytes in
-        takes_all (MayYield remaining) HasRead heading_read term_of old next bytes now documents near bytes
-        (subst (λ (more : List ℕ). TakesOn (MayYield remaining) HasRead heading_read term_of old next bytes now documents near more) same takes.taken) now done.last
+  -- where a lawful dictionary lay ahead, the rest of it does then
+  pub faces_all : (others : List Posting) (entries : List DictionaryEntry) → LieAhead at left others entries → LieAhead emptied after [] entries
+  faces_all others entries ahead = by ahead.finished ahead.at_hand ahead.behind ahead.whole
+    where
+      by : (finished : List DictionaryEntry) (at_hand : Option DictionaryEntry) → LieBehind at finished at_hand → AreWhole at.heading (closed finished at_hand others ++ entries) → LieAhead emptied after [] entries
+      by finished None behind whole = no_entry at.place at.last takes.here behind.of_term
+      by finished (Some entry) behind whole =
+          let tail : List ℕ = flat_map term_bytes entries ++ 128 ∷ [] in
+          let counted = ahead.are.counted in
+          let also = takes.counted in
+          let left_is : left ≡ Some (list_bytes others ++ tail) =
+          ahead.spelled (λ ended. let here = takes.here in cc) ∙ ap (λ (n : ℕ). Some (list_bytes_from n others ++ tail)) takes.fresh in
+          let found = same_ahead left after others tail takes.taken left_is (postings_behind 0 (2 ^ 28) entry.postings others (list_below at.heading finished (extended entry others) entries whole)) (omega (arith, counted, also)) in
+          record {
+            finished = finished;
+            at_hand = Some (extended entry postings);
+            behind = behind_all finished entry behind;
+            are = record { counted = refl; sized = refl; ended = ahead.are.ended };
+            whole =
+                subst (λ (es : List DictionaryEntry). AreWhole at.heading (es ++ entries)) (sym (closed-none finished (extended entry postings)))
+                (subst (λ (ps : List Posting). AreWhole at.heading (closed finished (Some entry) ps ++ entries)) (sym found.0) whole);
+            going = ahead.going;
+            spelled = λ not. found.1;
+          }

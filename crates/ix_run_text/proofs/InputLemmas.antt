@@ -1,5 +1,5 @@
 -- What an input has left, from call to call.
-use Rattle.std.proofs.Common.{◌≡◌, ℕ, suc, ◌+◌, ◌-◌, ◌<◌, ◌≤◌, List, [], ◌∷◌, ◌++◌, Option, Some, None, length, take, drop, get_or, refl, sym, ap, ◌∙◌, subst, arith, ap₂, take-append-drop, zero, nat_lt, MatchBool}
+use Rattle.std.proofs.Common.{◌≡◌, ℕ, suc, ◌+◌, ◌-◌, ◌<◌, ◌≤◌, List, [], ◌∷◌, ◌++◌, Option, Some, None, length, take, drop, get_or, refl, sym, ap, ◌∙◌, subst, arith, take-append-drop, zero, nat_lt, MatchBool}
 use Rattle.std.proofs.lemmas.List.{drop_more, get_or-take, length-take, length-drop, nil_from_length, get_or_read, drop-take, take-take, drop-drop}
 use Rattle.std.proofs.lemmas.Bool.Decides.{nat_tests}
 use Rattle.std.proofs.KnownBytes.{Consumes-trans, Keeps-refl, prepend_known-read, prepend_known-nil}
@@ -63,13 +63,26 @@ byte_taken known buffer start next end byte before kept lt le is one =
     subst (λ (place : ℕ). Consumes before (prepend_known (held buffer place end) known) (byte ∷ [])) (sym one) (first_taken known buffer start end byte before kept lt le is)
 
 -- a front of what is held, as the slice of the buffer that it is
-pub held-range : (buffer : List ℕ) (start end count : ℕ) → start + count ≤ end → end ≤ length buffer
-    → held buffer start end ≡ take ((start + count) - start) (drop start buffer) ++ held buffer (start + count) end
-held-range buffer start end count le within =
-    let front : take count (held buffer start end) ≡ take ((start + count) - start) (drop start buffer) =
+pub held-front : (buffer : List ℕ) (start end count : ℕ) → start + count ≤ end → take ((start + count) - start) (drop start buffer) ≡ take count (held buffer start end)
+held-front buffer start end count le =
     let n : (start + count) - start ≡ count = omega arith in
-    rw n (sym (drop-take start count (take end buffer)) ∙ ap (drop start) (take-take (start + count) end buffer le) ∙ drop-take start count buffer) in
-    sym (take-append-drop count (held buffer start end)) ∙ ap₂ (λ (xs ys : List ℕ). xs ++ ys) front (drop-drop count start (take end buffer))
+    rw n (sym (sym (drop-take start count (take end buffer)) ∙ ap (drop start) (take-take (start + count) end buffer le) ∙ drop-take start count buffer))
+
+-- and what is held behind it
+held-parts : (buffer : List ℕ) (start end count : ℕ) → held buffer start end ≡ take count (held buffer start end) ++ held buffer (start + count) end
+held-parts buffer start end count =
+    sym (take-append-drop count (held buffer start end)) ∙ ap (λ (xs : List ℕ). take count (held buffer start end) ++ xs) (drop-drop count start (take end buffer))
+
+pub held-range : (buffer : List ℕ) (start end count : ℕ) → start + count ≤ end
+    → held buffer start end ≡ take ((start + count) - start) (drop start buffer) ++ held buffer (start + count) end
+held-range buffer start end count le =
+    held-parts buffer start end count ∙ ap (λ (xs : List ℕ). xs ++ held buffer (start + count) end) (sym (held-front buffer start end count le))
+
+-- the front of what is held is taken
+pub front_taken : (known : Option (List ℕ)) (buffer : List ℕ) (start end count : ℕ)
+    → Consumes (prepend_known (held buffer start end) known) (prepend_known (held buffer (start + count) end) known) (take count (held buffer start end))
+front_taken known buffer start end count =
+    held-moved known (held buffer start end) (take count (held buffer start end)) (held buffer (start + count) end) (held-parts buffer start end count)
 
 pub length-range : (buffer : List ℕ) (start end count : ℕ) → start + count ≤ end → end ≤ length buffer → length (take ((start + count) - start) (drop start buffer)) ≡ count
 length-range buffer start end count le within = omega (arith, length-take ((start + count) - start) (drop start buffer), length-drop start buffer)
@@ -81,15 +94,19 @@ part_taken known buffer start end count before kept le within =
     let part = take ((start + count) - start) (drop start buffer) in
     Consumes-trans before (prepend_known (held buffer start end) known) (prepend_known (held buffer (start + count) end) known) [] part
     (Consumes-from_keeps before (prepend_known (held buffer start end) known) kept)
-    (held-moved known (held buffer start end) part (held buffer (start + count) end) (held-range buffer start end count le within))
+    (held-moved known (held buffer start end) part (held buffer (start + count) end) (held-range buffer start end count le))
+
+-- what is held, as the slice of the buffer that it is
+pub held-slice : (buffer : List ℕ) (start end : ℕ) → start ≤ end → take (end - start) (drop start buffer) ≡ held buffer start end
+held-slice buffer start end le =
+    let n : start + (end - start) ≡ end = omega arith in
+    sym (ap (λ (k : ℕ). drop start (take k buffer)) (sym n) ∙ drop-take start (end - start) buffer)
 
 -- what begins what is held is taken
 pub code_taken : (known : Option (List ℕ)) (buffer code : List ℕ) (start end count : ℕ) → start ≤ end → end ≤ length buffer → count ≡ length code
     → take (end - start) (drop start buffer) ≡ code ++ drop count (take (end - start) (drop start buffer))
     → Consumes (prepend_known (held buffer start end) known) (prepend_known (held buffer (start + count) end) known) code
 code_taken known buffer code start end count le within len front =
-    let all : held buffer start end ≡ take (end - start) (drop start buffer) =
-    let n : start + (end - start) ≡ end = omega arith in
-    ap (λ (k : ℕ). drop start (take k buffer)) (sym n) ∙ drop-take start (end - start) buffer in
+    let all = sym (held-slice buffer start end le) in
     held-moved known (held buffer start end) code (held buffer (start + count) end)
     (all ∙ front ∙ ap (λ (xs : List ℕ). code ++ drop count xs) (sym all) ∙ ap (λ (xs : List ℕ). code ++ xs) (drop-drop count start (take end buffer)))

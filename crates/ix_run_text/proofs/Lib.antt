@@ -24,4 +24,7 @@ pub mod SpelledLemmas
 pub mod StopTermLemmas
 pub mod TermLemmas
 pub mod TextLaws
+pub mod WalkLemmas
+pub mod WalkedPostings
+pub mod WalkedReaders
 pub mod WholeLists

@@ -71,7 +71,7 @@ marked_none first marks = record {
 pub first_none : (first end count limit : ℕ) (marks : TokenMarks) (old : Option (List ℕ)) → AreFirst first end count limit marks old old 0 []
 first_none first end count limit marks old = record { accepted = λ numbers all rest stand. (refl, stand.spelled) }
 
-codes_push : (read : List ℕ) (x next : ℕ) → next ≡ next_after 0 read → codes_of (gaps_of (read ++ x ∷ [])) ≡ codes_of (gaps_of read) ++ code_of (x + 1 - next)
+pub codes_push : (read : List ℕ) (x next : ℕ) → next ≡ next_after 0 read → codes_of (gaps_of (read ++ x ∷ [])) ≡ codes_of (gaps_of read) ++ code_of (x + 1 - next)
 codes_push read x next is =
     codes_middle 0 read x [] ∙ ap (λ (bytes : List ℕ). codes_of (gaps_of read) ++ bytes) (append-nil (code_of (x + 1 - next_after 0 read)))
     ∙ ap (λ (n : ℕ). codes_of (gaps_of read) ++ code_of (x + 1 - n)) (sym is)

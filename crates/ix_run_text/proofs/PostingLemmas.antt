@@ -28,7 +28,7 @@ span_within rows document span is =
     omega (arith, is.first, is.count, tokens_before_next rows document is.row is.numbered, sum_by-take-le (λ row. row.tokens) rows (document + 1))
 
 -- a table has the rows of as many documents, whichever they are
-same_count : (tokens : TokenTable) (rows others : List DocumentRow) → HasTokens tokens rows → HasTokens tokens others → length rows ≡ length others
+pub same_count : (tokens : TokenTable) (rows others : List DocumentRow) → HasTokens tokens rows → HasTokens tokens others → length rows ≡ length others
 unfolding HasTokens
 same_count tokens rows others has also = omega (arith, has.counted, also.counted)
 
@@ -44,6 +44,13 @@ posting_fits rows next document positions span above is some up = record {
         in_range_from_span rows document position span is within.1;
   };
 }
+
+-- and those of a posting that may come next do
+pub positions_ascend : (rows : List DocumentRow) (next : ℕ) (posting : Posting) → PostingFits rows next posting → (span : ℕ × ℕ) → IsSpan rows posting.0 span → Ascends 0 span.1 posting.1
+positions_ascend rows next posting fits span is =
+    Ascends-from 0 span.1 posting.1 fits.is.is.1
+    (All-from_get_or (λ x. (0 ≤ x) × (x < span.1)) posting.1 0
+    (λ i lt. (omega arith, span_from_in_range rows posting.0 (get_or posting.1 i 0) span is (fits.is.in_range (get_or posting.1 i 0) (Contains-get_or posting.1 i 0 lt)))))
 
 -- ---- a posting that may come next
 
@@ -69,10 +76,7 @@ module _ (tokens : TokenTable) (marks : TokenMarks) (ready : HaveRoom tokens mar
 
   -- its positions ascend below the number of the document's tokens
   pub ascends : (span : ℕ × ℕ) → IsSpan rows posting.0 span → Ascends 0 span.1 posting.1
-  ascends span is =
-      Ascends-from 0 span.1 posting.1 fits.is.is.1
-      (All-from_get_or (λ x. (0 ≤ x) × (x < span.1)) posting.1 0
-      (λ i lt. (omega arith, span_from_in_range rows posting.0 (get_or posting.1 i 0) span is (fits.is.in_range (get_or posting.1 i 0) (Contains-get_or posting.1 i 0 lt)))))
+  ascends span is = positions_ascend rows next posting fits span is
 
   pub count_fits : (span : ℕ × ℕ) → IsSpan rows posting.0 span → span.0 + span.1 ≤ 2 ^ 28 → length posting.1 < 2 ^ 32
   count_fits span is few = omega (arith, length-Ascends 0 span.1 posting.1 (omega arith) (ascends span is), few)

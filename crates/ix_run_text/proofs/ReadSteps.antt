@@ -47,7 +47,7 @@ no_entry {P} place last here none =
     let e : None ≡ Some last = subst Q here none in absurd (cc)
 
 -- bytes taken and then bytes that spell what follows
-spelled_before : (left after : Option (List ℕ)) (taken list : List ℕ) (entries : List DictionaryEntry) → Consumes left after taken
+pub spelled_before : (left after : Option (List ℕ)) (taken list : List ℕ) (entries : List DictionaryEntry) → Consumes left after taken
     → IfSome after (λ bytes. bytes ≡ bytes_ahead list entries) → IfSome left (λ bytes. bytes ≡ bytes_ahead (taken ++ list) entries)
 spelled_before None after taken list entries consumes spelled = tt
 spelled_before (Some xs) None taken list entries consumes spelled = absurd consumes
@@ -55,7 +55,7 @@ spelled_before (Some xs) (Some ys) taken list entries consumes spelled =
     consumes ∙ ap (λ (bytes : List ℕ). taken ++ bytes) spelled ∙ sym (append_assoc taken list (flat_map term_bytes entries ++ 128 ∷ []))
 
 -- the last term of a dictionary whose last entry has other postings
-last_stays : (finished : List DictionaryEntry) (term : List ℕ) (one other : List Posting) → last_text (terms_of (finished ++ entry_with term one ∷ [])) ≡ last_text (terms_of (finished ++ entry_with term other ∷ []))
+pub last_stays : (finished : List DictionaryEntry) (term : List ℕ) (one other : List Posting) → last_text (terms_of (finished ++ entry_with term one ∷ [])) ≡ last_text (terms_of (finished ++ entry_with term other ∷ []))
 last_stays finished term one other = ap last_text (terms_push finished (entry_with term one) ∙ sym (terms_push finished (entry_with term other)))
 
 -- A reader that stands there takes this posting.

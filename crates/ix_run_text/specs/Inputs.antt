@@ -7,6 +7,10 @@ use Rattle.ix_run_text.specs.declared.input.Input.{Input}
 unfoldable pub known_left : {R : Type 0} → (R → Option (List ℕ)) → Input R → Option (List ℕ)
 known_left remaining input = prepend_known (drop input.start (take input.end input.buffer.items)) (remaining input.reader)
 
+-- the bytes that are buffered and were not taken
+unfoldable pub bytes_held : {R : Type 0} → Input R → List ℕ
+bytes_held input = drop input.start (take input.end input.buffer.items)
+
 -- What is buffered: the bytes that were taken, and how many are left behind them.
 pub record Buffered : Type 0 where
   pub taken : List ℕ

@@ -13,3 +13,4 @@ pub mod RunReaders
 pub mod RunText
 pub mod RunTextErrors
 pub mod Sources
+pub mod WalkedLists

@@ -29,7 +29,7 @@ pub(crate) struct Input<R> {
 }
 
 impl<R: Read> Input<R> {
-    ghost use Rattle.ix_run_text.specs.Inputs.{EndsWith, FillsIfEmpty, Passes, known_left, passed};
+    ghost use Rattle.ix_run_text.specs.Inputs.{EndsWith, FillsIfEmpty, Passes, bytes_held, known_left, passed};
 
     /// The input that has what the reader has.
     pub(crate) fn new(alloc: Global, reader: R) -> Result<Input<R>, AllocError>
@@ -261,6 +261,37 @@ impl<R: Read> Input<R> {
             return None;
         }
         Some(&self.buffer[self.start - count..self.start])
+    }
+
+    /// The bytes that are buffered and were not taken. Nothing is taken.
+    #[inline(always)]
+    pub(crate) fn held(&self) -> &[u8]
+        ensures { result.now ≡ bytes_held self.now }
+    {
+        &self.buffer[self.start..self.end]
+    }
+
+    /// The bytes that come next, so many, where they are all buffered. Nothing is taken.
+    #[inline(always)]
+    pub(crate) fn ahead(&self, count: usize) -> Option<&[u8]>
+        ensures next { IfSome result (λ bytes. (bytes.now ≡ take count (bytes_held self.now))
+            × (length bytes.now ≡ count)) }
+        ensures none { IfNone result ((passed self.now).left < count) }
+    {
+        if count > self.end - self.start {
+            return None;
+        }
+        Some(&self.buffer[self.start..self.start + count])
+    }
+
+    /// Takes so many bytes, which are all buffered, without a look at them.
+    #[inline(always)]
+    pub(crate) fn pass(&mut self, count: usize)
+        requires { count ≤ (passed self.old).left }
+        ensures { Consumes (known_left R.remaining self.old) (known_left R.remaining self.new)
+            (take count (bytes_held self.old)) }
+    {
+        self.start += count;
     }
 
     /// Takes so many bytes, which `out` then holds alone.

@@ -17,6 +17,7 @@ mod source;
 mod stop_terms;
 mod term;
 mod token_counts;
+mod walking;
 
 pub use head::{RunDoc, RunHead};
 pub use ix_vbyte::VbError;

@@ -222,7 +222,7 @@ fn read_number<R: Read>(input: &mut Input<R>, limit: usize) -> Result<(u32, usiz
 /// The document behind a gap, and the number of its first token with how many tokens it has. None where there is no
 /// such document.
 #[inline]
-fn document_behind(tokens: &TokenTable, next: u32, gap: u32) -> Option<(u32, (u32, u32))>
+pub(crate) fn document_behind(tokens: &TokenTable, next: u32, gap: u32) -> Option<(u32, (u32, u32))>
     requires { 0 < gap }
     ensures { (rows : List DocumentRow) → HasTokens tokens.now rows
         → MatchOption result (length rows < 2 ^ 32 → length rows ≤ next + (gap - 1)) (λ found.

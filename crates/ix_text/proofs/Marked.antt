@@ -1,7 +1,8 @@
 -- Marks over numbers, 64 a word: none, one more, and what a mark tells.
-use Rattle.std.proofs.Common.{◌≡◌, ◌≢◌, ℕ, ◌+◌, ◌*◌, ◌/◌, ◌%◌, ◌^◌, ◌<◌, ◌≤◌, ◌↔◌, IsTrue, eqb, List, [], ◌∷◌, ◌++◌, length, get_or, set, replicate, Contains, bit_and, bit_or, min, sym, ap, ◌∙◌, subst, inl, inr, ⊎_elim, arith, w64}
+use Rattle.std.proofs.Common.{◌≡◌, ◌≢◌, ℕ, ◌+◌, ◌*◌, ◌/◌, ◌%◌, ◌^◌, ◌<◌, ◌≤◌, ◌↔◌, IsTrue, eqb, not, List, [], ◌∷◌, ◌++◌, length, get_or, set, replicate, Contains, bit_and, bit_or, min, sym, ap, ◌∙◌, subst, inl, inr, ⊎_elim, arith, w64}
 use Rattle.std.specs.Int.{bit_at, trailing_zeros}
 use Rattle.std.proofs.lemmas.Bool.{cases_eq, cases_lt, eq-eqb, eqb-true}
+use Rattle.std.proofs.lemmas.Bool.Decides.{nat_tests}
 use Rattle.std.proofs.lemmas.List.{get_or-replicate, get_or-set_same, get_or-set_other, get_or_past, length-replicate}
 use Rattle.std.proofs.lemmas.List.Elements.{Contains-append_left, Contains-push, Contains-push_cases}
 use Rattle.std.proofs.lemmas.Nat.{one_shl, pow_pos}
@@ -88,6 +89,28 @@ free_if_unmarked end words numbers number word long below read are =
           let zero_mark : mark_of words number ≡ 0 = omega arith in
           let none : bit_and word (bit_of number) ≡ 0 * 2 ^ place = tested ∙ ap (λ m. m * 2 ^ place) zero_mark in
           (λ free. λ has. unmarked (told.1 has), λ absent. eq-eqb (bit_and word (bit_of number)) 0 (omega arith))
+    ]
+
+some_set : (word : ℕ) → word ≢ 0 → IsTrue (not (eqb word 0))
+some_set word some = grind (arith, nat_tests)
+
+set_some : (word : ℕ) → IsTrue (not (eqb word 0)) → word ≢ 0
+set_some word is none = grind (arith, nat_tests)
+
+pub set_if_marked : (end : ℕ) (words : List ℕ) (numbers : List ℕ) (number word : ℕ) → end ≡ length words * 64 → number < end → word ≡ get_or words (number / 64) word → AreMarked words numbers
+    → IsTrue (not (eqb (bit_and word (bit_of number)) 0)) ↔ Contains numbers number
+set_if_marked end words numbers number word long below read are =
+    let free = free_if_unmarked end words numbers number word long below read are in
+    let told = are number in
+    let tested = mark_read words number word (omega arith) read in
+    elim (cases_eq (mark_of words number) 1) [
+      | inl marked ↦
+          let one : bit_and word (bit_of number) ≡ 1 * 2 ^ (number % 64) = tested ∙ ap (λ m. m * 2 ^ (number % 64)) marked in
+          let some : 0 < 2 ^ (number % 64) = pow_pos (number % 64) in
+          (λ _. told.0 marked, λ _. some_set (bit_and word (bit_of number)) (λ none. omega (arith, one, some, none)))
+      | inr unmarked ↦
+          let absent : ¬ (Contains numbers number) = λ has. unmarked (told.1 has) in
+          (λ set. absurd (set_some (bit_and word (bit_of number)) set (eqb-true (bit_and word (bit_of number)) 0 (free.1 absent))), λ has. absurd (absent has))
     ]
 
 -- ---- marks of two

@@ -41,6 +41,16 @@ impl TokenMarks {
         free
     }
 
+    /// Whether the number, one of those that the marks were made for, is marked.
+    #[inline]
+    pub fn is_marked(&self, number: u32) -> bool
+        requires { number < room self.now }
+        ensures { (numbers : List ℕ) → HoldsNumbers self.now numbers
+            → IsTrue result ↔ Contains numbers number }
+    {
+        self.words[number as usize / 64] & (1 << (number % 64)) != 0
+    }
+
     /// Whether some number is marked both here and there.
     pub fn meets(&self, other: &TokenMarks) -> bool
         ensures { (one others : List ℕ) → HoldsNumbers self.now one
