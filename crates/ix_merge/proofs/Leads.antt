@@ -4,10 +4,10 @@ use Rattle.std.proofs.Math.Nat.{min-le_right, pow-suc, pow-le-pow_right}
 use Rattle.std.proofs.lemmas.Bool.{cases_lt, cases_eq, lt-ltb}
 use Rattle.std.proofs.lemmas.Cmp.{tied_itself, nat_cmp_total}
 use Rattle.std.proofs.lemmas.Grind.{same_number_lists}
-use Rattle.std.proofs.lemmas.List.{get_or_past, get_or-drop, get_or-take}
+use Rattle.std.proofs.lemmas.List.{get_or_past, get_or-drop, get_or-take, length-take}
 use Rattle.std.proofs.lemmas.List.Elements.{All-from_get_or, All-get_or}
 use Rattle.std.specs.Cmp.Lexicographic.{slice_cmp}
-use Rattle.std.specs.Int.{from_be_bytes, w64}
+use Rattle.std.specs.Int.{from_be_bytes, w64, w128}
 use Rattle.std.specs.Ordering.{nat_cmp, ordering_then}
 use Rattle.ix_merge.specs.Ranks.{IsRank, lead, rank_of}
 
@@ -56,6 +56,18 @@ lead_halves first (suc count) text =
 pub lead_at_once : (bytes : List ℕ) → from_be_bytes w64 bytes ≡ lead 8 bytes
 unfolding lead
 lead_at_once bytes = omega arith
+
+-- that of 14 bytes of 16, as these are read at once
+pub lead_wide : (bytes : List ℕ) → Bytes bytes → from_be_bytes w128 bytes / 2 ^ 16 ≡ lead 14 bytes
+unfolding lead
+lead_wide bytes all = let b = all 14 in let d = all 15 in omega arith
+
+-- the bytes of a front are bytes
+pub bytes_taken : (count : ℕ) (text : List ℕ) → Bytes text → Bytes (take count text)
+bytes_taken count text bytes place = elim (cases_lt place count) [
+  | inl within ↦ rw (get_or-take count text place 0 within) (bytes place)
+  | inr past ↦ let few = length-take count text in rw (get_or_past (take count text) place 0 (omega arith)) (omega arith)
+]
 
 -- that of a text shows no more than so many bytes
 pub lead_of_front : (count front : ℕ) (text : List ℕ) → count ≤ front → lead count (take front text) ≡ lead count text

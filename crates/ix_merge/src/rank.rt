@@ -7,7 +7,12 @@ use ix_run::Source;
 /// How many bytes of a term a rank shows.
 const SHOWN: usize = 14;
 
-// those of them that are read at once, and what a number of these counts in a lead
+// how many bytes of a longer term are read at once, and what a lead counts in the number that they are
+const WIDE: usize = 16;
+
+const TAIL_WORTH: u128 = 1 << 16;
+
+// how many of a shorter one, and what a number of these counts in a lead
 const FRONT: usize = 8;
 
 const FRONT_WORTH: u128 = 1 << 48;
@@ -48,9 +53,20 @@ fn term_rank(term: &str) -> u128
     lead_of(term.as_bytes()) * LEAD_WORTH + length
 }
 
-/// The first 14 bytes of a text as a number, in two parts: many terms have but one.
+/// The first 14 bytes of a text as a number.
 #[inline]
 fn lead_of(text: &[u8]) -> u128
+    ensures { result ≡ lead 14 text.now }
+{
+    match text.first_chunk::<WIDE>() {
+        Some(bytes) => u128::from_be_bytes(*bytes) / TAIL_WORTH,
+        None => short_lead(text),
+    }
+}
+
+/// The same in two parts: many terms have but one.
+#[inline]
+fn short_lead(text: &[u8]) -> u128
     ensures { result ≡ lead 14 text.now }
 {
     match text.first_chunk::<FRONT>() {
