@@ -1,12 +1,11 @@
 -- A tournament of sources, from turn to turn.
-use Rattle.std.proofs.Common.{◌≡◌, ◌≢◌, ◌⊎◌, inl, inr, ℕ, zero, suc, ◌+◌, ◌-◌, ◌<◌, ◌≤◌, List, [], ◌∷◌, length, get_or, set, All, Option, Some, None, IsSome, MatchOption, refl, sym, ap, subst, ◌∙◌, ⊎_elim, option_map, arith, length-set}
+use Rattle.std.proofs.Common.{◌≡◌, ◌≢◌, ◌⊎◌, inl, inr, ℕ, zero, suc, ◌+◌, ◌-◌, ◌<◌, ◌≤◌, List, [], ◌∷◌, length, get_or, set, All, Option, Some, None, refl, sym, ap, subst, ◌∙◌, ⊎_elim, arith, length-set}
 use Rattle.std.proofs.lemmas.Bool.{cases_eq}
 use Rattle.std.proofs.lemmas.List.{get_or_default, get_or_past, get_or-set_same, get_or-set_other}
 use Rattle.std.specs.List.{Contains}
-use Rattle.ix_text.specs.TokenNumbers.{AreDistinct}
 use Rattle.ix_run.specs.Heads.{Heading}
-use Rattle.ix_merge.specs.Brackets.{AreStale, IsPlayed, above, rank_at}
-use Rattle.ix_merge.specs.Keys.{Key, ComesFirst, IsUpTo, end_of, key_of}
+use Rattle.ix_merge.specs.Brackets.{IsPlayed, above, rank_at}
+use Rattle.ix_merge.specs.Keys.{Key, ComesFirst, end_of, key_of}
 use Rattle.ix_merge.specs.Ranks.{StandsFor}
 use Rattle.ix_merge.specs.Tournaments.{AreFirst, AreLeaves, AreNext, HoldsFirst, IsAbove, IsNext, ends_of, key_at, keys_of, term_at, term_in}
 use Rattle.ix_merge.proofs.StaleNodes.{played_stale, stale_leaf}

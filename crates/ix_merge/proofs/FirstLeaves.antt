@@ -1,5 +1,5 @@
 -- The leaves of the least rank are those of the sources that come first.
-use Rattle.std.proofs.Common.{◌≡◌, ◌≢◌, ◌⊎◌, inl, inr, ℕ, zero, suc, ◌+◌, ◌-◌, ◌%◌, ◌^◌, ◌<◌, ◌≤◌, List, [], ◌∷◌, ◌++◌, length, get_or, take, drop, All, Option, Some, None, IsSome, MatchOption, refl, sym, ap, subst, ◌∙◌, ⊎_elim, option_map, arith, length-append}
+use Rattle.std.proofs.Common.{◌≡◌, ◌≢◌, ◌⊎◌, inl, inr, ℕ, ◌+◌, ◌-◌, ◌%◌, ◌^◌, ◌<◌, ◌≤◌, List, ◌++◌, length, get_or, take, drop, Option, Some, None, IsSome, refl, sym, ap, subst, ◌∙◌, arith}
 use Rattle.std.proofs.lemmas.Bool.{cases_eq, cases_lt}
 use Rattle.std.proofs.lemmas.List.{get_or_default, get_or-drop, get_or-take, length-drop, length-take, length-take-le, drop-take, take-append-le, take-take}
 use Rattle.std.proofs.Math.Seq.{drop-append_seam, take-length}
@@ -8,7 +8,7 @@ use Rattle.std.specs.List.Sorted.{IsStrictlyIncreasing}
 use Rattle.ix_merge.specs.Brackets.{AreNodesOf, AreStale, IsPlayed, KeepsLeaves, above, rank_at}
 use Rattle.ix_merge.specs.Keys.{Key}
 use Rattle.ix_merge.specs.Ranks.{IsRank, StandsFor}
-use Rattle.ix_merge.specs.Tournaments.{AreAtHand, AreFirst, AreLeaves, AreNext, ArePicked, HaveTerm, HaveNoTerm, IsAbove, key_at, term_at, term_in}
+use Rattle.ix_merge.specs.Tournaments.{AreAtHand, AreLeaves, AreNext, ArePicked, HaveTerm, HaveNoTerm, IsAbove, key_at, term_at, term_in}
 use Rattle.ix_merge.proofs.StaleNodes.{root_least}
 use Rattle.ix_merge.proofs.Leads.{below_by_rank, same_by_rank, rank_below}
 

@@ -1,5 +1,5 @@
 -- The order of leads is that of their texts, and a lead with a length is a text.
-use Rattle.std.proofs.Common.{nat_eq, ◌≡◌, ◌≢◌, ◌↔◌, ◌⊎◌, IsTrue, ℕ, zero, suc, ◌+◌, ◌*◌, ◌/◌, ◌%◌, ◌^◌, min, ◌<◌, ◌≤◌, List, [], ◌∷◌, length, drop, take, get_or, add-one, add-suc, All, Option, Some, None, cond, leb, Bool, true, false, Ordering, Less, Equal, inl, inr, refl, sym, ap, subst, ◌∙◌, arith}
+use Rattle.std.proofs.Common.{◌≡◌, ◌≢◌, ◌⊎◌, ℕ, zero, suc, ◌+◌, ◌*◌, ◌/◌, ◌%◌, ◌^◌, min, ◌<◌, ◌≤◌, List, [], ◌∷◌, length, drop, take, get_or, add-one, add-suc, All, Ordering, Less, Equal, inl, inr, refl, sym, ap, subst, ◌∙◌, arith}
 use Rattle.std.proofs.Math.Nat.{min-le_right, pow-suc, pow-le-pow_right}
 use Rattle.std.proofs.lemmas.Bool.{cases_lt, cases_eq, lt-ltb}
 use Rattle.std.proofs.lemmas.Cmp.{tied_itself, nat_cmp_total}

@@ -1,4 +1,4 @@
-use Rattle.std.proofs.Common.{◌≡◌, ◌+◌, ◌*◌, ◌/◌, ◌<◌, List, ℕ, get_or, ap, sym, subst, ◌∙◌, arith}
+use Rattle.std.proofs.Common.{◌≡◌, ◌<◌, List, ℕ, get_or, ap, sym, subst, ◌∙◌, arith}
 use Rattle.ix_merge.specs.Ranks.{lead}
 use Rattle.ix_merge.proofs.Leads.{bytes_taken, lead_of_front, lead_wide}
 use Rattle.ix_merge.proofs.rank.lead_of.Goals as goal

@@ -1,5 +1,5 @@
 -- From turn to turn: the sources gave what was told, and the tournament holds the least of what they have at hand.
-use Rattle.std.proofs.Common.{◌≡◌, ◌+◌, ◌*◌, ◌-◌, ◌^◌, ◌<◌, ◌++◌, ℕ, List, [], Option, Some, length, length-set, map, take, drop, get_or, set, string_bytes, refl, sym, ap, subst, ◌∙◌, arith}
+use Rattle.std.proofs.Common.{◌≡◌, ◌+◌, ◌*◌, ◌-◌, ◌^◌, ◌<◌, ◌++◌, ℕ, List, [], Option, Some, length, length-set, take, drop, get_or, set, string_bytes, refl, sym, ap, subst, ◌∙◌, arith}
 use Rattle.std.proofs.Math.Seq.{map-set_same}
 use Rattle.std.proofs.lemmas.List.{get_or_default, length-map, map-set}
 use Rattle.std.specs.List.Sorted.{IsNonDecreasing}

@@ -1,6 +1,6 @@
-use Rattle.std.proofs.Common.{◌≡◌, ◌≢◌, ◌+◌, ◌-◌, ◌<◌, ◌≤◌, ℕ, List, [], ◌∷◌, length, get_or, set, take, refl, sym, ap, subst, ◌∙◌, Ordering, Less, Equal, Greater, arith, length-set}
+use Rattle.std.proofs.Common.{◌≡◌, ◌-◌, ℕ, List, [], ◌∷◌, get_or, take, refl, sym, subst, ◌∙◌, arith, length-set}
 use Rattle.std.proofs.lemmas.List.{get_or-set_other, take_more}
-use Rattle.ix_merge.specs.Tournaments.{AreKept, Compares, keys_of}
+use Rattle.ix_merge.specs.Tournaments.{AreKept, keys_of}
 use Rattle.ix_merge.proofs.Keeping.{first_hand, kept_one, next_hand, step_higher, step_lower, step_same, term_of_key}
 use Rattle.ix_merge.proofs.tournament.keep_least.Goals.{in-Less, in-Equal, in-Greater}
 use Rattle.ix_merge.proofs.tournament.keep_least.Goals as goal

@@ -1,8 +1,8 @@
-use Rattle.std.proofs.Common.{◌≡◌, ◌≢◌, ◌-◌, ◌<◌, ◌≤◌, ◌⊎◌, ⊎_elim, ◌++◌, ◌^◌, ℕ, List, [], ◌∷◌, length, get_or, take, drop, All, refl, sym, ap, subst, ◌∙◌, arith, true, false, IsTrue}
+use Rattle.std.proofs.Common.{◌≡◌, ◌-◌, ◌<◌, ◌≤◌, ⊎_elim, ◌++◌, ℕ, length, take, drop, All, sym, ap, subst, ◌∙◌, arith}
 use Rattle.std.proofs.Math.Seq.{take-length}
 use Rattle.std.proofs.lemmas.List.{length-map, length-take-le, take-append-le}
 use Rattle.ix_merge.specs.Keys.{end_of, key_of}
-use Rattle.ix_merge.specs.Tournaments.{AreKept, ArePicked, HaveTerm, ends_of, keys_of}
+use Rattle.ix_merge.specs.Tournaments.{AreKept, ArePicked, ends_of, keys_of}
 use Rattle.ix_merge.proofs.Keeping.{kept_all, picked_in_order, picked_sorted}
 use Rattle.ix_merge.proofs.tournament.pick.Goals.{then-cut_off, else-cut_off}
 use Rattle.ix_merge.proofs.tournament.pick.Goals as goal

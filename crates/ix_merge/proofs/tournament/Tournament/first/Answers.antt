@@ -1,8 +1,7 @@
-use Rattle.std.proofs.Common.{◌≡◌, ◌≢◌, ◌+◌, ◌-◌, ◌<◌, ◌≤◌, ℕ, zero, suc, List, [], ◌∷◌, All, length, get_or, take, drop, drop-cons, add-one, refl, sym, ap, subst, ◌∙◌, arith}
+use Rattle.std.proofs.Common.{◌≡◌, ◌≢◌, ◌+◌, ◌-◌, ◌<◌, ◌≤◌, ℕ, List, ◌∷◌, length, get_or, take, drop, drop-cons, add-one, sym, ap, subst, ◌∙◌, arith}
 use Rattle.std.proofs.lemmas.List.{get_or_default, get_or-take, length-map, length-take-le}
 use Rattle.ix_merge.specs.Keys.{key_of}
-use Rattle.ix_merge.specs.Tournaments.{AreNext, HaveNoTerm, IsAtTurn, IsContest, IsNext, ends_of, keys_of, pending, stale}
-use Rattle.ix_merge.specs.declared.tournament.Tournament.{Tournament}
+use Rattle.ix_merge.specs.Tournaments.{AreNext, IsContest, ends_of, keys_of, stale}
 use Rattle.ix_merge.proofs.Contests.{turn_next}
 use Rattle.ix_merge.proofs.tournament.Tournament.first.Goals.{then-self, else-self}
 use Rattle.ix_merge.proofs.tournament.Tournament.first.Goals as goal

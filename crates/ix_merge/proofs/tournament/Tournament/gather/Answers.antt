@@ -1,10 +1,7 @@
-use Rattle.std.proofs.Common.{◌≡◌, ◌≢◌, ◌+◌, ◌-◌, ◌<◌, ◌≤◌, ◌⊎◌, ◌++◌, ◌^◌, ◌%◌, inl, inr, ℕ, List, [], All, length, get_or, take, drop, refl, sym, ap, subst, ◌∙◌, arith, length-append}
-use Rattle.std.proofs.lemmas.Bool.{cases_eq}
-use Rattle.std.proofs.lemmas.List.{get_or_default, length-drop, length-take-le, take-take}
-use Rattle.std.specs.List.{Contains}
-use Rattle.std.specs.List.Sorted.{IsStrictlyIncreasing}
-use Rattle.ix_merge.specs.Brackets.{AreNodesOf, AreStale, IsPlayed, KeepsLeaves, above, rank_at}
-use Rattle.ix_merge.specs.Tournaments.{AreAtHand, AreLeaves, AreNext, ArePicked, HaveNoTerm, HaveTerm, IsContest, ends_of, keys_of, stale}
+use Rattle.std.proofs.Common.{◌≡◌, ◌++◌, ℕ, List, [], length, get_or, take, drop, sym, ap, subst, ◌∙◌, arith}
+use Rattle.std.proofs.lemmas.List.{get_or_default}
+use Rattle.ix_merge.specs.Brackets.{AreStale, IsPlayed, KeepsLeaves, rank_at}
+use Rattle.ix_merge.specs.Tournaments.{AreLeaves, AreNext, ends_of, keys_of}
 use Rattle.ix_merge.proofs.FirstLeaves.{kept_leaves, none_left, put_back}
 use Rattle.ix_merge.proofs.Contests.{next_none}
 use Rattle.ix_merge.proofs.tournament.Tournament.gather.Goals as goal

@@ -1,7 +1,6 @@
-use Rattle.std.proofs.Common.{◌≡◌, ◌+◌, ◌-◌, ◌^◌, ◌<◌, ℕ, List, Option, length, sym, subst, set, ap, ◌∙◌, arith, length-set}
+use Rattle.std.proofs.Common.{◌≡◌, ◌+◌, ◌-◌, length, sym, subst, set, ◌∙◌, arith, length-set}
 use Rattle.std.proofs.lemmas.List.{get_or_default}
-use Rattle.ix_merge.specs.Keys.{Key}
-use Rattle.ix_merge.specs.Tournaments.{AreNext, IsContest, pending, stale}
+use Rattle.ix_merge.specs.Tournaments.{AreNext, pending, stale}
 use Rattle.ix_merge.proofs.Contests.{went_on}
 use Rattle.ix_merge.proofs.tournament.Tournament.go_on.Goals as goal
 
