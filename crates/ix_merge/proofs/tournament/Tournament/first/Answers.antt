@@ -21,7 +21,7 @@ overflow_sub-result g c =
     let ends = ends_of g.S.Source.heading c.args.sources.now in
     let t = c.if-self.self in
     let contest : IsContest keys ends t = elim c.if-self.branch [
-      | then-self w ↦ subst (IsContest keys ends) (sym w.self-is) w.gather.ensures.contest
+      | then-self w ↦ subst (IsContest keys ends) (sym w.self-is) w.begin_round.ensures.contest
       | else-self w ↦ subst (IsContest keys ends) (sym w.self-is) c.requires
     ] in
     let leaf = c.index-leaf.result.now in
@@ -35,7 +35,7 @@ returns-clause-first g c =
     let ends = ends_of g.S.Source.heading c.args.sources.now in
     let t = c.if-self.self in
     let contest : IsContest keys ends t = elim c.if-self.branch [
-      | then-self w ↦ subst (IsContest keys ends) (sym w.self-is) w.gather.ensures.contest
+      | then-self w ↦ subst (IsContest keys ends) (sym w.self-is) w.begin_round.ensures.contest
       | else-self w ↦ subst (IsContest keys ends) (sym w.self-is) c.requires
     ] in
     let leaf = c.index-leaf.result.now in
@@ -64,7 +64,7 @@ returns-clause-within g c =
     let ends = ends_of g.S.Source.heading c.args.sources.now in
     let t = c.if-self.self in
     let contest : IsContest keys ends t = elim c.if-self.branch [
-      | then-self w ↦ subst (IsContest keys ends) (sym w.self-is) w.gather.ensures.contest
+      | then-self w ↦ subst (IsContest keys ends) (sym w.self-is) w.begin_round.ensures.contest
       | else-self w ↦ subst (IsContest keys ends) (sym w.self-is) c.requires
     ] in
     let leaf = c.index-leaf.result.now in

@@ -4,7 +4,7 @@ use Rattle.ix_merge.specs.Brackets.{AreStale, IsPlayed, KeepsLeaves, rank_at}
 use Rattle.ix_merge.specs.Tournaments.{AreLeaves, AreNext, ends_of, keys_of}
 use Rattle.ix_merge.proofs.FirstLeaves.{kept_leaves, none_left, put_back}
 use Rattle.ix_merge.proofs.Contests.{next_none}
-use Rattle.ix_merge.proofs.tournament.Tournament.gather.Goals as goal
+use Rattle.ix_merge.proofs.tournament.Tournament.begin_round.Goals as goal
 
 pub returns-then-least-eq-LAST-clause-contest : goal.returns-then-least-eq-LAST-clause-contest
 returns-then-least-eq-LAST-clause-contest g c =
