@@ -5,7 +5,7 @@ use Rattle.std.proofs.lemmas.List.{get_or_default, get_or-drop, get_or-take, len
 use Rattle.std.proofs.Math.Seq.{drop-append_seam, take-length}
 use Rattle.std.specs.List.{Contains}
 use Rattle.std.specs.List.Sorted.{IsStrictlyIncreasing}
-use Rattle.ix_merge.specs.Brackets.{AreNodesOf, AreStale, IsPlayed, KeepsLeaves, above, rank_at}
+use Rattle.ix_merge.specs.Brackets.{AreGathered, AreNodesOf, AreStale, IsPlayed, KeepsLeaves, above, rank_at}
 use Rattle.ix_merge.specs.Keys.{Key}
 use Rattle.ix_merge.specs.Ranks.{IsRank, StandsFor}
 use Rattle.ix_merge.specs.Tournaments.{AreAtHand, AreLeaves, AreNext, ArePicked, HaveTerm, HaveNoTerm, IsAbove, key_at, term_at, term_in}
@@ -17,14 +17,14 @@ pub put_back : (count : ℕ) (xs ys : List ℕ) → length xs ≡ count → take
 put_back count xs ys sized = take-append-le count xs ys (omega arith) ∙ ap (λ n. take n xs) (sym sized) ∙ take-length xs
 
 -- a part of what was gathered
-pub part_of : (from to : ℕ) (xs : List ℕ) → from ≤ to → take (to - from) (drop from xs) ≡ drop from (take to xs)
+part_of : (from to : ℕ) (xs : List ℕ) → from ≤ to → take (to - from) (drop from xs) ≡ drop from (take to xs)
 part_of from to xs up = let e : from + (to - from) ≡ to = omega arith in sym (drop-take from (to - from) xs) ∙ ap (λ n. drop from (take n xs)) e
 
 -- of a list whose middle part was changed, what stands before it and the first elements of it
-pub stale_part : (from : ℕ) (xs ys : List ℕ) → from ≤ length xs → take from (take from xs ++ ys) ≡ take from xs
+stale_part : (from : ℕ) (xs ys : List ℕ) → from ≤ length xs → take from (take from xs ++ ys) ≡ take from xs
 stale_part from xs ys within = put_back from (take from xs) ys (length-take-le from xs within)
 
-pub pending_part : (from count : ℕ) (xs part behind : List ℕ) → from ≤ length xs → count ≤ length part → drop from (take (from + count) (take from xs ++ (part ++ behind))) ≡ take count part
+pending_part : (from count : ℕ) (xs part behind : List ℕ) → from ≤ length xs → count ≤ length part → drop from (take (from + count) (take from xs ++ (part ++ behind))) ≡ take count part
 pending_part from count xs part behind within few =
     let l = length-take-le from xs within in
     let seam : drop (length (take from xs)) (take from xs ++ (part ++ behind)) ≡ part ++ behind = drop-append_seam (take from xs) (part ++ behind) in
@@ -39,7 +39,7 @@ kept_leaves keys old new inner kept leaves = record {
 }
 
 -- an element of the rest of a list is one of the list
-pub contained_behind : (from : ℕ) (xs : List ℕ) (x : ℕ) → Contains (drop from xs) x → Contains xs x
+contained_behind : (from : ℕ) (xs : List ℕ) (x : ℕ) → Contains (drop from xs) x → Contains xs x
 contained_behind from xs x (k, within, is) =
     let l = length-drop from xs in
     (from + k, omega arith, sym (get_or-drop from xs k x) ∙ is)
@@ -54,27 +54,27 @@ has_key None term is = absurd cc
 has_key (Some key) term is = refl
 
 -- The nodes of the least rank were gathered: first so many that stand over others, and then leaves.
-pub record AreGathered (keys : List (Option Key)) (ranks : List ℕ) (inner over : ℕ) (all : List ℕ) : Type 0 where
-  pub leaves : AreLeaves keys ranks inner
-  pub played : IsPlayed ranks inner
-  pub other : rank_at ranks 0 ≢ 2 ^ 120
-  pub nodes : AreNodesOf ranks (rank_at ranks 0) all
-  pub stales : AreStale ranks inner (take over all)
-  pub behind : (at : ℕ) → over ≤ at → at < length all → inner ≤ get_or all at 0
-  pub some : over < length all
+record AreFound (keys : List (Option Key)) (ranks : List ℕ) (inner over : ℕ) (all : List ℕ) : Type 0 where
+  leaves : AreLeaves keys ranks inner
+  played : IsPlayed ranks inner
+  other : rank_at ranks 0 ≢ 2 ^ 120
+  nodes : AreNodesOf ranks (rank_at ranks 0) all
+  stales : AreStale ranks inner (take over all)
+  behind : (at : ℕ) → over ≤ at → at < length all → inner ≤ get_or all at 0
+  some : over < length all
 
-pub are_gathered : (keys : List (Option Key)) (ranks : List ℕ) (inner : ℕ) (nodes : List ℕ) (over all : ℕ) → AreLeaves keys ranks inner → IsPlayed ranks inner → rank_at ranks 0 ≢ 2 ^ 120
-    → AreNodesOf ranks (rank_at ranks 0) (take all nodes) → AreStale ranks inner (take over nodes) → ((at : ℕ) → over ≤ at → at < all → inner ≤ get_or nodes at 0) → over < all → all ≤ length nodes
-    → AreGathered keys ranks inner over (take all nodes)
-are_gathered keys ranks inner nodes over all leaves played other of stales behind some within =
-    let sized : length (take all nodes) ≡ all = length-take-le all nodes within in
+are_found : (keys : List (Option Key)) (ranks : List ℕ) (inner : ℕ) (nodes : List ℕ) (over all : ℕ) → AreLeaves keys ranks inner → IsPlayed ranks inner → rank_at ranks 0 ≢ 2 ^ 120
+    → AreGathered ranks inner nodes over all → AreFound keys ranks inner over (take all nodes)
+are_found keys ranks inner nodes over all leaves played other gathered =
+    let some = gathered.some in
+    let sized : length (take all nodes) ≡ all = length-take-le all nodes gathered.within in
     record {
       leaves = leaves;
       played = played;
       other = other;
-      nodes = of;
-      stales = subst (AreStale ranks inner) (sym (take-take over all nodes (omega arith))) stales;
-      behind = λ at low inside. let e = get_or-take all nodes at 0 (omega arith) in let b = behind at low (omega arith) in omega arith;
+      nodes = gathered.least;
+      stales = subst (AreStale ranks inner) (sym (take-take over all nodes (omega arith))) gathered.stale;
+      behind = λ at low inside. let e = get_or-take all nodes at 0 (omega arith) in let b = gathered.leaves at low (omega arith) in omega arith;
       some = omega arith;
     }
 
@@ -93,7 +93,7 @@ module _ (keys : List (Option Key)) (ranks : List ℕ) (inner : ℕ) (leaves : A
           absurd (omega arith)
 
 -- of gathered nodes the leaves come first
-module _ (keys : List (Option Key)) (ranks : List ℕ) (inner over : ℕ) (all : List ℕ) (gathering : AreGathered keys ranks inner over all) where
+module _ (keys : List (Option Key)) (ranks : List ℕ) (inner over : ℕ) (all : List ℕ) (gathering : AreFound keys ranks inner over all) where
   abbrev found : List ℕ
   found = drop over all
 
@@ -115,7 +115,7 @@ module _ (keys : List (Option Key)) (ranks : List ℕ) (inner over : ℕ) (all :
   element : (k d : ℕ) → k < length found → Contains found (get_or found k d)
   element k d within = (k, within, get_or_default found k (get_or found k d) d within)
 
-  pub at_hand : AreAtHand keys inner found
+  at_hand : AreAtHand keys inner found
   at_hand k d within =
       let is = leaf_is (get_or found k d) (element k d within) in
       let known = rank_of_term (term_at keys (get_or found k d - inner)) (rank_at ranks 0) is.3 gathering.other in
@@ -123,7 +123,7 @@ module _ (keys : List (Option Key)) (ranks : List ℕ) (inner over : ℕ) (all :
       let high = is.1 in
       (is.0, (omega arith, has_key (key_at keys (get_or found k d - inner)) known.0 known.1))
 
-  pub found_rising : IsStrictlyIncreasing found
+  found_rising : IsStrictlyIncreasing found
   found_rising k within =
       let l = length-drop over all in
       let a = get_or-drop over all k 0 in
@@ -133,7 +133,7 @@ module _ (keys : List (Option Key)) (ranks : List ℕ) (inner over : ℕ) (all :
       rw (a, b, n) up
 
   -- of a rank that shows its term whole, all have one
-  pub alike : 0 < length found → (rank_at ranks 0 % 256 ≢ 15) → (term : List ℕ) × HaveTerm keys inner term found
+  alike : 0 < length found → (rank_at ranks 0 % 256 ≢ 15) → (term : List ℕ) × HaveTerm keys inner term found
   alike some whole =
       let first = leaf_is (get_or found 0 0) (element 0 0 some) in
       let known = rank_of_term (term_at keys (get_or found 0 0 - inner)) (rank_at ranks 0) first.3 gathering.other in (
@@ -197,8 +197,8 @@ module _ (keys : List (Option Key)) (ranks : List ℕ) (inner over : ℕ) (all :
               inr (rw is (below_by_rank are.term key.term (rank_at ranks 0) (rank_at ranks (inner + place)) ranked stands (omega arith)))
         ]
 
-    pub gathered : ((node : ℕ) → Contains all node → 0 < node → Contains (take over all) (above node)) → AreNext keys ends ranks inner (take over all) picked
-    gathered closed = record {
+    first_next : ((node : ℕ) → Contains all node → 0 < node → Contains (take over all) (above node)) → AreNext keys ends ranks inner (take over all) picked
+    first_next closed = record {
       leaves = gathering.leaves;
       stales = gathering.stales;
       first = λ some. (
@@ -213,3 +213,42 @@ module _ (keys : List (Option Key)) (ranks : List ℕ) (inner over : ℕ) (all :
       );
       closed = λ k d inside. closed (get_or picked k d) (contained_behind over all (get_or picked k d) (are.among k d inside));
     }
+
+-- the same of the nodes as they stand: what was gathered is the first of a longer list
+module _ (keys : List (Option Key)) (ranks : List ℕ) (inner : ℕ) (nodes : List ℕ) (over all : ℕ) (leaves : AreLeaves keys ranks inner) (played : IsPlayed ranks inner) (other : rank_at ranks 0 ≢ 2 ^ 120)
+    (gathered : AreGathered ranks inner nodes over all) where
+  are : AreFound keys ranks inner over (take all nodes)
+  are = are_found keys ranks inner nodes over all leaves played other gathered
+
+  part : take (all - over) (drop over nodes) ≡ drop over (take all nodes)
+  part = let some = gathered.some in part_of over all nodes (omega arith)
+
+  pub leaves_at_hand : AreAtHand keys inner (take (all - over) (drop over nodes))
+  leaves_at_hand = subst (AreAtHand keys inner) (sym part) (at_hand keys ranks inner over (take all nodes) are)
+
+  pub leaves_rising : IsStrictlyIncreasing (take (all - over) (drop over nodes))
+  leaves_rising = subst IsStrictlyIncreasing (sym part) (found_rising keys ranks inner over (take all nodes) are)
+
+  pub leaves_alike : (rank_at ranks 0 % 256 ≢ 15) → (term : List ℕ) × HaveTerm keys inner term (take (all - over) (drop over nodes))
+  leaves_alike shown =
+      let some = gathered.some in
+      let sized = length-take-le all nodes gathered.within in
+      let l = length-drop over (take all nodes) in
+      let one = alike keys ranks inner over (take all nodes) are (omega arith) shown in
+      (one.0, subst (HaveTerm keys inner one.0) (sym part) one.1)
+
+  -- what is picked of the leaves comes next, where it is put first among them
+  pub round_next : (ends : List ℕ) (count : ℕ) (new behind : List ℕ) → count ≤ length new → ArePicked keys ends inner (take (all - over) (drop over nodes)) (take count new)
+      → AreNext keys ends ranks inner (take over (take over nodes ++ (new ++ behind))) (drop over (take (over + count) (take over nodes ++ (new ++ behind))))
+  round_next ends count new behind few picked =
+      let some = gathered.some in
+      let within = gathered.within in
+      let twice : take over (take all nodes) ≡ take over nodes = take-take over all nodes (omega arith) in
+      let closed : (node : ℕ) → Contains (take all nodes) node → 0 < node → Contains (take over (take all nodes)) (above node) =
+      λ node there up. subst (λ (xs : List ℕ). Contains xs (above node)) (sym twice) (gathered.closed node there up) in
+      let next : AreNext keys ends ranks inner (take over (take all nodes)) (take count new) =
+      first_next keys ranks inner over (take all nodes) are ends (take count new) (subst (λ (xs : List ℕ). ArePicked keys ends inner xs (take count new)) part picked) closed in
+      let nodes' = take over nodes ++ (new ++ behind) in
+      let stales : take over (take all nodes) ≡ take over nodes' = twice ∙ sym (stale_part over nodes (new ++ behind) (omega arith)) in
+      let nexts : take count new ≡ drop over (take (over + count) nodes') = sym (pending_part over count nodes new behind (omega arith) few) in
+      subst (λ (xs : List ℕ). AreNext keys ends ranks inner xs (drop over (take (over + count) nodes'))) stales (subst (AreNext keys ends ranks inner (take over (take all nodes))) nexts next)

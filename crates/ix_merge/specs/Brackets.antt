@@ -1,5 +1,5 @@
 -- A tournament of numbers: the rank of each node that stands over others is the least of theirs.
-use Rattle.std.specs.Prelude.{◌≡◌, ℕ, ◌+◌, ◌-◌, ◌*◌, ◌/◌, ◌<◌, ◌≤◌, List, length, min, All, Contains, slice_index}
+use Rattle.std.specs.Prelude.{◌≡◌, ℕ, ◌+◌, ◌-◌, ◌*◌, ◌/◌, ◌<◌, ◌≤◌, List, length, min, take, All, Contains, slice_index}
 use Rattle.std.specs.List.Sorted.{IsStrictlyIncreasing}
 
 -- the rank of a node
@@ -37,3 +37,12 @@ pub record AreNodesOf (ranks : List ℕ) (rank : ℕ) (nodes : List ℕ) : Type 
   pub rising : IsStrictlyIncreasing nodes
   pub sound : All (λ node. (node < length ranks) × (rank_at ranks node ≡ rank)) nodes
   pub complete : (node : ℕ) → node < length ranks → rank_at ranks node ≡ rank → Contains nodes node
+
+-- The nodes of the least rank stand first: so many that stand over others, and then leaves, of which there is one at least.
+pub record AreGathered (ranks : List ℕ) (inner : ℕ) (nodes : List ℕ) (over all : ℕ) : Type 0 where
+  pub least : AreNodesOf ranks (rank_at ranks 0) (take all nodes)
+  pub stale : AreStale ranks inner (take over nodes)
+  pub leaves : (at : ℕ) → over ≤ at → at < all → inner ≤ slice_index nodes at
+  pub closed : (node : ℕ) → Contains (take all nodes) node → 0 < node → Contains (take over nodes) (above node)
+  pub some : over < all
+  pub within : all ≤ length nodes

@@ -3,8 +3,8 @@
 //! The tree is a list of numbers, the ranks of its nodes. The first `inner` nodes stand over four others each: node `i` over
 //! the nodes from `4 * i + 1` to `4 * i + 4`, and its rank is the least of theirs. The others are the leaves, and node 0 is
 //! the root.
-ghost use Rattle.std.specs.Prelude.{◌≡◌, ◌≤◌, ◌<◌, ◌*◌, ◌+◌, ℕ, All, Contains, length, take, nat_eq, if◌then◌else◌, slice_set, slice_index};
-ghost use Rattle.ix_merge.specs.Brackets.{AreNodesOf, AreStale, IsPlayed, KeepsLeaves, above, least_below, rank_at};
+ghost use Rattle.std.specs.Prelude.{◌≡◌, ◌≤◌, ◌<◌, ◌*◌, ◌+◌, ℕ, All, length, nat_eq, if◌then◌else◌, slice_set};
+ghost use Rattle.ix_merge.specs.Brackets.{AreGathered, AreStale, IsPlayed, KeepsLeaves, least_below, rank_at};
 
 /// How many nodes a node stands over.
 pub(crate) const WAYS: usize = 4;
@@ -56,14 +56,7 @@ fn play(ranks: &mut [u128], node: usize)
 pub(crate) fn gather(ranks: &[u128], inner: usize, nodes: &mut [usize]) -> Gathered
     requires played { IsPlayed ranks.now inner }
     requires room { length ranks.now + 4 ≤ length nodes.old }
-    ensures nodes { AreNodesOf ranks.now (rank_at ranks.now 0) (take result.all nodes.new) }
-    ensures stale { AreStale ranks.now inner (take result.inner nodes.new) }
-    ensures leaves { (at : ℕ) → result.inner ≤ at → at < result.all
-        → inner ≤ slice_index nodes.new at }
-    ensures closed { (node : ℕ) → Contains (take result.all nodes.new) node → 0 < node
-        → Contains (take result.inner nodes.new) (above node) }
-    ensures some { result.inner < result.all }
-    ensures within { result.all ≤ length nodes.new }
+    ensures { AreGathered ranks.now inner nodes.new result.inner result.all }
 {
     let least = ranks[0];
     nodes[0] = 0;

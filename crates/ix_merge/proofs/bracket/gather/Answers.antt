@@ -33,7 +33,7 @@ returns c =
     let (low, gathering) = c.loop-nodes.invariant in
     let played = c.requires.played in
     record {
-      nodes = gathered_nodes c.args.ranks.now c.args.inner c.loop-nodes.nodes c.loop-nodes.all c.loop-nodes.at low played gathering c.loop-nodes-test.false;
+      least = gathered_nodes c.args.ranks.now c.args.inner c.loop-nodes.nodes c.loop-nodes.all c.loop-nodes.at low played gathering c.loop-nodes-test.false;
       stale = gathered_stale c.args.ranks.now c.args.inner c.loop-nodes.nodes c.loop-nodes.all c.loop-nodes.at low played gathering c.loop-nodes-test.false;
       leaves = gathered_leaves c.args.ranks.now c.args.inner c.loop-nodes.nodes c.loop-nodes.all c.loop-nodes.at low played gathering c.loop-nodes-test.false;
       closed = gathered_closed c.args.ranks.now c.args.inner c.loop-nodes.nodes c.loop-nodes.all c.loop-nodes.at low played gathering c.loop-nodes-test.false;
