@@ -13,15 +13,17 @@ fn ending(number: u32) -> &'static str {
 }
 
 /// A thousand documents of a few words each: one word that all have, one that each has alone, some that only some have,
-/// and words that are fronts of one another.
+/// words that are fronts of one another, and long words that begin alike.
 fn documents(alloc: Global) -> Result<String, Fail> {
     let mut text = String::new(alloc);
     for number in 0u32..1000 {
         let some = number % 7;
         let few = number % 3;
         let last = ending(number);
-        let line = format!(in alloc; "n{number}\tall w{number} s{some} the all aa{few} {last}\n")?;
+        let line = format!(in alloc; "n{number}\tall w{number} s{some} the all aa{few} {last}")?;
         text.push_str(&line)?;
+        let long = format!(in alloc; " beginningalike{some} beginningalikes{few}\n")?;
+        text.push_str(&long)?;
     }
     Ok(text)
 }
