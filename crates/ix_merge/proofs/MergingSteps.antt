@@ -31,7 +31,7 @@ use Rattle.ix_merge.specs.Starting.{HasStarted, HaveStarted}
 use Rattle.ix_merge.specs.Turns.{GivesEntry, HasToldSome, HasTurned, MayTurn, told_then}
 use Rattle.ix_merge.proofs.Behind.{AreBehind, behind_more, may_turn, next_above}
 use Rattle.ix_merge.proofs.MergedMore.{AreMerged}
-use Rattle.ix_merge.specs.Tournaments.{HoldsFirst}
+use Rattle.ix_merge.proofs.Playing.{HoldsFirst}
 use Rattle.ix_merge.proofs.Readings.{AreReading, Below, HasToldShares, IsReading, are_shares, ends_low, grown, merged_all, no_share, reading_more, reading_set, told_closable, told_longer, told_merge, told_more}
 use Rattle.ix_merge.proofs.ShiftedLists.{IsListUnder, list_under}
 

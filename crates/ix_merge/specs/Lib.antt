@@ -1,6 +1,6 @@
 pub mod AnySources
 pub mod Beginnings
-pub mod Brackets
+pub mod Contenders
 pub mod Covers
 pub mod Headings
 pub mod Keys
@@ -8,7 +8,6 @@ pub mod MergeErrors
 pub mod Merged
 pub mod Merging
 pub mod Pieces
-pub mod Ranks
 pub mod Refusals
 pub mod Rows
 pub mod Starting

@@ -3,14 +3,13 @@
 #![tactic(auto)]
 
 mod any_source;
-mod bracket;
 mod concatenation;
+mod contender;
 mod entry;
 mod index_head;
 mod index_source;
 mod merge_error;
 mod overview;
-mod rank;
 mod terms;
 mod tournament;
 mod turn;

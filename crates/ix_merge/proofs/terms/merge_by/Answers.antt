@@ -1,22 +1,17 @@
 -- From turn to turn: the sources gave what was told, and the tournament holds the least of what they have at hand.
-use Rattle.std.proofs.Common.{◌≡◌, ◌+◌, ◌*◌, ◌-◌, ◌^◌, ◌<◌, ◌++◌, ℕ, List, [], Option, Some, length, length-set, take, drop, get_or, set, string_bytes, refl, sym, ap, subst, ◌∙◌, arith}
+use Rattle.std.proofs.Common.{◌≡◌, ◌*◌, ◌-◌, ◌^◌, ◌<◌, List, length, length-set, map, get_or, string_bytes, refl, sym, ap, subst, ◌∙◌, arith}
 use Rattle.std.proofs.Math.Seq.{map-set_same}
-use Rattle.std.proofs.lemmas.List.{get_or_default, length-map, map-set}
-use Rattle.std.specs.List.Sorted.{IsNonDecreasing}
+use Rattle.std.proofs.lemmas.List.{get_or_default, length-map}
 use Rattle.ix_run.specs.Heads.{Heading}
-use Rattle.ix_run.specs.Sources.{entry_with}
-use Rattle.ix_merge.specs.Brackets.{KeepsLeaves}
-use Rattle.ix_merge.specs.Keys.{Key, end_of, key_of}
+use Rattle.ix_merge.specs.Contenders.{holder}
+use Rattle.ix_merge.specs.Keys.{end_of, key_of}
 use Rattle.ix_merge.specs.Merging.{AreApart}
-use Rattle.ix_merge.specs.Ranks.{StandsFor}
-use Rattle.ix_merge.specs.Tournaments.{AreLeaves, AreNext, HoldsFirst, IsAbove, IsContest, ends_of, keys_of, pending, term_at, term_in}
 use Rattle.std.proofs.lemmas.Result.{err_from_is_err_and}
-use Rattle.ix_merge.proofs.Behind.{next_above}
-use Rattle.ix_merge.proofs.Contests.{are_ends, holds_first, next_none}
-use Rattle.ix_merge.proofs.FirstLeaves.{kept_leaves, put_back}
 use Rattle.ix_merge.proofs.Faulting.{keep_more, refusal_at}
 use Rattle.ix_merge.proofs.MergingSteps.{behind_then, longer, may_take, merged_nothing, merged_some_then, merging_first, merging_more, share_here, tells_all}
-use Rattle.ix_merge.proofs.Rounds.{above_if, behind_first, ends_alike, none_left, term_of, term_there}
+use Rattle.ix_merge.proofs.Playing.{HoldsFirst, holds_first}
+use Rattle.ix_merge.proofs.Rounds.{behind_first, leaf_changed, none_left}
+use Rattle.ix_merge.proofs.ContenderSteps.{end_stays}
 use Rattle.ix_merge.proofs.Starts.{started_headed}
 use Rattle.ix_merge.proofs.Turning.{on_err_if}
 use Rattle.ix_merge.proofs.terms.merge_by.Goals as goal
@@ -34,42 +29,7 @@ loop-place-init g c =
       headed = started_headed g.S.Source.heading g.S.Source.current g.S.Source.yields g.S.Source.gives c.args.sources.now c.begin_all.new.sources started;
       no_more_faults = c.in_ok-begin_all.ensures.no_more_faults;
       same_writer = refl;
-      contest =
-          let t = c.args.tournament.now in
-          let new = c.requires.new in
-          let sources = c.begin_all.new.sources in
-          let keys = keys_of g.S.Source.heading g.S.Source.current sources in
-          let ends = ends_of g.S.Source.heading sources in
-          let ranks = c.begin_all.new.ranks in
-          let played = c.play_all.new.ranks in
-          let many : length ranks ≡ t.ranks.len = c.begin_all.auto.ranks ∙ c.deref_mut.ensures.len in
-          let back : take t.ranks.len (ranks ++ drop (length ranks) t.ranks.items) ≡ ranks = put_back t.ranks.len ranks (drop (length ranks) t.ranks.items) many in
-          let there : c.deref_mut-2.result.now ≡ ranks = c.deref_mut-2.ensures.value ∙ back in
-          let kept : KeepsLeaves t.inner ranks played = subst (λ (xs : List ℕ). KeepsLeaves t.inner xs played) there c.play_all.ensures.leaves in
-          let leaves : AreLeaves keys played t.inner = kept_leaves keys ranks played t.inner kept c.in_ok-begin_all.ensures.leaves in
-          let again : take t.ranks.len (played ++ drop (length played) (take t.ranks.len (ranks ++ drop (length ranks) t.ranks.items))) ≡ played =
-          put_back t.ranks.len played (drop (length played) (take t.ranks.len (ranks ++ drop (length ranks) t.ranks.items))) (kept.sized ∙ many) in
-          let same : ends ≡ ends_of g.S.Source.heading c.args.sources.now =
-          ends_alike g.S.Source.heading g.S.Source.current c.args.sources.now sources (started_headed g.S.Source.heading g.S.Source.current g.S.Source.yields g.S.Source.gives c.args.sources.now sources started) in
-          let none : take t.over t.nodes.items ≡ [] = ap (λ n. take n t.nodes.items) new.over in
-          let nothing : drop t.next (take t.end t.nodes.items) ≡ [] = ap (λ n. drop n (take t.end t.nodes.items)) new.next ∙ ap (λ n. take n t.nodes.items) new.end in
-          let a = ap (λ (xs : List ℕ). length xs) again in
-          let b = kept.sized in
-          let d = c.deref_mut.ensures.len in
-          let e = ap (λ (xs : List ℕ). length xs) c.deref_mut.ensures.value in
-          let room = new.room in
-          let over = new.over in
-          let next = new.next in
-          let end = new.end in
-          record {
-            are = subst (λ (xs : List ℕ). AreNext keys ends xs t.inner (take t.over t.nodes.items) (drop t.next (take t.end t.nodes.items))) (sym again)
-                (rw (none, nothing) (next_none keys ends played t.inner leaves c.play_all.ensures.played));
-            room = omega arith;
-            next = omega arith;
-            end = omega arith;
-            over = omega arith;
-            in_order = λ holds. subst IsNonDecreasing (sym same) (new.in_order holds);
-          };
+      contest = c.play_all.ensures;
       behind = behind_first g.S.Source.heading g.S.Source.current g.S.Source.yields g.S.Source.gives g.met.S.Source.given_lawfully c.args.sources.now c.begin_all.new.sources (string_bytes c.args.entry.now.term) c.args.entry.now.next started c.requires.none;
       merging = λ before told was none.
           merging_first g.S.Source.heading g.S.Source.current g.S.Source.yields g.S.Source.gives g.W.Write.contents g.met.S.Source.given_lawfully c.args.sources.now c.begin_all.new.sources before told c.args.writer.now
@@ -81,10 +41,8 @@ take_turn-requires-clause-may g c =
     let i = c.loop-place.invariant in
     let r = c.requires.told in
     let merging = i.merging r.before r.told r.was r.no_term in
-    let at = c.in-Some.ensures.first in
-    let first : HoldsFirst (keys_of g.S.Source.heading g.S.Source.current c.loop-place.sources) c.in-Some.place =
-    holds_first (keys_of g.S.Source.heading g.S.Source.current c.loop-place.sources) (ends_of g.S.Source.heading c.loop-place.sources) c.first.new.self.inner at.is.term c.in-Some.place (pending c.first.new.self)
-    (are_ends g.S.Source.heading g.S.Source.current c.loop-place.sources) at.is.first in
+    let first : HoldsFirst (map (key_of g.S.Source.heading g.S.Source.current) c.loop-place.sources) c.in-Some.place =
+    holds_first (map (key_of g.S.Source.heading g.S.Source.current) c.loop-place.sources) (map holder c.loop-place.tree) c.in-Some.place i.contest.played (sym c.first_of.ensures ∙ c.in-Some.is) in
     let within : c.in-Some.place < length c.loop-place.sources = omega (arith, first.within, length-map c.loop-place.sources (key_of g.S.Source.heading g.S.Source.current)) in
     let source = get_or c.loop-place.sources c.in-Some.place c.index-sources-place.result in
     let here : get_or c.loop-place.sources c.in-Some.place source ≡ source = get_or_default c.loop-place.sources c.in-Some.place source c.index-sources-place.result within in
@@ -103,10 +61,8 @@ pub returns-in_err-more-clause-some : goal.returns-in_err-more-clause-some
 returns-in_err-more-clause-some g c before told was none =
     let i = c.loop-place.invariant in
     let merging = i.merging before told was none in
-    let at = c.in-Some.ensures.first in
-    let first : HoldsFirst (keys_of g.S.Source.heading g.S.Source.current c.loop-place.sources) c.in-Some.place =
-    holds_first (keys_of g.S.Source.heading g.S.Source.current c.loop-place.sources) (ends_of g.S.Source.heading c.loop-place.sources) c.first.new.self.inner at.is.term c.in-Some.place (pending c.first.new.self)
-    (are_ends g.S.Source.heading g.S.Source.current c.loop-place.sources) at.is.first in
+    let first : HoldsFirst (map (key_of g.S.Source.heading g.S.Source.current) c.loop-place.sources) c.in-Some.place =
+    holds_first (map (key_of g.S.Source.heading g.S.Source.current) c.loop-place.sources) (map holder c.loop-place.tree) c.in-Some.place i.contest.played (sym c.first_of.ensures ∙ c.in-Some.is) in
     let within : c.in-Some.place < length c.loop-place.sources = omega (arith, first.within, length-map c.loop-place.sources (key_of g.S.Source.heading g.S.Source.current)) in
     let source = get_or c.loop-place.sources c.in-Some.place c.index-sources-place.result in
     let here : get_or c.loop-place.sources c.in-Some.place source ≡ source = get_or_default c.loop-place.sources c.in-Some.place source c.index-sources-place.result within in
@@ -120,10 +76,8 @@ returns-in_err-more-clause-some g c before told was none =
 pub returns-in_err-more-clause-refused : goal.returns-in_err-more-clause-refused
 returns-in_err-more-clause-refused g c =
     let i = c.loop-place.invariant in
-    let at = c.in-Some.ensures.first in
-    let first : HoldsFirst (keys_of g.S.Source.heading g.S.Source.current c.loop-place.sources) c.in-Some.place =
-    holds_first (keys_of g.S.Source.heading g.S.Source.current c.loop-place.sources) (ends_of g.S.Source.heading c.loop-place.sources) c.first.new.self.inner at.is.term c.in-Some.place (pending c.first.new.self)
-    (are_ends g.S.Source.heading g.S.Source.current c.loop-place.sources) at.is.first in
+    let first : HoldsFirst (map (key_of g.S.Source.heading g.S.Source.current) c.loop-place.sources) c.in-Some.place =
+    holds_first (map (key_of g.S.Source.heading g.S.Source.current) c.loop-place.sources) (map holder c.loop-place.tree) c.in-Some.place i.contest.played (sym c.first_of.ensures ∙ c.in-Some.is) in
     let within : c.in-Some.place < length c.loop-place.sources = omega (arith, first.within, length-map c.loop-place.sources (key_of g.S.Source.heading g.S.Source.current)) in
     let source = get_or c.loop-place.sources c.in-Some.place c.index-sources-place.result in
     let here : get_or c.loop-place.sources c.in-Some.place source ≡ source = get_or_default c.loop-place.sources c.in-Some.place source c.index-sources-place.result within in
@@ -131,25 +85,33 @@ returns-in_err-more-clause-refused g c =
     rw (p.1, p.2)
     (refusal_at g.S.Source.faults c.args.sources.now c.loop-place.sources c.in-Some.place source i.as_many i.no_more_faults within here c.in_err-more.field-0.0 c.in_err-more.ensures.refused)
 
-pub go_on-requires : goal.go_on-requires
-go_on-requires g c =
-    let at = c.in-Some.ensures.first in
-    let over = at.over in
-    let next = at.next in
-    let end = at.end in
-    let room = at.is.leaves.room in
-    let within = at.is.first.within 0 0 (omega arith) in
-    record { next = omega arith; room = omega arith; within = rw at.at (let w = within.1 in omega arith) }
+pub play_again-requires-clause-others : goal.play_again-requires-clause-others
+play_again-requires-clause-others g c =
+    let i = c.loop-place.invariant in
+    let first : HoldsFirst (map (key_of g.S.Source.heading g.S.Source.current) c.loop-place.sources) c.in-Some.place =
+    holds_first (map (key_of g.S.Source.heading g.S.Source.current) c.loop-place.sources) (map holder c.loop-place.tree) c.in-Some.place i.contest.played (sym c.first_of.ensures ∙ c.in-Some.is) in
+    let within : c.in-Some.place < length c.loop-place.sources = omega (arith, first.within, length-map c.loop-place.sources (key_of g.S.Source.heading g.S.Source.current)) in
+    leaf_changed g.S.Source.heading g.S.Source.current c.loop-place.sources c.loop-place.tree c.in-Some.place c.take_turn.new.source c.of.result within i.contest c.of.ensures
+
+pub of-requires-clause-end : goal.of-requires-clause-end
+of-requires-clause-end g c =
+    let i = c.loop-place.invariant in
+    let first : HoldsFirst (map (key_of g.S.Source.heading g.S.Source.current) c.loop-place.sources) c.in-Some.place =
+    holds_first (map (key_of g.S.Source.heading g.S.Source.current) c.loop-place.sources) (map holder c.loop-place.tree) c.in-Some.place i.contest.played (sym c.first_of.ensures ∙ c.in-Some.is) in
+    let within : c.in-Some.place < length c.loop-place.sources = omega (arith, first.within, length-map c.loop-place.sources (key_of g.S.Source.heading g.S.Source.current)) in
+    let source = get_or c.loop-place.sources c.in-Some.place c.index-sources-place.result in
+    let here : get_or c.loop-place.sources c.in-Some.place source ≡ source = get_or_default c.loop-place.sources c.in-Some.place source c.index-sources-place.result within in
+    c.end.ensures
+    ∙ end_stays g.S.Source.heading g.S.Source.current c.loop-place.sources c.loop-place.tree c.in-Some.place source _ i.contest within here first.there
+    ∙ sym (ap end_of c.take_turn.ensures.heading)
 
 pub loop-place-smaller : goal.loop-place-smaller
 loop-place-smaller g c =
     let i = c.loop-place.invariant in
     let r = c.requires.told in
     let merging = i.merging r.before r.told r.was r.no_term in
-    let at = c.in-Some.ensures.first in
-    let first : HoldsFirst (keys_of g.S.Source.heading g.S.Source.current c.loop-place.sources) c.in-Some.place =
-    holds_first (keys_of g.S.Source.heading g.S.Source.current c.loop-place.sources) (ends_of g.S.Source.heading c.loop-place.sources) c.first.new.self.inner at.is.term c.in-Some.place (pending c.first.new.self)
-    (are_ends g.S.Source.heading g.S.Source.current c.loop-place.sources) at.is.first in
+    let first : HoldsFirst (map (key_of g.S.Source.heading g.S.Source.current) c.loop-place.sources) c.in-Some.place =
+    holds_first (map (key_of g.S.Source.heading g.S.Source.current) c.loop-place.sources) (map holder c.loop-place.tree) c.in-Some.place i.contest.played (sym c.first_of.ensures ∙ c.in-Some.is) in
     let within : c.in-Some.place < length c.loop-place.sources = omega (arith, first.within, length-map c.loop-place.sources (key_of g.S.Source.heading g.S.Source.current)) in
     let source = get_or c.loop-place.sources c.in-Some.place c.index-sources-place.result in
     let here : get_or c.loop-place.sources c.in-Some.place source ≡ source = get_or_default c.loop-place.sources c.in-Some.place source c.index-sources-place.result within in
@@ -166,10 +128,8 @@ loop-place-smaller g c =
 pub loop-place-preserved : goal.loop-place-preserved
 loop-place-preserved g c =
     let i = c.loop-place.invariant in
-    let at = c.in-Some.ensures.first in
-    let first : HoldsFirst (keys_of g.S.Source.heading g.S.Source.current c.loop-place.sources) c.in-Some.place =
-    holds_first (keys_of g.S.Source.heading g.S.Source.current c.loop-place.sources) (ends_of g.S.Source.heading c.loop-place.sources) c.first.new.self.inner at.is.term c.in-Some.place (pending c.first.new.self)
-    (are_ends g.S.Source.heading g.S.Source.current c.loop-place.sources) at.is.first in
+    let first : HoldsFirst (map (key_of g.S.Source.heading g.S.Source.current) c.loop-place.sources) c.in-Some.place =
+    holds_first (map (key_of g.S.Source.heading g.S.Source.current) c.loop-place.sources) (map holder c.loop-place.tree) c.in-Some.place i.contest.played (sym c.first_of.ensures ∙ c.in-Some.is) in
     let within : c.in-Some.place < length c.loop-place.sources = omega (arith, first.within, length-map c.loop-place.sources (key_of g.S.Source.heading g.S.Source.current)) in
     let source = get_or c.loop-place.sources c.in-Some.place c.index-sources-place.result in
     let here : get_or c.loop-place.sources c.in-Some.place source ≡ source = get_or_default c.loop-place.sources c.in-Some.place source c.index-sources-place.result within in
@@ -185,31 +145,7 @@ loop-place-preserved g c =
           keep_more g.S.Source.faults c.args.sources.now c.loop-place.sources c.in-Some.place source i.as_many i.no_more_faults within here
           c.take_turn.new.source c.in_ok-more.ensures.no_more_faults;
       same_writer = c.take_turn.ensures.same_writer ∙ i.same_writer;
-      contest =
-          let at = c.in-Some.ensures.first in
-          let S = g.row.S.Denot in
-          let now = c.loop-place.sources in
-          let new = c.take_turn.new.source in
-          let place = c.in-Some.place in
-          let keys = keys_of g.S.Source.heading g.S.Source.current now in
-          let ends = ends_of g.S.Source.heading now in
-          let key = key_of g.S.Source.heading g.S.Source.current new in
-          let end_here : S → ℕ = λ one. end_of (g.S.Source.heading one) in
-          let turned = c.in_ok-more.ensures.turned r.before merging.told _ merging.was may in
-          let back : (c.first.new.self.inner + place) - c.first.new.self.inner ≡ place = omega arith in
-          let of : Some turned.gave.term ≡ Some at.is.term =
-          sym turned.gave.is ∙ ap g.S.Source.current (sym here) ∙ sym (term_there g.S.Source.heading g.S.Source.current now place source within)
-          ∙ subst (λ n. term_at keys n ≡ Some at.is.term) back (at.is.first.has 0 0 (omega arith)) in
-          let term : turned.gave.term ≡ at.is.term = cc of in
-          let stands : StandsFor (term_in key) c.rank_of.result = subst (λ (t : Option (List ℕ)). StandsFor t c.rank_of.result) (sym (term_of g.S.Source.heading g.S.Source.current new)) c.rank_of.ensures in
-          let higher : IsAbove at.is.term key =
-          subst (λ (t : List ℕ). IsAbove t key) term
-          (above_if g.S.Source.heading g.S.Source.current new turned.gave.term
-          (next_above g.S.Source.heading g.S.Source.current g.S.Source.yields g.S.Source.gives g.met.S.Source.given_lawfully new _ (entry_with turned.gave.term turned.gave.postings) turned.goes.gives_more)) in
-          let keys_then : keys_of g.S.Source.heading g.S.Source.current (set now place new) ≡ set keys place key = map-set (key_of g.S.Source.heading g.S.Source.current) now place new in
-          let ends_then : ends_of g.S.Source.heading (set now place new) ≡ ends = map-set_same end_here now place new c.index-sources-place.result (ap end_of c.take_turn.ensures.heading) in
-          subst (λ (ks : List (Option Key)). IsContest ks (ends_of g.S.Source.heading (set now place new)) c.go_on.new.self) (sym keys_then)
-          (subst (λ (es : List ℕ). IsContest (set keys place key) es c.go_on.new.self) (sym ends_then) (c.go_on.ensures keys ends place key at stands higher));
+      contest = c.play_again.ensures;
       behind =
           behind_then g.S.Source.heading g.S.Source.current g.S.Source.yields g.S.Source.gives g.W.Write.contents g.met.S.Source.given_lawfully c.args.sources.now c.loop-place.sources r.before r.told c.loop-place.writer
           (string_bytes c.loop-place.entry.term) c.loop-place.entry.next merging i.behind c.requires.few c.in-Some.place source within here c.take_turn.new.source c.take_turn.new.writer (string_bytes c.take_turn.new.entry.term) c.take_turn.new.entry.next
@@ -229,19 +165,4 @@ returns-clause-merged g c before told was none =
     let i = c.loop-place.invariant in
     tells_all g.S.Source.heading g.S.Source.current g.S.Source.yields g.S.Source.gives g.W.Write.contents g.met.S.Source.given_lawfully c.args.sources.now c.loop-place.sources before told c.loop-place.writer
     (string_bytes c.loop-place.entry.term) c.loop-place.entry.next (i.merging before told was none)
-    (none_left g.S.Source.heading g.S.Source.current c.loop-place.sources c.in_default.ensures.first)
-
-pub take_turn-requires-clause-at_hand : goal.take_turn-requires-clause-at_hand
-take_turn-requires-clause-at_hand g c =
-    let at = c.in-Some.ensures.first in
-    let within = at.is.first.within 0 0 (omega arith) in
-    let many = length-map c.loop-place.sources (key_of g.S.Source.heading g.S.Source.current) in
-    let low = within.1 in
-    let inside : c.in-Some.place < length c.loop-place.sources = omega arith in
-    let back : (c.first.new.self.inner + c.in-Some.place) - c.first.new.self.inner ≡ c.in-Some.place = omega arith in
-    let source = get_or c.loop-place.sources c.in-Some.place c.index-sources-place.result in
-    let here : get_or c.loop-place.sources c.in-Some.place source ≡ source = get_or_default c.loop-place.sources c.in-Some.place source c.index-sources-place.result inside in
-    let is : g.S.Source.current source ≡ Some at.is.term =
-    ap g.S.Source.current (sym here) ∙ sym (term_there g.S.Source.heading g.S.Source.current c.loop-place.sources c.in-Some.place source inside)
-    ∙ subst (λ n. term_at (keys_of g.S.Source.heading g.S.Source.current c.loop-place.sources) n ≡ Some at.is.term) back (at.is.first.has 0 0 (omega arith)) in
-    rw is refl
+    (none_left g.S.Source.heading g.S.Source.current c.loop-place.sources (map holder c.loop-place.tree) i.contest.played (sym c.first_of.ensures ∙ c.in_default.is))
