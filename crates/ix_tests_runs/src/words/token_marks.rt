@@ -6,12 +6,17 @@ use ix_text::TokenMarks;
 use std::alloc::{AllocError, Global};
 use std::test::Fail;
 
-/// Marks a number: `y` where it was free, and else `n`.
+/// Marks a number: `y` where it was free, `n` where it was marked, and `?` where looking at it told otherwise.
 fn mark(marks: &mut TokenMarks, number: u32) -> char
     requires { number < room marks.old }
     ensures { room marks.new ≡ room marks.old }
 {
-    if marks.mark(number) { 'y' } else { 'n' }
+    let marked = marks.is_marked(number);
+    match (marked, marks.mark(number)) {
+        (false, true) => 'y',
+        (true, false) => 'n',
+        _ => '?',
+    }
 }
 
 /// Marks numbers below `count`, one after another, and writes behind the text for each whether it was free.
