@@ -22,3 +22,4 @@ pub use Rattle.ix_run_text.proofs.ListSteps
 pub use Rattle.ix_run_text.proofs.ReadFronts
 pub use Rattle.ix_run_text.proofs.RunTold
 pub use Rattle.ix_run_text.proofs.WholeLists
+pub mod ShortRows

@@ -1,6 +1,6 @@
 //! The terms of a run with their coded lists, close together in memory.
-ghost use Rattle.std.specs.Prelude.{◌≡◌, ◌+◌, ◌^◌, ◌<◌, [], ◌∷◌, ◌++◌, length, take, IfOk, MatchOption, OnErr, OnOk};
-ghost use Rattle.ix_run.specs.HeldTerms.{BeginsWithRow, ReadsRow, bytes_of_row};
+ghost use Rattle.std.specs.Prelude.{◌≡◌, ◌+◌, ◌^◌, ◌<◌, [], ◌∷◌, ◌++◌, length, take, IfOk, IsTrue, MatchOption, OnErr, OnOk};
+ghost use Rattle.ix_run.specs.HeldTerms.{BeginsWithRow, BeginsWithShortCodes, ReadsRow, bytes_of_row};
 ghost use Rattle.ix_run.specs.Runs.{term_shown};
 
 use ix_text::Memory;
@@ -79,12 +79,16 @@ fn append_row(bytes: &mut Vec<u8>, row: TermRow) -> Result<(), AllocError>
     push_code(bytes, row.last)
 }
 
-/// The row at the front, and what follows it.
+/// The row at the front, and what follows it. In a block of few documents most rows have codes of one byte, which are all
+/// looked at at once.
 #[inline(always)]
 fn first_row(bytes: &[u8]) -> (TermRow, &[u8])
     requires { BeginsWithRow bytes.now }
     ensures { ReadsRow bytes.now result.0 result.1.now }
 {
+    if begins_with_short_codes(bytes) {
+        return first_short_row(bytes);
+    }
     let (text, rest) = first_number(bytes);
     let (list, rest) = first_number(rest);
     let (documents, rest) = first_number(rest);
@@ -96,6 +100,34 @@ fn first_row(bytes: &[u8]) -> (TermRow, &[u8])
         last,
     };
     (row, rest)
+}
+
+/// Whether the bytes begin with four codes of one byte each.
+#[inline(always)]
+fn begins_with_short_codes(bytes: &[u8]) -> bool
+    ensures { IsTrue result → BeginsWithShortCodes bytes.now }
+{
+    match bytes.first_chunk::<4>() {
+        Some([one, two, three, four]) => {
+            (*one >= 128) & (*two >= 128) & (*three >= 128) & (*four >= 128)
+        }
+        None => false,
+    }
+}
+
+/// The row at the front, whose codes have one byte each.
+#[inline(always)]
+fn first_short_row(bytes: &[u8]) -> (TermRow, &[u8])
+    requires { BeginsWithShortCodes bytes.now }
+    ensures { ReadsRow bytes.now result.0 result.1.now }
+{
+    let row = TermRow {
+        text: u32::from(bytes[0] % 128),
+        list: u32::from(bytes[1] % 128),
+        documents: u32::from(bytes[2] % 128),
+        last: u32::from(bytes[3] % 128),
+    };
+    (row, &bytes[4..])
 }
 
 /// Terms with their coded lists. Contracts see the list of their values.
