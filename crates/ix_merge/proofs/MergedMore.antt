@@ -115,9 +115,9 @@ ascends_append : (low top : ℕ) (xs ys : List ℕ) → Ascends low top xs → A
 ascends_append low top [] ys up more = more
 ascends_append low top (x ∷ xs) ys up more = (up.0, up.1, ascends_append (x + 1) top xs ys up.2 more)
 
-postings_append : (xs ys : List Posting) → ArePostings 0 (2 ^ 32 - 1) xs → ArePostings (next_after 0 (documents_of xs)) (2 ^ 32 - 1) ys → ArePostings 0 (2 ^ 32 - 1) (xs ++ ys)
-postings_append xs ys are more = record {
-  documents = subst (Ascends 0 (2 ^ 32 - 1)) (sym (map-append (λ (p : Posting). p.0) xs ys)) (ascends_append 0 (2 ^ 32 - 1) (documents_of xs) (documents_of ys) are.documents more.documents);
+pub postings_append : (low : ℕ) (xs ys : List Posting) → ArePostings low (2 ^ 32 - 1) xs → ArePostings (next_after low (documents_of xs)) (2 ^ 32 - 1) ys → ArePostings low (2 ^ 32 - 1) (xs ++ ys)
+postings_append low xs ys are more = record {
+  documents = subst (Ascends low (2 ^ 32 - 1)) (sym (map-append (λ (p : Posting). p.0) xs ys)) (ascends_append low (2 ^ 32 - 1) (documents_of xs) (documents_of ys) are.documents more.documents);
   each = All-append (IsPosting (2 ^ 32 - 1)) xs ys are.each more.each;
 }
 
@@ -209,7 +209,7 @@ module _ (shares : List Share) (done : List DictionaryEntry) (hand : DictionaryE
         ascending = subst IsAscending (map-append (λ (e : DictionaryEntry). e.term) done (hand ∷ []) ∙ sym (map-append (λ (e : DictionaryEntry). e.term) done (hand' ∷ []))) are.ascending;
         lists =
             All-push AreIn done hand' (All-front AreIn done (hand ∷ []) are.lists)
-            (postings_append hand.postings raised (All-contains AreIn (done ++ hand ∷ []) hand are.lists (Contains-push done hand)) lists);
+            (postings_append 0 hand.postings raised (All-contains AreIn (done ++ hand ∷ []) hand are.lists (Contains-push done hand)) lists);
         merged = λ term number position. (sound term number position are, complete term number position are);
         counted =
             let a = position_total-listed done hand raised in

@@ -1,5 +1,5 @@
 -- The merging of terms, turn by turn.
-use Rattle.std.proofs.Common.{◌≡◌, ℕ, ◌*◌, ◌-◌, ◌^◌, ◌<◌, ◌≤◌, ◌⊎◌, ⊎_elim, List, [], ◌∷◌, ◌++◌, length, map, get_or, set, All, Option, Some, None, MatchOption, inl, inr, refl, sym, ap, ap₂, subst, ◌∙◌, arith}
+use Rattle.std.proofs.Common.{◌≡◌, ℕ, ◌+◌, ◌*◌, ◌-◌, ◌^◌, ◌<◌, ◌≤◌, ◌⊎◌, ⊎_elim, List, [], ◌∷◌, ◌++◌, length, map, get_or, set, All, Option, Some, None, MatchOption, inl, inr, refl, sym, ap, ap₂, subst, ◌∙◌, string_bytes, arith}
 use Rattle.std.proofs.Math.Seq.{map-set_same}
 use Rattle.std.proofs.lemmas.List.{get_or-map, get_or_default, length-map}
 use Rattle.std.proofs.lemmas.List.Elements.{All-cons, All-contains, All-head, All-nil, All-set, All-tail, Contains-push}
@@ -22,6 +22,7 @@ use Rattle.ix_file.proofs.AscendingLemmas.{ascending_none}
 use Rattle.ix_file.proofs.EndingLemmas.{front_of_spelled}
 use Rattle.ix_run.specs.Heads.{Heading, parts_with}
 use Rattle.ix_run.specs.Sources.{AreWhole, Giving, IsLawfulFront, IsUnread, Yielding, entry_with}
+use Rattle.ix_merge.specs.Gathered.{HasGathered, IsNewEntry}
 use Rattle.ix_merge.specs.Keys.{end_of, key_of}
 use Rattle.ix_merge.specs.Merged.{HasMergedSome, HasUnder, Share, SomeShareHas}
 use Rattle.ix_merge.specs.Merging.{AreApart, TellsAll}
@@ -29,9 +30,11 @@ use Rattle.ix_merge.specs.Rows.{tokens_under}
 use Rattle.ix_file.specs.Postings.{shifted}
 use Rattle.ix_merge.specs.Starting.{HasStarted, HaveStarted}
 use Rattle.ix_merge.specs.Turns.{GivesEntry, HasToldSome, HasTurned, MayTurn, told_then}
+use Rattle.ix_merge.specs.declared.entry.EntryAtHand.{EntryAtHand}
 use Rattle.ix_merge.proofs.Behind.{AreBehind, behind_more, may_turn, next_above}
+use Rattle.ix_merge.proofs.GatheredLists.{gathered_bytes, gathered_none}
 use Rattle.ix_merge.proofs.MergedMore.{AreMerged}
-use Rattle.ix_merge.proofs.Playing.{HoldsFirst}
+use Rattle.ix_merge.specs.Tournaments.{HoldsFirst}
 use Rattle.ix_merge.proofs.Readings.{AreReading, Below, HasToldShares, IsReading, are_shares, ends_low, grown, merged_all, no_share, reading_more, reading_set, told_closable, told_longer, told_merge, told_more}
 use Rattle.ix_merge.proofs.ShiftedLists.{IsListUnder, list_under}
 
@@ -82,21 +85,22 @@ told_no_shares headings told last next none empty = record {
   none = λ e. (no_entry told none).1;
 }
 
--- Since nothing was asked of the sources, and the writer was told no term, they gave shares and it was told these.
+-- Since nothing was asked of the sources, and the writer was told no term, they gave shares and it was told these, but
+-- for what was gathered.
 pub record IsMerging {S W : Type 0} (heading : S → Heading) (current : S → Option (List ℕ)) (yields : Yielding S) (gives : Giving S) (contents : W → Option (List ℕ))
-    (begun now : List S) (before : Option (List ℕ)) (told_first : Told) (writer : IndexWriter W WriterSections) (last : List ℕ) (next : ℕ) : Type 0 where
+    (begun now : List S) (before : Option (List ℕ)) (told_first : Told) (writer : IndexWriter W WriterSections) (hand : EntryAtHand) : Type 0 where
   pub shares : List Share
   pub reading : AreReading heading current yields gives begun now shares
   pub told : Told
-  pub was : WasTold contents before writer told
+  pub was : HasGathered contents before writer hand told
   pub stop : told.stop ≡ told_first.stop
   pub rows : told.rows ≡ told_first.rows
-  pub has : HasToldShares shares told last next
+  pub has : HasToldShares shares told (string_bytes hand.term) hand.next
 
 module _ {S W : Type 0} (heading : S → Heading) (current : S → Option (List ℕ)) (yields : Yielding S) (gives : Giving S) (contents : W → Option (List ℕ))
     (lawfully : (source : S) (finished : List DictionaryEntry) (at_hand : Option DictionaryEntry) → gives source finished at_hand → IsLawfulFront (heading source) finished at_hand) where
-  abbrev Merging : List S → List S → Option (List ℕ) → Told → IndexWriter W WriterSections → List ℕ → ℕ → Type 0
-  Merging begun now before told_first writer last next = IsMerging heading current yields gives contents begun now before told_first writer last next
+  abbrev Merging : List S → List S → Option (List ℕ) → Told → IndexWriter W WriterSections → EntryAtHand → Type 0
+  Merging begun now before told_first writer hand = IsMerging heading current yields gives contents begun now before told_first writer hand
 
   -- a refusal before the first term
   pub merged_nothing : (begun : List S) (writer : IndexWriter W WriterSections) (before : Option (List ℕ)) (told : Told) → All (IsUnread gives) begun → WasTold contents before writer told → entries_of told ≡ []
@@ -120,9 +124,9 @@ module _ {S W : Type 0} (heading : S → Heading) (current : S → Option (List 
 
   -- ---- between two turns
 
-  pub merging_first : (begun now : List S) (before : Option (List ℕ)) (told : Told) (writer : IndexWriter W WriterSections) (last : List ℕ) (next : ℕ) → HaveStarted heading current yields gives begun now
-      → WasTold contents before writer told → entries_of told ≡ [] → last ≡ [] → Merging begun now before told writer last next
-  merging_first begun now before told writer last next started was none empty = record {
+  pub merging_first : (begun now : List S) (before : Option (List ℕ)) (told : Told) (writer : IndexWriter W WriterSections) (hand : EntryAtHand) → HaveStarted heading current yields gives begun now
+      → WasTold contents before writer told → entries_of told ≡ [] → IsNewEntry hand → Merging begun now before told writer hand
+  merging_first begun now before told writer hand started was none new = record {
     shares = map bare_share (map heading begun);
     reading = record {
       as_many = started.as_many;
@@ -135,27 +139,33 @@ module _ {S W : Type 0} (heading : S → Heading) (current : S → Option (List 
           (record { headed = refl; same = is.same; gives_these = is.gives_none; yielded = is.yielded });
     };
     told = told;
-    was = was;
+    was = gathered_none contents before writer hand told new.nothing was;
     stop = refl;
     rows = refl;
-    has = told_no_shares (map heading begun) told last next none empty;
+    has = told_no_shares (map heading begun) told (string_bytes hand.term) hand.next none new.term;
   }
 
   -- a refusal between two turns, or of the next
-  pub merged_some : (begun now : List S) (before : Option (List ℕ)) (told_first : Told) (writer : IndexWriter W WriterSections) (last : List ℕ) (next : ℕ) (after : Option (List ℕ))
-      → (merging : Merging begun now before told_first writer last next) → AppendsFront before after (settled_front merging.told) → HasMergedSome (map heading begun) before after
-  merged_some begun now before told_first writer last next after merging front = record {
+  pub merged_some : (begun now : List S) (before : Option (List ℕ)) (told_first : Told) (writer : IndexWriter W WriterSections) (hand : EntryAtHand) (after : Option (List ℕ))
+      → (merging : Merging begun now before told_first writer hand) → AppendsFront before after (settled_front merging.told) → HasMergedSome (map heading begun) before after
+  merged_some begun now before told_first writer hand after merging front = record {
     shares = merging.shares;
     are = are_shares heading current yields gives lawfully begun now merging.shares merging.reading;
     told = entries_of merging.told;
-    merge = told_merge merging.shares merging.told last next merging.has;
+    merge = told_merge merging.shares merging.told (string_bytes hand.term) hand.next merging.has;
     gained = front;
   }
 
   -- ---- a turn
 
-  module _ (begun now : List S) (before : Option (List ℕ)) (told_first : Told) (writer : IndexWriter W WriterSections) (last : List ℕ) (next : ℕ) (merging : Merging begun now before told_first writer last next)
-      (behind : AreBehind heading current last next now) (few : tokens_under (map heading begun) ≤ 2 ^ 28) (place : ℕ) (source : S) (within : place < length now) (here : get_or now place source ≡ source) where
+  module _ (begun now : List S) (before : Option (List ℕ)) (told_first : Told) (writer : IndexWriter W WriterSections) (hand : EntryAtHand) (merging : Merging begun now before told_first writer hand)
+      (behind : AreBehind heading current (string_bytes hand.term) hand.next now) (few : tokens_under (map heading begun) ≤ 2 ^ 28) (place : ℕ) (source : S) (within : place < length now) (here : get_or now place source ≡ source) where
+    abbrev last : List ℕ
+    last = string_bytes hand.term
+
+    abbrev next : ℕ
+    next = hand.next
+
     abbrev pub share_here : Share
     share_here = get_or merging.shares place no_share
 
@@ -212,13 +222,13 @@ module _ {S W : Type 0} (heading : S → Heading) (current : S → Option (List 
 
     -- the turn is refused
     pub merged_some_then : (after : IndexWriter W WriterSections) → HasToldSome heading current contents before source share_here.entries merging.told last next after → HasMergedSome (map heading begun) before (contents (sink after))
-    merged_some_then after (inl front) = merged_some begun now before told_first writer last next (contents (sink after)) merging front
+    merged_some_then after (inl front) = merged_some begun now before told_first writer hand (contents (sink after)) merging front
     merged_some_then after (inr some) = merged_some_more some.0 (contents (sink after)) some.1
 
     -- the turn is done
-    module _ (new : S) (after : IndexWriter W WriterSections) (last' : List ℕ) (next' : ℕ) (same : heading new ≡ heading source)
-        (turned : HasTurned heading current yields gives contents before source new share_here.entries merging.told last next after last' next') where
-      pub merging_more : Merging begun (set now place new) before told_first after last' next'
+    module _ (new : S) (after : IndexWriter W WriterSections) (then : EntryAtHand) (same : heading new ≡ heading source)
+        (turned : HasTurned heading current yields gives contents before source new share_here.entries merging.told last next after then) where
+      pub merging_more : Merging begun (set now place new) before told_first after then
       merging_more = record {
         shares = set merging.shares place (grown share_here (entry turned.gave));
         reading =
@@ -230,7 +240,7 @@ module _ {S W : Type 0} (heading : S → Heading) (current : S → Option (List 
         stop = kept.0 ∙ merging.stop;
         rows = kept.1 ∙ merging.rows;
         has =
-            subst (λ (t : List ℕ). HasToldShares (set merging.shares place (grown share_here (entry turned.gave))) (told_then turned.gave.begun (heading source).first turned.gave.postings) t next') (sym turned.told_of)
+            subst (λ (t : List ℕ). HasToldShares (set merging.shares place (grown share_here (entry turned.gave))) (told_then turned.gave.begun (heading source).first turned.gave.postings) t then.next) (sym turned.told_of)
             (subst (HasToldShares (set merging.shares place (grown share_here (entry turned.gave))) (told_then turned.gave.begun (heading source).first turned.gave.postings) turned.gave.term) (sym turned.told_to)
             (subst (λ (h : Heading). HasToldShares (set merging.shares place (grown share_here (entry turned.gave))) (told_then turned.gave.begun h.first turned.gave.postings) turned.gave.term (next_after turned.gave.from (documents_of (shifted h.first turned.gave.postings))))
             (sym share_headed) (has_told turned.gave)));
@@ -242,19 +252,19 @@ module _ {S W : Type 0} (heading : S → Heading) (current : S → Option (List 
               (λ is. (ap (λ (t : Told). t.stop) is.1, ap (λ (t : Told). t.rows) is.1))
               turned.gave.begins.is
 
-      -- The writer has more bytes of postings, of which there are few.
-      pub longer : (writer.sections.postings < after.sections.postings) × (after.sections.postings ≤ 15 * 2 ^ 28)
+      -- The writer and what was gathered have more bytes of postings, of which there are few.
+      pub longer : (writer.sections.postings + length hand.list.items < after.sections.postings + length then.list.items) × (after.sections.postings + length then.list.items ≤ 15 * 2 ^ 28)
       longer =
           let gave = turned.gave in
           let more = told_longer merging.shares place share_here (omega (arith, merging.reading.shared, merging.reading.as_many, within')) there merging.told last next merging.has gave.term (follows gave.term gave.is) (some gave) gave.postings gave.begun gave.from gave.begins (under gave) in
           let e = ap (λ (h : Heading). length (postings_section (entries_of (told_then gave.begun h.first gave.postings)))) share_headed in
-          let a = merging.was.kept.postings in
-          let b = turned.was.kept.postings in
-          let c = turned.was.kept.few_bytes in
-          let d = turned.was.kept.few_positions in
-          (omega (arith, more, e, a, b), omega (arith, c, d))
+          let a = gathered_bytes contents before writer hand merging.told merging.was in
+          let b = gathered_bytes contents before after then (told_then gave.begun (heading source).first gave.postings) turned.was in
+          let c = a.0 in
+          let d = b.0 in
+          (omega (arith, more, e, c, d), b.1)
 
-      pub behind_then : HoldsFirst (map (key_of heading current) now) place → AreApart (map heading now) → AreBehind heading current last' next' (set now place new)
+      pub behind_then : HoldsFirst (map (key_of heading current) now) place → AreApart (map heading now) → AreBehind heading current (string_bytes then.term) then.next (set now place new)
       behind_then first apart =
           let gave = turned.gave in
           let is = under gave in
@@ -263,8 +273,8 @@ module _ {S W : Type 0} (heading : S → Heading) (current : S → Option (List 
           let low' : next_after gave.from (documents_of (shifted (heading source).first gave.postings)) ≤ end_of (heading source) =
           subst (λ (h : Heading). next_after gave.from (documents_of (shifted h.first gave.postings)) ≤ end_of h) (sym share_headed) low in
           let n = turned.told_to in
-          subst (λ (t : List ℕ). AreBehind heading current t next' (set now place new)) (sym turned.told_of)
-          (behind_more heading current now place source new gave.term next' first apart here gave.is (some_row gave is) (omega arith)
+          subst (λ (t : List ℕ). AreBehind heading current t then.next (set now place new)) (sym turned.told_of)
+          (behind_more heading current now place source new gave.term then.next first apart here gave.is (some_row gave is) (omega arith)
           (λ term at. next_above heading current yields gives lawfully new share_here.entries (entry gave) turned.goes.gives_more term at))
         where
           some_row : (gave : GivesEntry heading current source share_here.entries merging.told last next) → IsListUnder share_here.heading gave.postings → (heading source).first < end_of (heading source)
@@ -277,13 +287,13 @@ module _ {S W : Type 0} (heading : S → Heading) (current : S → Option (List 
 
   -- ---- the end
 
-  pub tells_all : (begun now : List S) (before : Option (List ℕ)) (told_first : Told) (writer : IndexWriter W WriterSections) (last : List ℕ) (next : ℕ) → Merging begun now before told_first writer last next
-      → ((place : ℕ) (source : S) → place < length now → current (get_or now place source) ≡ None) → TellsAll yields heading contents begun before told_first writer
-  tells_all begun now before told_first writer last next merging ended = record {
+  pub tells_all : (begun now : List S) (before : Option (List ℕ)) (told_first : Told) (writer : IndexWriter W WriterSections) (hand : EntryAtHand) (merging : Merging begun now before told_first writer hand)
+      → ((place : ℕ) (source : S) → place < length now → current (get_or now place source) ≡ None) → (after : IndexWriter W WriterSections) → WasTold contents before after merging.told → TellsAll yields heading contents begun before told_first after
+  tells_all begun now before told_first writer hand merging ended after was = record {
     now = merging.told;
-    was = merging.was;
+    was = was;
     stop = merging.stop;
     rows = merging.rows;
-    closable = told_closable merging.shares merging.told last next merging.has;
-    all = merged_all heading current yields gives lawfully begun now merging.shares merging.reading merging.told last next merging.has ended;
+    closable = told_closable merging.shares merging.told (string_bytes hand.term) hand.next merging.has;
+    all = merged_all heading current yields gives lawfully begun now merging.shares merging.reading merging.told (string_bytes hand.term) hand.next merging.has ended;
   }

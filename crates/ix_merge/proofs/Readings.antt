@@ -35,11 +35,11 @@ Below one other = slice_cmp nat_cmp one other ≡ Less
 pub not_below_itself : (text : List ℕ) → ¬ (Below text text)
 not_below_itself text less = let tie = tied_itself nat_list_cmp_total text in cc
 
-next_after-append : (next : ℕ) (xs ys : List ℕ) → next_after next (xs ++ ys) ≡ next_after (next_after next xs) ys
+pub next_after-append : (next : ℕ) (xs ys : List ℕ) → next_after next (xs ++ ys) ≡ next_after (next_after next xs) ys
 next_after-append next [] ys = refl
 next_after-append next (x ∷ xs) ys = next_after-append (x + 1) xs ys
 
-list_bytes_from-append : (next : ℕ) (xs ys : List Posting) → list_bytes_from next (xs ++ ys) ≡ list_bytes_from next xs ++ list_bytes_from (next_after next (documents_of xs)) ys
+pub list_bytes_from-append : (next : ℕ) (xs ys : List Posting) → list_bytes_from next (xs ++ ys) ≡ list_bytes_from next xs ++ list_bytes_from (next_after next (documents_of xs)) ys
 list_bytes_from-append next [] ys = refl
 list_bytes_from-append next (p ∷ xs) ys =
     ap (λ (bytes : List ℕ). posting_bytes (p.0 + 1 - next) p ++ bytes) (list_bytes_from-append (p.0 + 1) xs ys)

@@ -1,5 +1,5 @@
 -- A source's turn, step by step.
-use Rattle.std.proofs.Common.{Result, Ok, Err, OnOk, OnErr, MatchResult, IsErrAnd, ◌≡◌, ◌≢◌, ℕ, ◌-◌, ◌^◌, ◌<◌, ◌≤◌, List, [], ◌∷◌, ◌++◌, length, Option, Some, None, MatchOption, refl, sym, ap, subst, ◌∙◌, ⊎_elim, arith}
+use Rattle.std.proofs.Common.{Result, Ok, Err, OnOk, OnErr, MatchResult, IsErrAnd, ◌≡◌, ◌≢◌, ℕ, ◌+◌, ◌-◌, ◌^◌, ◌<◌, ◌≤◌, List, [], ◌∷◌, ◌++◌, length, Option, Some, None, MatchOption, refl, sym, ap, subst, ◌∙◌, ⊎_elim, arith}
 use Rattle.std.proofs.lemmas.List.Elements.{Contains-push}
 use Rattle.ix_file.specs.Gaps.{next_after}
 use Rattle.ix_file.specs.Postings.{ArePostings, documents_of, list_bytes_from}
@@ -8,7 +8,6 @@ use Rattle.ix_text.specs.Terms.{IsTerm}
 use Rattle.ix_file.specs.Telling.{MayList}
 use Rattle.ix_file.specs.Told.{Told, entries_of, position_total, with_term}
 use Rattle.ix_file.proofs.TellingLemmas.{position_total-term}
-use Rattle.ix_file.specs.Writers.{WasTold}
 use Rattle.ix_file.specs.WriterSections.{WriterSections}
 use Rattle.ix_file.specs.IndexWriter.{IndexWriter}
 use Rattle.ix_run.specs.Heads.{Heading}
@@ -16,7 +15,10 @@ use Rattle.ix_run.specs.Sources.{AreWhole, BeginsTerm, EndsTerms, Giving, Yieldi
 use Rattle.ix_run.proofs.ReadFronts.{closed-none}
 use Rattle.ix_run.specs.Sources.{GivesList}
 use Rattle.ix_file.specs.Postings.{shifted}
-use Rattle.ix_merge.specs.Turns.{Begins, BeginsEntry, GivesEntry, GoesOn, IsAtHand, MayTurn, bare_entry}
+use Rattle.ix_merge.specs.Gathered.{HasGathered}
+use Rattle.ix_merge.specs.Turns.{Begins, BeginsEntry, GivesEntry, GoesOn, IsAtHand, MayTurn, bare_entry, told_then}
+use Rattle.ix_merge.specs.declared.entry.EntryAtHand.{EntryAtHand}
+use Rattle.ix_merge.proofs.GatheredLists.{documents_fit, gathered_more}
 use Rattle.ix_merge.proofs.ShiftedLists.{IsListUnder, length-shifted, list_under, position_count-shifted, raised_list}
 
 -- the entry at hand, once a term was begun
@@ -91,7 +93,7 @@ module _ {S : Type 0} (heading : S → Heading) (current : S → Option (List �
       pub raised : ArePostings (next_after 0 (documents_of hand.entry.postings)) (2 ^ 32 - 1) (shifted (heading old).first list.postings)
       raised = subst (λ n. ArePostings n (2 ^ 32 - 1) (shifted (heading old).first list.postings)) hand.from_there (raised_list (heading old) list.postings from under from_low)
 
-      pub may_list : MayList begun (shifted (heading old).first list.postings) documents to bytes
+      may_list : MayList begun (shifted (heading old).first list.postings) documents to bytes
       may_list = record {
         entry = hand.entry;
         at_hand = hand.at_hand;
@@ -134,32 +136,46 @@ module _ {S : Type 0} (heading : S → Heading) (current : S → Option (List �
                   subst P (sym is) ((list.yielded [] [] (subst (λ (ps : List Posting). yields mid ps []) none ends.yielded)).1);
             }
 
-  -- The list of a source was taken, behind what was told of its term.
-  pub record HasTaken {W : Type 0} (contents : W → Option (List ℕ)) (before : Option (List ℕ)) (writer : IndexWriter W WriterSections) (mid : S) (documents to : ℕ) (bytes : List ℕ) : Type 0 where
+  -- The list of a source was taken, behind what was told and gathered of its term, and is gathered now.
+  pub record HasTaken {W : Type 0} (contents : W → Option (List ℕ)) (before : Option (List ℕ)) (writer : IndexWriter W WriterSections) (mid : S) (then : EntryAtHand) : Type 0 where
     pub gave : GivesEntry heading current old given told last next
     pub of_term : gave.term ≡ term
-    pub was : WasTold contents before writer gave.begun
-    pub may_be_told : MayList gave.begun (shifted (heading old).first gave.postings) documents to bytes
-    pub told_to : to ≡ next_after gave.from (documents_of (shifted (heading old).first gave.postings))
+    pub was : HasGathered contents before writer then (told_then gave.begun (heading old).first gave.postings)
+    pub told_to : then.next ≡ next_after gave.from (documents_of (shifted (heading old).first gave.postings))
     pub on_more : (new : S) (next_term : List ℕ) → is_drained mid → current new ≡ Some next_term → BeginsTerm yields gives is_drained mid new next_term
         → GoesOn current yields gives old new given (entry_with gave.term gave.postings)
     pub on_end : (new : S) → is_drained mid → current new ≡ None → EndsTerms yields gives is_drained mid new → GoesOn current yields gives old new given (entry_with gave.term gave.postings)
 
-  pub has_taken : {W : Type 0} (contents : W → Option (List ℕ)) (before : Option (List ℕ)) (writer : IndexWriter W WriterSections) (from : ℕ) → BeginsEntry contents before writer told last next term from
-      → (mid : S) → heading mid ≡ heading old → (documents to : ℕ) (cleared taken bytes : List ℕ) → cleared ≡ [] → bytes ≡ taken → GivesList yields gives old mid (heading old).first from documents to cleared taken
-      → HasTaken contents before writer mid documents to bytes
-  has_taken contents before writer from entry mid headed documents to cleared taken bytes empty same list =
-      let list' : GivesList yields gives old mid (heading old).first from documents to [] bytes =
-      record { postings = list.postings; yielded = list.yielded; given = list.given; count = list.count; last = list.last; coded = same ∙ list.coded ∙ ap (λ (b : List ℕ). b ++ list_bytes_from from (shifted (heading old).first list.postings)) empty } in
-      record {
-        gave = record { term = term; is = at; postings = list.postings; whole = whole entry.begun from entry.begins mid headed documents to bytes list'; begun = entry.begun; from = from; begins = entry.begins };
-        of_term = refl;
-        was = entry.was;
-        may_be_told = may_list entry.begun from entry.begins mid headed documents to bytes list';
-        told_to = list.last;
-        on_more = λ new next_term drained. goes_on entry.begun from entry.begins mid headed documents to bytes list' new drained next_term;
-        on_end = λ new drained. goes_to_end entry.begun from entry.begins mid headed documents to bytes list' new drained;
-      }
+  module _ {W : Type 0} (contents : W → Option (List ℕ)) (before : Option (List ℕ)) (writer : IndexWriter W WriterSections) (hand : EntryAtHand) (begins : BeginsEntry contents before writer told last next term hand)
+      (mid : S) (headed : heading mid ≡ heading old) (documents to : ℕ) (taken : List ℕ) (list : GivesList yields gives old mid (heading old).first hand.next documents to hand.list.items taken) where
+    abbrev raised_postings : List Posting
+    raised_postings = shifted (heading old).first list.postings
+
+    -- the list by itself
+    abbrev list_alone : GivesList yields gives old mid (heading old).first hand.next documents to [] (list_bytes_from hand.next raised_postings)
+    list_alone = record { postings = list.postings; yielded = list.yielded; given = list.given; count = list.count; last = list.last; coded = refl }
+
+    may_be_told : MayList begins.begun raised_postings documents to (list_bytes_from hand.next raised_postings)
+    may_be_told = may_list begins.begun hand.next begins.begins mid headed documents to (list_bytes_from hand.next raised_postings) list_alone
+
+    -- its documents can be counted with those before
+    pub taken_fits : hand.documents + documents < 2 ^ 32
+    taken_fits = documents_fit contents before writer hand begins.begun begins.was raised_postings documents to (list_bytes_from hand.next raised_postings) may_be_told
+
+    pub has_taken : (then : EntryAtHand) → then.documents ≡ hand.documents + documents → then.next ≡ to → then.list.items ≡ taken → HasTaken contents before writer mid then
+    has_taken then count last coded =
+        let bytes : List ℕ = list_bytes_from hand.next raised_postings in
+        let is = under begins.begun hand.next begins.begins mid headed documents to bytes list_alone in
+        let some : 0 < documents = omega (arith, is.some, list.count) in
+        record {
+          gave = record { term = term; is = at; postings = list.postings; whole = whole begins.begun hand.next begins.begins mid headed documents to bytes list_alone; begun = begins.begun; from = hand.next; begins = begins.begins };
+          of_term = refl;
+          was =
+              gathered_more contents before writer hand begins.begun begins.was raised_postings documents to bytes may_be_told then some count last (coded ∙ list.coded);
+          told_to = last ∙ list.last;
+          on_more = λ new next_term drained. goes_on begins.begun hand.next begins.begins mid headed documents to bytes list_alone new drained next_term;
+          on_end = λ new drained. goes_to_end begins.begun hand.next begins.begins mid headed documents to bytes list_alone new drained;
+        }
 
 -- what a call's answer, with its error turned, says where it is Ok
 pub on_ok_if : {T E D : Type 0} (given : Result T E) (turned : Result T D) (Q : E → D → Type 0) (P : Type 0) → MatchResult given (λ x. turned ≡ Ok x) (λ e. IsErrAnd turned (Q e))

@@ -1,13 +1,15 @@
 pub mod AnySources
 pub mod Beginnings
-pub mod Contenders
+pub mod Brackets
 pub mod Covers
+pub mod Gathered
 pub mod Headings
 pub mod Keys
 pub mod MergeErrors
 pub mod Merged
 pub mod Merging
 pub mod Pieces
+pub mod Ranks
 pub mod Refusals
 pub mod Rows
 pub mod Starting

@@ -1,5 +1,5 @@
--- A source's turn in a merge: the term at hand is told with the documents of that source, and its next term is read.
-use Rattle.std.specs.Prelude.{◌≡◌, ◌≢◌, ℕ, ◌+◌, ◌^◌, ◌≤◌, ◌⊎◌, List, [], ◌∷◌, ◌++◌, Option, Some, MatchOption, option_map}
+-- A source's turn in a merge: the term at hand is told or gathered with the documents of that source, and its next term is read.
+use Rattle.std.specs.Prelude.{◌≡◌, ◌≢◌, ℕ, ◌+◌, ◌^◌, ◌≤◌, ◌⊎◌, List, [], ◌∷◌, ◌++◌, Option, Some, MatchOption, option_map, string_bytes}
 use Rattle.ix_file.specs.Gaps.{next_after}
 use Rattle.ix_file.specs.Postings.{documents_of}
 use Rattle.ix_file.specs.Postings.{shifted}
@@ -8,11 +8,13 @@ use Rattle.ix_text.specs.PartsLaws.{position_count}
 use Rattle.ix_text.specs.Sinks.{AppendsFront}
 use Rattle.ix_file.specs.Telling.{IsClosable}
 use Rattle.ix_file.specs.Told.{Told, entries_of, position_total, settled_front, with_postings, with_term}
-use Rattle.ix_file.specs.Writers.{WasTold, sink}
+use Rattle.ix_file.specs.Writers.{sink}
 use Rattle.ix_file.specs.WriterSections.{WriterSections}
 use Rattle.ix_file.specs.IndexWriter.{IndexWriter}
 use Rattle.ix_run.specs.Heads.{Heading}
 use Rattle.ix_run.specs.Sources.{AreWhole, Giving, Yielding, entry_with}
+use Rattle.ix_merge.specs.Gathered.{HasGathered}
+use Rattle.ix_merge.specs.declared.entry.EntryAtHand.{EntryAtHand}
 
 -- the entry of the term at hand, of which nothing was given yet
 abbrev pub bare_entry : Option (List ℕ) → Option DictionaryEntry
@@ -26,12 +28,12 @@ IsAtHand told term next = MatchOption told.at_hand (term ≡ []) (λ entry. (ter
 pub record Begins (told : Told) (last : List ℕ) (next : ℕ) (term : List ℕ) (begun : Told) (from : ℕ) : Type 0 where
   pub is : ((last ≡ term) × (begun ≡ told) × (from ≡ next)) ⊎ ((last ≢ term) × (begun ≡ with_term told term) × (from ≡ 0))
 
--- The writer was told that the entry of a term begins, where it was not at hand.
+-- The writer was told that the entry of a term begins, where it was not at hand; lists of it may be gathered.
 pub record BeginsEntry {W : Type 0} (contents : W → Option (List ℕ)) (before : Option (List ℕ)) (writer : IndexWriter W WriterSections)
-    (told : Told) (last : List ℕ) (next : ℕ) (term : List ℕ) (from : ℕ) : Type 0 where
+    (told : Told) (last : List ℕ) (next : ℕ) (term : List ℕ) (entry : EntryAtHand) : Type 0 where
   pub begun : Told
-  pub begins : Begins told last next term begun from
-  pub was : WasTold contents before writer begun
+  pub begins : Begins told last next term begun entry.next
+  pub was : HasGathered contents before writer entry begun
 
 -- A source may have given these entries and is at the beginning of a term, which may be told next: no lower one, its
 -- documents behind those that were told of it, and with few enough positions.
@@ -43,14 +45,14 @@ pub record MayTurn {S : Type 0} (heading : S → Heading) (current : S → Optio
   pub follows : (term : List ℕ) → current source ≡ Some term → last ≡ term → next ≤ (heading source).first
   pub few : (entry : DictionaryEntry) → AreWhole (heading source) (given ++ entry ∷ []) → position_total (entries_of told) + position_count entry.postings ≤ 2 ^ 28
 
--- so for some that the source may have given and the writer was told
+-- so for some that the source may have given and the writer was told, but for what was gathered
 pub record MayTurnSomehow {S W : Type 0} (heading : S → Heading) (current : S → Option (List ℕ)) (gives : Giving S)
-    (contents : W → Option (List ℕ)) (source : S) (last : List ℕ) (next : ℕ) (writer : IndexWriter W WriterSections) : Type 0 where
+    (contents : W → Option (List ℕ)) (source : S) (entry : EntryAtHand) (writer : IndexWriter W WriterSections) : Type 0 where
   pub before : Option (List ℕ)
   pub told : Told
-  pub was : WasTold contents before writer told
+  pub was : HasGathered contents before writer entry told
   pub given : List DictionaryEntry
-  pub may : MayTurn heading current gives source given told last next
+  pub may : MayTurn heading current gives source given told (string_bytes entry.term) entry.next
 
 -- Postings of the term at hand that, behind the entries before, a source gives lawfully.
 pub record GivesEntry {S : Type 0} (heading : S → Heading) (current : S → Option (List ℕ)) (source : S) (given : List DictionaryEntry)
@@ -74,15 +76,15 @@ pub record GoesOn {S : Type 0} (current : S → Option (List ℕ)) (yields : Yie
   pub yielded : MatchOption (current new) (yields old entry.postings [])
       (λ term. (postings : List Posting) (entries : List DictionaryEntry) → yields new postings entries → yields old entry.postings (entry_with term postings ∷ entries))
 
--- A source's term at hand was told with its documents, and it went on.
+-- A source's term at hand was told or gathered with its documents, and it went on.
 pub record HasTurned {S W : Type 0} (heading : S → Heading) (current : S → Option (List ℕ)) (yields : Yielding S) (gives : Giving S)
     (contents : W → Option (List ℕ)) (before : Option (List ℕ)) (old new : S) (given : List DictionaryEntry)
-    (told : Told) (last : List ℕ) (next : ℕ) (writer : IndexWriter W WriterSections) (last' : List ℕ) (next' : ℕ) : Type 0 where
+    (told : Told) (last : List ℕ) (next : ℕ) (writer : IndexWriter W WriterSections) (entry : EntryAtHand) : Type 0 where
   pub gave : GivesEntry heading current old given told last next
   pub goes : GoesOn current yields gives old new given (entry_with gave.term gave.postings)
-  pub was : WasTold contents before writer (told_then gave.begun (heading old).first gave.postings)
-  pub told_of : last' ≡ gave.term
-  pub told_to : next' ≡ next_after gave.from (documents_of (shifted (heading old).first gave.postings))
+  pub was : HasGathered contents before writer entry (told_then gave.begun (heading old).first gave.postings)
+  pub told_of : string_bytes entry.term ≡ gave.term
+  pub told_to : entry.next ≡ next_after gave.from (documents_of (shifted (heading old).first gave.postings))
 
 -- A front went out of what is settled by what was told, or by that with the postings of a source's term at hand.
 abbrev pub HasToldSome : {S W : Type 0} → (S → Heading) → (S → Option (List ℕ)) → (W → Option (List ℕ)) → Option (List ℕ) → S → List DictionaryEntry

@@ -1,63 +1,79 @@
 //! The entry that a merge tells: a term, and the lists of the sources that have it, one behind another.
-ghost use Rattle.std.specs.Prelude.{◌≡◌, ◌≢◌, ◌≤◌, ℕ, List, Option, length, OnOk, OnErr, IfErr, string_bytes, []};
+ghost use Rattle.std.specs.Prelude.{◌≡◌, ◌≢◌, ◌≤◌, ◌⊎◌, ℕ, List, Option, length, IsTrue, OnOk, IfErr, string_bytes};
+ghost use Rattle.ix_text.specs.Sinks.{AppendsFront};
 ghost use Rattle.ix_file.specs.Telling.{IsClosable};
-ghost use Rattle.ix_file.specs.Told.{Told};
-ghost use Rattle.ix_file.specs.Writers.{CanEndEntry, IsReady, WasTold, sink, sink_name};
+ghost use Rattle.ix_file.specs.Told.{Told, settled_front};
+ghost use Rattle.ix_file.specs.Writers.{WasTold, sink, sink_name};
+ghost use Rattle.ix_merge.specs.Gathered.{HasGathered, HasGatheredSome, HasNothing, IsNewEntry, MayBegin};
 ghost use Rattle.ix_merge.specs.Turns.{BeginsEntry};
 
 use ix_file::{IndexWriter, PutError};
 use std::alloc::Global;
 use std::io::Write;
 
-/// The entry at hand of a merge, as far as it was told.
+/// The bytes of gathered lists from which on they are told.
+const FULL: usize = 1 << 16;
+
+/// The entry at hand of a merge. The lists of its sources are gathered, so that the writer is told many of them by one
+/// call.
 #[derive(Drop)]
 pub(crate) struct EntryAtHand {
     // its term; empty before the first entry
     pub(crate) term: String,
-    // one above the last document that was told of it
+    // one above its last document so far, told or gathered, or 0
     pub(crate) next: u32,
-    // where the list of a source is coded
+    // the lists that were gathered and not told yet, one behind another
     pub(crate) list: Vec<u8>,
+    // how many documents these have
+    pub(crate) documents: u32,
 }
 
 impl EntryAtHand {
     /// Before the first entry.
     pub(crate) fn none(alloc: Global) -> EntryAtHand
-        ensures { string_bytes result.term ≡ [] }
+        ensures { IsNewEntry result }
     {
         EntryAtHand {
             term: String::new(alloc),
             next: 0,
             list: Vec::new(alloc),
+            documents: 0,
         }
     }
 
-    /// Begins the entry of a term, of at most 255 bytes, where it is not the one at hand. Writes nothing.
-    #[inline(always)]
+    /// Begins the entry of a term, of at most 255 bytes, where it is not the one at hand. `again`: the caller knows that
+    /// it is, and no terms are compared.
+    ///
+    /// `Write` where a write is refused, and `Memory` where memory is.
+    #[inline]
     pub(crate) fn begin<W: Write>(
         &mut self,
+        again: bool,
         term: &str,
         writer: &mut IndexWriter<'_, W>,
     ) -> Result<(), PutError>
         requires short { length term.now ≤ 255 }
-        requires ready { IsReady writer.old }
-        requires may { CanEndEntry writer.old }
+        requires again { IsTrue again → string_bytes self.old.term ≡ term.now }
+        requires may { MayBegin W.contents writer.old self.old }
         ensures same_writer { sink_name writer.new ≡ sink_name writer.old }
-        ensures nothing_written { sink writer.new ≡ sink writer.old }
         ensures term { OnOk result (string_bytes self.new.term ≡ term.now) }
         ensures told { (before : Option (List ℕ)) (told : Told)
-            → WasTold W.contents before writer.old told → IsClosable told
+            → HasGathered W.contents before writer.old self.old told → IsClosable told
             → OnOk result (BeginsEntry W.contents before writer.new told
-            (string_bytes self.old.term) self.old.next term.now self.new.next) }
-        ensures error { IfErr result (λ error. error ≡ PutError.Memory) }
+            (string_bytes self.old.term) self.old.next term.now self.new) }
+        ensures front { (before : Option (List ℕ)) (told : Told)
+            → HasGathered W.contents before writer.old self.old told
+            → AppendsFront before (W.contents (sink writer.new)) (settled_front told) }
+        ensures error { IfErr result (λ error. (error ≡ PutError.Write)
+            ⊎ (error ≡ PutError.Memory)) }
     {
-        if self.term.as_str() == term {
+        if again || self.term.as_str() == term {
             return Ok(());
         }
         self.begin_other(term, writer)
     }
 
-    /// The same of another term than the one at hand.
+    /// The same of another term than the one at hand, of which all that was gathered is told before.
     #[inline(never)]
     fn begin_other<W: Write>(
         &mut self,
@@ -66,21 +82,78 @@ impl EntryAtHand {
     ) -> Result<(), PutError>
         requires short { length term.now ≤ 255 }
         requires other { string_bytes self.old.term ≢ term.now }
-        requires ready { IsReady writer.old }
-        requires may { CanEndEntry writer.old }
+        requires may { MayBegin W.contents writer.old self.old }
         ensures same_writer { sink_name writer.new ≡ sink_name writer.old }
-        ensures nothing_written { sink writer.new ≡ sink writer.old }
         ensures term { OnOk result (string_bytes self.new.term ≡ term.now) }
         ensures told { (before : Option (List ℕ)) (told : Told)
-            → WasTold W.contents before writer.old told → IsClosable told
+            → HasGathered W.contents before writer.old self.old told → IsClosable told
             → OnOk result (BeginsEntry W.contents before writer.new told
-            (string_bytes self.old.term) self.old.next term.now self.new.next) }
-        ensures error { IfErr result (λ error. error ≡ PutError.Memory) }
+            (string_bytes self.old.term) self.old.next term.now self.new) }
+        ensures front { (before : Option (List ℕ)) (told : Told)
+            → HasGathered W.contents before writer.old self.old told
+            → AppendsFront before (W.contents (sink writer.new)) (settled_front told) }
+        ensures error { IfErr result (λ error. (error ≡ PutError.Write)
+            ⊎ (error ≡ PutError.Memory)) }
     {
+        self.send(writer)?;
         writer.term(term)?;
         self.term.clear();
         self.term.push_str(term)?;
         self.next = 0;
+        Ok(())
+    }
+
+    /// Tells the writer what was gathered, where it has 64 KiB or more.
+    ///
+    /// `Write` where a write is refused, and `Memory` where memory is.
+    #[inline]
+    pub(crate) fn send_if_full<W: Write>(
+        &mut self,
+        writer: &mut IndexWriter<'_, W>,
+    ) -> Result<(), PutError>
+        requires gathered { HasGatheredSome W.contents writer.old self.old }
+        ensures same_writer { sink_name writer.new ≡ sink_name writer.old }
+        ensures same_term { self.new.term ≡ self.old.term }
+        ensures same_next { self.new.next ≡ self.old.next }
+        ensures told { (before : Option (List ℕ)) (told : Told)
+            → HasGathered W.contents before writer.old self.old told
+            → OnOk result (HasGathered W.contents before writer.new self.new told) }
+        ensures front { (before : Option (List ℕ)) (told : Told)
+            → HasGathered W.contents before writer.old self.old told
+            → AppendsFront before (W.contents (sink writer.new)) (settled_front told) }
+        ensures error { IfErr result (λ error. (error ≡ PutError.Write)
+            ⊎ (error ≡ PutError.Memory)) }
+    {
+        if self.list.len() < FULL {
+            return Ok(());
+        }
+        self.send(writer)
+    }
+
+    /// Tells the writer what was gathered. Its list is empty then.
+    ///
+    /// `Write` where a write is refused, and `Memory` where memory is.
+    pub(crate) fn send<W: Write>(&mut self, writer: &mut IndexWriter<'_, W>) -> Result<(), PutError>
+        requires gathered { HasGatheredSome W.contents writer.old self.old }
+        ensures same_writer { sink_name writer.new ≡ sink_name writer.old }
+        ensures same_term { self.new.term ≡ self.old.term }
+        ensures same_next { self.new.next ≡ self.old.next }
+        ensures nothing { OnOk result (HasNothing self.new) }
+        ensures told { (before : Option (List ℕ)) (told : Told)
+            → HasGathered W.contents before writer.old self.old told
+            → OnOk result (WasTold W.contents before writer.new told) }
+        ensures front { (before : Option (List ℕ)) (told : Told)
+            → HasGathered W.contents before writer.old self.old told
+            → AppendsFront before (W.contents (sink writer.new)) (settled_front told) }
+        ensures error { IfErr result (λ error. (error ≡ PutError.Write)
+            ⊎ (error ≡ PutError.Memory)) }
+    {
+        if self.documents == 0 {
+            return Ok(());
+        }
+        writer.list(self.documents, self.next, &self.list)?;
+        self.list.clear();
+        self.documents = 0;
         Ok(())
     }
 }

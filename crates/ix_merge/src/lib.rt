@@ -3,13 +3,15 @@
 #![tactic(auto)]
 
 mod any_source;
+mod bracket;
 mod concatenation;
-mod contender;
 mod entry;
 mod index_head;
 mod index_source;
+mod leaf_order;
 mod merge_error;
 mod overview;
+mod rank;
 mod terms;
 mod tournament;
 mod turn;

@@ -1,20 +1,21 @@
 //! The merging of sources, term by term.
-ghost use Rattle.std.specs.Prelude.{◌≡◌, ◌≤◌, ◌*◌, ◌^◌, ℕ, List, Option, [], All, IfErr, IfOk, OnErr, OnOk, is_some, length, map, string_bytes, ◌+◌};
+ghost use Rattle.std.specs.Prelude.{◌≡◌, ◌≤◌, ◌^◌, ℕ, List, Option, [], All, IfErr, IfOk, OnErr, OnOk, is_some, length, map, ◌+◌};
 ghost use Rattle.ix_file.specs.Told.{Told, entries_of};
 ghost use Rattle.ix_file.specs.Writers.{WasTold, sink, sink_name};
 ghost use Rattle.ix_run.specs.Sources.{IsUnread, KeepsFaults};
-ghost use Rattle.ix_merge.specs.Contenders.{AreLeaves};
-ghost use Rattle.ix_merge.specs.Keys.{key_of};
+ghost use Rattle.ix_merge.specs.Gathered.{IsNewEntry};
 ghost use Rattle.ix_merge.specs.Merged.{HasMergedSome};
 ghost use Rattle.ix_merge.specs.Merging.{AreApart, IsRefusalAt, IsRefusalOf, KeepFaults, TellsAll, WasToldNoTerm};
 ghost use Rattle.ix_merge.specs.Rows.{tokens_under};
 ghost use Rattle.ix_merge.specs.Starting.{HasStarted, HaveStarted};
+ghost use Rattle.ix_merge.specs.Tournaments.{AreLeaves, IsNew, ends_of, keys_of};
 
 use crate::MergeError;
-use crate::contender::Contender;
+use crate::bracket::play_all;
 use crate::entry::EntryAtHand;
-use crate::tournament::{end, first_of, play_again, play_all};
-use crate::turn::take_turn;
+use crate::rank::rank_of;
+use crate::tournament::Tournament;
+use crate::turn::{put_error, take_turn};
 use ix_file::IndexWriter;
 use ix_run::Source;
 use std::alloc::Global;
@@ -45,25 +46,22 @@ pub(crate) fn merge_terms<S: Source, W: Write>(
         (W.contents (sink writer.new))) }
     ensures refused { IfErr result (IsRefusalOf S.faults sources.old) }
 {
-    let Some(nodes) = sources.len().checked_mul(2) else {
-        return Err(MergeError::Memory);
-    };
-    let Ok(mut tree) = vec![in alloc; Contender::none(); nodes] else {
+    let Ok(mut tournament) = Tournament::new(alloc, sources) else {
         return Err(MergeError::Memory);
     };
     let mut entry = EntryAtHand::none(alloc);
-    merge_by(sources, &mut tree, &mut entry, writer)
+    merge_by(sources, &mut tournament, &mut entry, writer)
 }
 
-/// The same, with room for the nodes of a tournament, twice as many as there are sources, and an entry that was not begun.
+/// The same, with a new tournament of the sources, and no entry at hand yet.
 fn merge_by<S: Source, W: Write>(
     sources: &mut [S],
-    tree: &mut [Contender],
+    tournament: &mut Tournament,
     entry: &mut EntryAtHand,
     writer: &mut IndexWriter<'_, W>,
 ) -> Result<(), MergeError<S::Error>>
-    requires sized { length tree.old ≡ 2 * length sources.old }
-    requires none { string_bytes entry.old.term ≡ [] }
+    requires new { IsNew (length sources.old) (ends_of S.heading sources.old) tournament.old }
+    requires none { IsNewEntry entry.old }
     requires unread { All (IsUnread S.gives) sources.old }
     requires apart { AreApart (map S.heading sources.old) }
     requires few { tokens_under (map S.heading sources.old) ≤ 2 ^ 28 }
@@ -78,37 +76,41 @@ fn merge_by<S: Source, W: Write>(
         (W.contents (sink writer.new))) }
     ensures refused { IfErr result (IsRefusalOf S.faults sources.old) }
 {
-    begin_all(sources, tree)?;
-    play_all(sources, tree);
-    while let Some(place) = first_of(tree) {
-        let leaf = sources.len() + place;
+    begin_all(sources, tournament.inner, &mut tournament.ranks)?;
+    play_all(&mut tournament.ranks, tournament.inner);
+    while let Some(place) = tournament.first(sources) {
+        let again = tournament.is_again();
         let source = &mut sources[place];
-        let more = take_turn(place, source, entry, writer)?;
-        tree[leaf] = Contender::of(place, source, more, tree[leaf].end());
-        play_again(sources, tree, leaf);
+        let more = take_turn(place, again, source, entry, writer)?;
+        let rank = rank_of(source, more);
+        tournament.go_on(sources, rank);
     }
-    Ok(())
+    match entry.send(writer) {
+        Ok(()) => Ok(()),
+        Err(error) => Err(put_error(error)),
+    }
 }
 
-/// Reads the first term of each source, and sets the leaves of a tournament.
+/// Reads the first term of each source, and sets the leaves of a tournament, which stand behind `inner` other nodes.
 fn begin_all<S: Source>(
     sources: &mut [S],
-    tree: &mut [Contender],
+    inner: usize,
+    ranks: &mut [u128],
 ) -> Result<(), MergeError<S::Error>>
-    requires sized { length tree.old ≡ 2 * length sources.old }
+    requires room { inner + length sources.old ≤ length ranks.old }
+    requires none { All (λ rank. rank ≡ 2 ^ 120) ranks.old }
     requires unread { All (IsUnread S.gives) sources.old }
     ensures started { OnOk result
         (HaveStarted S.heading S.current S.yields S.gives sources.old sources.new) }
-    ensures leaves { OnOk result (AreLeaves (map (key_of S.heading S.current) sources.new)
-        tree.new) }
+    ensures leaves { OnOk result (AreLeaves (keys_of S.heading S.current sources.new)
+        ranks.new inner) }
     ensures no_more_faults { OnOk result (KeepFaults S.faults sources.old sources.new) }
     ensures refused { IfErr result (IsRefusalOf S.faults sources.old) }
 {
     for place in 0..sources.len() {
-        let leaf = sources.len() + place;
         let source = &mut sources[place];
         let more = begin_source(place, source)?;
-        tree[leaf] = Contender::of(place, source, more, end(source));
+        ranks[inner + place] = rank_of(source, more);
     }
     Ok(())
 }

@@ -1,9 +1,10 @@
-//! A source's turn in a merge: its term at hand is told, with its documents, and its next term is read.
-ghost use Rattle.std.specs.Prelude.{◌≡◌, ◌≢◌, ◌+◌, ℕ, List, Option, IfOk, IfErr, OnOk, OnErr, IsSome, is_some, string_bytes};
+//! A source's turn in a merge: its term at hand is told or gathered, with its documents, and its next term is read.
+ghost use Rattle.std.specs.Prelude.{◌≡◌, ◌≢◌, ◌+◌, ℕ, List, Option, Some, IfOk, IfErr, OnOk, OnErr, IsSome, IsTrue, is_some, string_bytes};
 ghost use Rattle.ix_text.specs.Parts.{DictionaryEntry};
 ghost use Rattle.ix_file.specs.Told.{Told};
-ghost use Rattle.ix_file.specs.Writers.{WasTold, sink_name};
+ghost use Rattle.ix_file.specs.Writers.{sink_name};
 ghost use Rattle.ix_run.specs.Sources.{KeepsFaults};
+ghost use Rattle.ix_merge.specs.Gathered.{HasGathered};
 ghost use Rattle.ix_merge.specs.Merging.{IsOfWriter, IsRefusalAt, told_of_list};
 ghost use Rattle.ix_merge.specs.Turns.{HasToldSome, HasTurned, MayTurn, MayTurnSomehow};
 
@@ -13,29 +14,36 @@ use ix_file::{IndexWriter, PutError};
 use ix_run::{ListError, Source};
 use std::io::Write;
 
-/// Tells the term at hand of a source, with the documents that it has of it, and goes on to the source's next term.
-/// False: there is none. `place` is where the source stands among those that are merged.
+/// Gathers the term at hand of a source in the entry at hand, with the documents that it has of it, and goes on to the
+/// source's next term. False: there is none. The writer is told what was gathered before where the term is another one,
+/// and all of it where it has 64 KiB or more. `place` is where the source stands among those that are merged. `again`:
+/// the caller knows that the entry at hand is of the source's term.
+///
+/// `Source(place, error)` where the source refuses a call, `Write` where a write is refused, and `Memory` where memory
+/// is.
 pub(crate) fn take_turn<S: Source, W: Write>(
     place: usize,
+    again: bool,
     source: &mut S,
     entry: &mut EntryAtHand,
     writer: &mut IndexWriter<'_, W>,
 ) -> Result<bool, MergeError<S::Error>>
     requires at_hand { IsSome (S.current source.old) }
+    requires again { IsTrue again → S.current source.old ≡ Some (string_bytes entry.old.term) }
     requires may { MayTurnSomehow S.heading S.current S.gives W.contents source.old
-        (string_bytes entry.old.term) entry.old.next writer.old }
+        entry.old writer.old }
     ensures same_writer { sink_name writer.new ≡ sink_name writer.old }
     ensures heading { S.heading source.new ≡ S.heading source.old }
     ensures more { IfOk result (λ more. more ≡ is_some (S.current source.new)) }
     ensures turned { (before : Option (List ℕ)) (told : Told) (given : List DictionaryEntry)
-        → WasTold W.contents before writer.old told
+        → HasGathered W.contents before writer.old entry.old told
         → MayTurn S.heading S.current S.gives source.old given told
         (string_bytes entry.old.term) entry.old.next
         → OnOk result (HasTurned S.heading S.current S.yields S.gives W.contents before
         source.old source.new given told (string_bytes entry.old.term) entry.old.next
-        writer.new (string_bytes entry.new.term) entry.new.next) }
+        writer.new entry.new) }
     ensures some { (before : Option (List ℕ)) (told : Told) (given : List DictionaryEntry)
-        → WasTold W.contents before writer.old told
+        → HasGathered W.contents before writer.old entry.old told
         → MayTurn S.heading S.current S.gives source.old given told
         (string_bytes entry.old.term) entry.old.next
         → OnErr result (HasToldSome S.heading S.current W.contents before source.old given told
@@ -43,18 +51,18 @@ pub(crate) fn take_turn<S: Source, W: Write>(
     ensures no_more_faults { OnOk result (KeepsFaults S.faults source.old source.new) }
     ensures refused { IfErr result (IsRefusalAt place (S.faults source.old)) }
 {
-    if let Err(error) = entry.begin(source.term(), writer) {
+    if let Err(error) = entry.begin(again, source.term(), writer) {
         return Err(put_error(error));
     }
-    entry.list.clear();
     let listed = match source.take_list(entry.next, &mut entry.list) {
         Ok(listed) => listed,
         Err(error) => return Err(list_error(place, error)),
     };
-    if let Err(error) = writer.list(listed.documents, listed.next, &entry.list) {
+    entry.documents += listed.documents;
+    entry.next = listed.next;
+    if let Err(error) = entry.send_if_full(writer) {
         return Err(put_error(error));
     }
-    entry.next = listed.next;
     source
         .next_term()
         .map_err(|error| MergeError::Source(place, error))

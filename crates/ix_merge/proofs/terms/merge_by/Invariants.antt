@@ -1,9 +1,8 @@
-use Rattle.std.proofs.Common.{◌≡◌, ℕ, ◌-◌, ◌*◌, ◌^◌, List, [], Option, map, length, string_bytes}
+use Rattle.std.proofs.Common.{◌≡◌, ℕ, ◌+◌, ◌-◌, ◌*◌, ◌^◌, List, [], Option, map, length, string_bytes}
 use Rattle.ix_file.specs.Told.{Told, entries_of}
 use Rattle.ix_file.specs.Writers.{WasTold, sink_name}
-use Rattle.ix_merge.specs.Contenders.{IsContest}
-use Rattle.ix_merge.specs.Keys.{key_of}
 use Rattle.ix_merge.specs.Merging.{KeepFaults}
+use Rattle.ix_merge.specs.Tournaments.{IsContest, ends_of, keys_of}
 use Rattle.ix_merge.proofs.Behind.{AreBehind}
 use Rattle.ix_merge.proofs.MergingSteps.{IsMerging}
 use Rattle.ix_merge.proofs.terms.merge_by.Given as goal
@@ -14,11 +13,11 @@ invariant-loop-place g l = record {
   headed : map g.S.Source.heading l.sources ≡ map g.S.Source.heading l.fn.sources;
   no_more_faults : KeepFaults g.S.Source.faults l.fn.sources l.sources;
   same_writer : sink_name l.writer ≡ sink_name l.fn.writer;
-  contest : IsContest (map (key_of g.S.Source.heading g.S.Source.current) l.sources) l.tree;
+  contest : IsContest (keys_of g.S.Source.heading g.S.Source.current l.sources) (ends_of g.S.Source.heading l.sources) (string_bytes l.entry.term) l.tournament;
   behind : AreBehind g.S.Source.heading g.S.Source.current (string_bytes l.entry.term) l.entry.next l.sources;
   merging : (before : Option (List ℕ)) (told : Told) → WasTold g.W.Write.contents before l.fn.writer told → entries_of told ≡ []
-      → IsMerging g.S.Source.heading g.S.Source.current g.S.Source.yields g.S.Source.gives g.W.Write.contents l.fn.sources l.sources before told l.writer (string_bytes l.entry.term) l.entry.next;
+      → IsMerging g.S.Source.heading g.S.Source.current g.S.Source.yields g.S.Source.gives g.W.Write.contents l.fn.sources l.sources before told l.writer l.entry;
 }
 
 abbrev pub decreases-loop-place : goal.decreases-loop-place
-decreases-loop-place g l = 15 * 2 ^ 28 - l.writer.sections.postings
+decreases-loop-place g l = 15 * 2 ^ 28 - (l.writer.sections.postings + length l.entry.list.items)
