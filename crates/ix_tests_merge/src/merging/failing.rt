@@ -104,12 +104,13 @@ fn reads_refused_at_each_byte(rt: HostRuntime) -> Result<(), Fail> {
 /// How many bytes a reader of many documents gives at a time.
 const READ: usize = 16_384;
 
-/// Some thousand documents.
+/// Some thousand documents, with a word whose list takes more than a merge gathers before it tells.
 fn documents(alloc: Global) -> Result<String, Fail> {
     let mut text = String::new(alloc);
     for number in 0u32..9000 {
-        let line = format!(in alloc; "n{number}\tx{} y w{number} y\n", number % 100)?;
+        let line = format!(in alloc; "n{number}\tx{} y w{number} y", number % 100)?;
         text.push_str(&line)?;
+        text.push_str(" y y y y y y y y y y y y\n")?;
     }
     Ok(text)
 }
