@@ -7,7 +7,7 @@ use Rattle.std.proofs.lemmas.Grind.{same_number_lists}
 use Rattle.std.proofs.lemmas.List.{get_or_past, get_or-drop, get_or-take, length-take}
 use Rattle.std.proofs.lemmas.List.Elements.{All-from_get_or, All-get_or}
 use Rattle.std.specs.Cmp.Lexicographic.{slice_cmp}
-use Rattle.std.specs.Int.{from_be_bytes, w64, w128}
+use Rattle.std.specs.Int.{from_be_bytes, w32, w64, w128}
 use Rattle.std.specs.Ordering.{nat_cmp, ordering_then}
 use Rattle.ix_merge.specs.Ranks.{IsRank, lead, rank_of}
 
@@ -56,6 +56,11 @@ lead_halves first (suc count) text =
 pub lead_at_once : (bytes : List ℕ) → from_be_bytes w64 bytes ≡ lead 8 bytes
 unfolding lead
 lead_at_once bytes = omega arith
+
+-- and that of 4
+pub lead_of_four : (bytes : List ℕ) → from_be_bytes w32 bytes ≡ lead 4 bytes
+unfolding lead
+lead_of_four bytes = omega arith
 
 -- that of 14 bytes of 16, as these are read at once
 pub lead_wide : (bytes : List ℕ) → Bytes bytes → from_be_bytes w128 bytes / 2 ^ 16 ≡ lead 14 bytes

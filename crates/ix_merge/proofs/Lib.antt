@@ -1,3 +1,4 @@
+pub mod Backs
 pub mod Behind
 pub mod Closing
 pub mod Contests

@@ -1,5 +1,5 @@
 //! The rank of a source in a tournament: one number that tells most comparisons of its term at hand.
-ghost use Rattle.std.specs.Prelude.{◌≡◌, ◌≤◌, ◌↔◌, ◌%◌, ◌^◌, IsTrue, is_some, slice_index};
+ghost use Rattle.std.specs.Prelude.{◌≡◌, ◌<◌, ◌≤◌, ◌↔◌, ◌%◌, ◌^◌, IsTrue, is_some, length, slice_index};
 ghost use Rattle.ix_merge.specs.Ranks.{IsRank, StandsFor, lead};
 
 use ix_run::Source;
@@ -12,10 +12,18 @@ const WIDE: usize = 16;
 
 const TAIL_WORTH: u128 = 1 << 16;
 
-// how many of a shorter one, and what a number of these counts in a lead
-const FRONT: usize = 8;
+// what the bytes behind the first eight count there
+const BACK_WORTH: u64 = 1 << 16;
 
-const FRONT_WORTH: u128 = 1 << 48;
+// how many of a shorter term are read at once, twice, and what a number of these counts in a lead
+const HALF: usize = 8;
+
+const HALF_WORTH: u128 = 1 << 48;
+
+// the same of a still shorter one, in the number of eight bytes
+const QUARTER: usize = 4;
+
+const QUARTER_WORTH: u64 = 1 << 32;
 
 // what a lead counts in a rank above the number of bytes
 const LEAD_WORTH: u128 = 1 << 8;
@@ -64,18 +72,41 @@ fn lead_of(text: &[u8]) -> u128
     }
 }
 
-/// The same in two parts: many terms have but one.
+/// The same of a text of less than 16 bytes. Of one of eight or more the first eight are read, and the last eight, of
+/// which those that were read already fall out.
 #[inline]
 fn short_lead(text: &[u8]) -> u128
+    requires { length text.now < 16 }
     ensures { result ≡ lead 14 text.now }
 {
-    match text.first_chunk::<FRONT>() {
-        Some(front) => {
-            let high = u128::from(u64::from_be_bytes(*front)) * FRONT_WORTH;
-            high + u128::from(bytes_of(&text[FRONT..], SHOWN - FRONT))
-        }
-        None => u128::from(bytes_of(text, FRONT)) * FRONT_WORTH,
-    }
+    let Some(front) = text.first_chunk::<HALF>() else {
+        return u128::from(shorter_lead(text)) * HALF_WORTH;
+    };
+    let Some(back) = text.last_chunk::<HALF>() else {
+        unreachable!()
+    };
+    let missing = 8 * (2 * HALF - 1 - text.len());
+    let behind = u64::from_be_bytes(*back) << missing << 8;
+    let high = u128::from(u64::from_be_bytes(*front)) * HALF_WORTH;
+    high + u128::from(behind / BACK_WORTH)
+}
+
+/// The first eight bytes of a text of less than eight as a number, in the same way.
+#[inline]
+fn shorter_lead(text: &[u8]) -> u64
+    requires { length text.now < 8 }
+    ensures { result ≡ lead 8 text.now }
+{
+    let Some(front) = text.first_chunk::<QUARTER>() else {
+        return bytes_of(text, QUARTER) * QUARTER_WORTH;
+    };
+    let Some(back) = text.last_chunk::<QUARTER>() else {
+        unreachable!()
+    };
+    let missing = 8 * (2 * QUARTER - 1 - text.len());
+    let behind = u32::from_be_bytes(*back) << missing << 8;
+    let high = u64::from(u32::from_be_bytes(*front)) * QUARTER_WORTH;
+    high + u64::from(behind)
 }
 
 /// So many first bytes of a text as a number.

@@ -218,7 +218,7 @@ impl<'a> Model for TermWalk<'a> {
 
 impl<'a> TermWalk<'a> {
     /// The next term, and none behind the last.
-    #[inline]
+    #[inline(always)]
     pub(crate) fn next(&mut self) -> Option<CodedTerm<'a>>
         ensures { MatchOption result ((self.old ≡ []) × (self.new ≡ []))
             (λ term. self.old ≡ term_shown term ∷ self.new) }

@@ -1,9 +1,14 @@
 //! A run in memory as a source of its postings.
+ghost use Rattle.std.specs.Prelude.{◌≡◌, ◌<◌, ◌++◌};
+ghost use Rattle.ix_vbyte.specs.Code.{code_of};
+ghost use Rattle.ix_vbyte.specs.Walking.{IsCodedList};
 
 use crate::coded_terms::TermWalk;
 use ix_run_text::{ListError, Listed, RunHead, Source};
 use ix_text::Memory;
 use ix_vbyte::cursor::Postings;
+use ix_vbyte::{first_number, push_code_and};
+use std::alloc::AllocError;
 use std::marker::Model;
 
 /// The terms and the postings of a run in memory, in order; its lists stay where they are.
@@ -23,13 +28,28 @@ pub struct RunSource<'a> {
     postings: Postings<'a>,
     // the last document of that term, where one of its postings is left
     last: u32,
+    // the first gap of that term's list and the bytes behind its code, where none of its postings was taken; or else 0
+    gap: u32,
+    rest: &'a [u8],
+}
+
+/// The first gap of a coded list, and the bytes behind its code; 0 where the list has no posting.
+#[inline]
+fn first_gap(count: u32, list: &[u8]) -> (u32, &[u8])
+    requires { IsCodedList count list.now }
+    ensures { 0 < result.0 → list.now ≡ code_of result.0 ++ result.1.now }
+{
+    if list.is_empty() {
+        return (0, list);
+    }
+    first_number(list)
 }
 
 impl<'a> Model for RunSource<'a> {
     ghost use Rattle.std.specs.Prelude.{◌≡◌};
     ghost use Rattle.std.specs.Option.{option_copied};
     ghost use Rattle.ix_run_text.specs.Heads.{heading_of};
-    ghost use Rattle.ix_run.specs.RunSources.{EndsAt, IsAtPlace, SourceValue};
+    ghost use Rattle.ix_run.specs.RunSources.{BeginsBy, EndsAt, IsAtPlace, SourceValue};
 
     ghost Value = { SourceValue };
 
@@ -48,11 +68,13 @@ impl<'a> Model for RunSource<'a> {
           postings = source.postings;
         })
         × EndsAt source.last source.postings
-        × (source.first ≡ (heading_of source.head.now).first) };
+        × (source.first ≡ (heading_of source.head.now).first)
+        × BeginsBy source.gap source.rest.now source.postings };
 }
 
 impl<'a> RunSource<'a> {
-    ghost use Rattle.std.specs.Prelude.{◌≡◌, [], None};
+    ghost use Rattle.std.specs.Prelude.{◌≡◌, ◌+◌, ◌-◌, ◌^◌, ◌<◌, ◌++◌, [], None, OnErr, OnOk, length, vec_capacity, vec_len};
+    ghost use Rattle.ix_vbyte.specs.Postings.{ArePostings, list_bytes_from, shifted};
     ghost use Rattle.ix_run_text.specs.Heads.{heading_of};
     ghost use Rattle.ix_run.specs.RunSources.{HasGiven};
 
@@ -80,7 +102,27 @@ impl<'a> RunSource<'a> {
             term: None,
             postings: Postings::new(&[], 0),
             last: 0,
+            gap: 0,
+            rest: &[],
         }
+    }
+
+    /// Appends the postings that are left, of which there is one, as a list of a whole collection: the first gap is
+    /// taken from `next`. Where none was taken, no byte of the list is read anew.
+    #[inline]
+    fn push_left(&self, out: &mut Vec<u8>, next: u32) -> Result<(), AllocError>
+        requires some { 0 < length self.now.postings }
+        requires may { ArePostings next (2 ^ 32 - 1) (shifted self.now.heading.first self.now.postings) }
+        ensures ok { OnOk result (out.new.items ≡ out.old.items
+            ++ list_bytes_from next (shifted self.now.heading.first self.now.postings)) }
+        ensures err { OnErr result (out.new.items ≡ out.old.items) }
+        ensures full { OnErr result (vec_capacity out.old < vec_len out.old
+            + length (list_bytes_from next (shifted self.now.heading.first self.now.postings))) }
+    {
+        if self.gap > 0 {
+            return push_code_and(out, self.first + self.gap - next, self.rest);
+        }
+        self.postings.push_shifted(out, self.first, next)
     }
 }
 
@@ -131,11 +173,15 @@ impl<'a> Source for RunSource<'a> {
         let Some(term) = self.terms.next() else {
             self.term = None;
             self.postings = Postings::new(&[], 0);
+            self.gap = 0;
             return Ok(false);
         };
+        let (gap, rest) = first_gap(term.documents, term.list);
         self.term = Some(term.term);
         self.postings = Postings::new(term.list, term.documents);
         self.last = term.last;
+        self.gap = gap;
+        self.rest = rest;
         Ok(true)
     }
 
@@ -169,6 +215,7 @@ impl<'a> Source for RunSource<'a> {
         };
         posting.read_positions(positions)?;
         self.postings = postings;
+        self.gap = 0;
         Ok(Some(posting.document))
     }
 
@@ -199,14 +246,14 @@ impl<'a> Source for RunSource<'a> {
         if documents == 0 {
             return Ok(Listed { documents, next });
         }
-        let first = self.first;
-        if self.postings.push_shifted(out, first, next).is_err() {
+        if self.push_left(out, next).is_err() {
             return Err(ListError::Memory);
         }
         self.postings = Postings::new(&[], 0);
+        self.gap = 0;
         Ok(Listed {
             documents,
-            next: first + self.last + 1,
+            next: self.first + self.last + 1,
         })
     }
 

@@ -36,7 +36,6 @@ enum Place {
 #[derive(Drop)]
 pub struct RunReader<R> {
     alloc: Global,
-    head: RunHead,
     input: Input<R>,
     // how many tokens stand before each document
     tokens: TokenTable,
@@ -55,6 +54,8 @@ pub struct RunReader<R> {
     documents: u32,
     // how many bytes they have
     bytes: usize,
+    // last, since its stop terms take 4 KiB: so its first number lies beside what each list wants
+    head: RunHead,
     ghost table: { HasTokens tokens (map row_of_doc head.docs.items) } by { HasTokens-prop tokens (map row_of_doc head.docs.items) },
     ghost few_documents: { length (map row_of_doc head.docs.items) ≤ 2 ^ 28 },
     ghost few_tokens: { sum_by (λ row. row.tokens) (map row_of_doc head.docs.items) ≤ 2 ^ 28 },
@@ -120,7 +121,6 @@ impl<R: Read + Drop> RunReader<R> {
         let marks = TokenMarks::new(alloc, token_total(&head.docs))?;
         Ok(RunReader {
             alloc,
-            head,
             input,
             tokens,
             marks,
@@ -131,6 +131,7 @@ impl<R: Read + Drop> RunReader<R> {
             next: 0,
             documents: 0,
             bytes: 0,
+            head,
         })
     }
 

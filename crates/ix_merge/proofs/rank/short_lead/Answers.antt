@@ -1,27 +1,24 @@
-use Rattle.std.proofs.Common.{◌≡◌, ◌-◌, ◌<◌, [], List, ℕ, length, take, drop, ap, subst, ◌∙◌, arith}
-use Rattle.std.proofs.Math.ListN.{drop_of_length-le}
-use Rattle.std.proofs.Math.Seq.{take-length}
-use Rattle.std.proofs.lemmas.List.{length-drop}
+use Rattle.std.proofs.Common.{◌≡◌, ℕ, ◌-◌, ◌*◌, ◌<◌, ◌≤◌, length, drop, get_or, sym, ap, ◌∙◌, arith}
 use Rattle.ix_merge.specs.Ranks.{lead}
-use Rattle.ix_merge.proofs.Leads.{lead_at_once, lead_halves, lead_none, lead_of_front}
+use Rattle.ix_merge.proofs.Backs.{lead_padded, lead_part, read_behind}
+use Rattle.ix_merge.proofs.Leads.{lead_at_once, lead_halves, lead_of_front}
 use Rattle.ix_merge.proofs.rank.short_lead.Goals as goal
 
--- what is behind the first bytes, as a slice has it
-rest : (text : List ℕ) → take (length text - 8) (drop 8 text) ≡ drop 8 text
-rest text = subst (λ n. take n (drop 8 text) ≡ drop 8 text) (length-drop 8 text) (take-length (drop 8 text))
+pub returns-in_default : goal.returns-in_default
+returns-in_default c =
+    let short = c.in_default.ensures.cases in
+    ap (λ n. n * 281474976710656) (c.from.ensures ∙ c.shorter_lead.ensures) ∙ sym (lead_padded 8 6 c.args.text.now (omega arith))
 
-pub returns-in-Some : goal.returns-in-Some
-returns-in-Some c =
-    let parts = lead_halves 8 6 c.args.text.now in
+pub returns : goal.returns
+returns c =
+    let bytes : (place : ℕ) → get_or c.args.text.now place 0 < 256 = λ place. omega (arith, c.type_inv.text place) in
+    let some : 8 ≤ length c.args.text.now = c.in-Some-last_chunk.ensures.cases.0 in
     let front : lead 8 c.in-Some.front.now ≡ lead 8 c.args.text.now = ap (lead 8) c.in-Some.ensures.cases.same ∙ lead_of_front 8 8 c.args.text.now (omega arith) in
+    let back : lead 8 c.in-Some-last_chunk.back.now ≡ lead 8 (drop (length c.args.text.now - 8) c.args.text.now) =
+    ap (lead 8) c.in-Some-last_chunk.ensures.cases.1.same in
     let high = lead_at_once c.in-Some.front.now in
-    let same : lead 6 (take (length c.args.text.now - 8) (drop 8 c.args.text.now)) ≡ lead 6 (drop 8 c.args.text.now) = ap (lead 6) (rest c.args.text.now) in
-    omega (arith, c.from.ensures, c.bytes_of.ensures, c.from-high.ensures, c.from_be_bytes.ensures)
-
-pub returns-in-None : goal.returns-in-None
-returns-in-None c =
+    let low = lead_at_once c.in-Some-last_chunk.back.now in
+    let behind = read_behind 8 (15 - length c.args.text.now) c.args.text.now c.from_be_bytes.result bytes some (omega arith) (c.from_be_bytes.ensures ∙ low ∙ back) in
     let parts = lead_halves 8 6 c.args.text.now in
-    let short : length c.args.text.now < 8 = omega (arith, c.in-None.ensures.cases) in
-    let past : drop 8 c.args.text.now ≡ [] = drop_of_length-le c.args.text.now {i = 8} (omega arith) in
-    let zero : lead 6 (drop 8 c.args.text.now) ≡ 0 = ap (lead 6) past ∙ lead_none 6 in
-    omega (arith, c.from-in-None.ensures, c.bytes_of-in-None.ensures)
+    let part = lead_part c.args.text.now bytes in
+    omega (arith, c.from-high.ensures, c.from_be_bytes-2.ensures, c.from-2.ensures)

@@ -4,7 +4,7 @@ use Rattle.ix_run_text.specs.Heads.{heading_of}
 use Rattle.ix_run.specs.Runs.{TermValue, term_shown}
 use Rattle.ix_run.specs.RunSources.{HasGiven, HasLeft, IsAtEndOfTerm, IsAtPlace, SourceValue}
 use Rattle.ix_run_text.specs.Sources.{BeginsTerm, EndsTerms}
-use Rattle.ix_run.proofs.RunSources.{ends_begun, ends_none, first_list, no_postings, place_begun, place_ended, step_begun, step_ended}
+use Rattle.ix_run.proofs.RunSources.{begins_begun, begins_none, ends_begun, ends_none, first_list, no_postings, place_begun, place_ended, step_begun, step_ended}
 use Rattle.ix_run.proofs.run_source.RunSourceSource.next_term.Goals as goal
 
 -- what holds of the terms that are to be left holds of those that are
@@ -19,6 +19,7 @@ invariant_of-self c =
           c.in_default.ensures.0 none c.self.invariant.0),
       ends_none c.self.inside.last c.new-self-inside.result none,
       c.self.invariant.2,
+      begins_none c.self.inside.rest.now c.new-self-inside.result,
     )
 
 pub returns-in_default-clause-begun : goal.returns-in_default-clause-begun
@@ -33,6 +34,11 @@ returns-in_default-clause-begun c =
           (step_ended (heading_of c.self.inside.head.now) c.self.inside.terms (option_copied c.self.inside.term) c.self.inside.postings c.new-self-inside.result none
           (no_postings c.new-self-inside.result c.new-self-inside.ensures) c.self.invariant.0.none)),
     )
+
+pub first_gap-gap-requires : goal.first_gap-gap-requires
+first_gap-gap-requires c =
+    first_list c.self.inside.terms (term_shown c.in-Some.term) c.next.new.self c.self.invariant.0.given.rest c.in-Some.term.list.now
+    c.in-Some.ensures refl c.self.invariant.0.given.left
 
 pub new-self-inside-requires-2 : goal.new-self-inside-requires-2
 new-self-inside-requires-2 c =
@@ -49,6 +55,8 @@ invariant_of-self-2 c =
       ends_begun c.self.inside.terms (term_shown c.in-Some.term) c.next.new.self c.self.invariant.0.given.rest c.new-self-inside-2.result c.in-Some.term.last
           c.in-Some.ensures c.self.invariant.0.given.left (λ told are counted bytes. c.new-self-inside-2.ensures told are counted bytes) refl,
       c.self.invariant.2,
+      begins_begun c.self.inside.terms (term_shown c.in-Some.term) c.next.new.self c.self.invariant.0.given.rest c.new-self-inside-2.result c.first_gap-gap.result.0 c.first_gap-gap.result.1.now
+          c.in-Some.ensures c.self.invariant.0.given.left (λ told are counted bytes. c.new-self-inside-2.ensures told are counted bytes) c.first_gap-gap.ensures,
     )
 
 pub returns-clause-begun : goal.returns-clause-begun
