@@ -15,6 +15,7 @@ mod run_file;
 mod run_source;
 mod run_text;
 mod seen_words;
+mod short_lists;
 mod span;
 mod term_list;
 

@@ -1,13 +1,14 @@
 //! A run in memory as a source of its postings.
-ghost use Rattle.std.specs.Prelude.{◌≡◌, ◌<◌, ◌++◌};
+ghost use Rattle.std.specs.Prelude.{◌≡◌, ℕ, ◌<◌, ◌++◌};
 ghost use Rattle.ix_vbyte.specs.Code.{code_of};
 ghost use Rattle.ix_vbyte.specs.Walking.{IsCodedList};
 
 use crate::coded_terms::TermWalk;
+use crate::short_lists::push_behind;
 use ix_run_text::{ListError, Listed, RunHead, Source};
 use ix_text::Memory;
 use ix_vbyte::cursor::Postings;
-use ix_vbyte::{first_number, push_code_and};
+use ix_vbyte::first_number;
 use std::alloc::AllocError;
 use std::marker::Model;
 
@@ -33,10 +34,10 @@ pub struct RunSource<'a> {
     rest: &'a [u8],
 }
 
-/// The first gap of a coded list, and the bytes behind its code; 0 where the list has no posting.
+/// The first gap of a coded list, and the bytes behind its code; 0, which no gap is, where the list is empty.
 #[inline]
-fn first_gap(count: u32, list: &[u8]) -> (u32, &[u8])
-    requires { IsCodedList count list.now }
+fn first_gap(list: &[u8]) -> (u32, &[u8])
+    requires { (count : ℕ) × IsCodedList count list.now }
     ensures { 0 < result.0 → list.now ≡ code_of result.0 ++ result.1.now }
 {
     if list.is_empty() {
@@ -120,7 +121,7 @@ impl<'a> RunSource<'a> {
             + length (list_bytes_from next (shifted self.now.heading.first self.now.postings))) }
     {
         if self.gap > 0 {
-            return push_code_and(out, self.first + self.gap - next, self.rest);
+            return push_behind(out, self.first + self.gap - next, self.rest);
         }
         self.postings.push_shifted(out, self.first, next)
     }
@@ -176,7 +177,7 @@ impl<'a> Source for RunSource<'a> {
             self.gap = 0;
             return Ok(false);
         };
-        let (gap, rest) = first_gap(term.documents, term.list);
+        let (gap, rest) = first_gap(term.list);
         self.term = Some(term.term);
         self.postings = Postings::new(term.list, term.documents);
         self.last = term.last;

@@ -36,9 +36,10 @@ returns-in_default-clause-begun c =
     )
 
 pub first_gap-gap-requires : goal.first_gap-gap-requires
-first_gap-gap-requires c =
-    first_list c.self.inside.terms (term_shown c.in-Some.term) c.next.new.self c.self.invariant.0.given.rest c.in-Some.term.list.now
-    c.in-Some.ensures refl c.self.invariant.0.given.left
+first_gap-gap-requires c = (
+  c.in-Some.term.documents,
+  first_list c.self.inside.terms (term_shown c.in-Some.term) c.next.new.self c.self.invariant.0.given.rest c.in-Some.term.list.now c.in-Some.ensures refl c.self.invariant.0.given.left,
+)
 
 pub new-self-inside-requires-2 : goal.new-self-inside-requires-2
 new-self-inside-requires-2 c =
