@@ -1,5 +1,5 @@
 //! A run in memory as a source of its postings.
-ghost use Rattle.std.specs.Prelude.{◌≡◌, ℕ, ◌<◌, ◌++◌};
+ghost use Rattle.std.specs.Prelude.{◌≡◌, ℕ, ◌<◌, ◌++◌, length};
 ghost use Rattle.ix_vbyte.specs.Code.{code_of};
 ghost use Rattle.ix_vbyte.specs.Walking.{IsCodedList};
 
@@ -38,7 +38,8 @@ pub struct RunSource<'a> {
 #[inline]
 fn first_gap(list: &[u8]) -> (u32, &[u8])
     requires { (count : ℕ) × IsCodedList count list.now }
-    ensures { 0 < result.0 → list.now ≡ code_of result.0 ++ result.1.now }
+    ensures parts { 0 < result.0 → list.now ≡ code_of result.0 ++ result.1.now }
+    ensures none { result.0 ≡ 0 → length list.now ≡ 0 }
 {
     if list.is_empty() {
         return (0, list);

@@ -172,6 +172,65 @@ fn lists_of_the_sample(rt: HostRuntime) -> Result<(), Fail> {
     expect_lists(rt.alloc(), 4, 5, 4, "1 5 3; ", r"\x81\x81\x81")
 }
 
+/// What is left of the list at hand behind its next posting, appended: the number of its documents, and one above the last.
+fn list_behind_a_posting<S: Source>(
+    alloc: Global,
+    source: &mut S,
+    out: &mut Vec<u8>,
+) -> Result<String, Fail>
+where
+    S::Error: Drop,
+    requires at_hand { IsSome (S.current source.old) }
+    requires begun { (finished : List DictionaryEntry)
+        × ((entry : DictionaryEntry) × S.gives source.old finished (Some entry)) }
+{
+    let mut positions = Vec::new(alloc);
+    let Ok(Some(_)) = source.next_posting(&mut positions) else {
+        return Err("no posting")?;
+    };
+    let Ok(listed) = source.take_list(0, out) else {
+        return Err("refused")?;
+    };
+    Ok(format!(in alloc; "{} {}", listed.documents, listed.next)?)
+}
+
+/// The same of the second term of an unread source.
+fn second_list_behind_a_posting<S: Source>(
+    alloc: Global,
+    source: &mut S,
+    out: &mut Vec<u8>,
+) -> Result<String, Fail>
+where
+    S::Error: Drop,
+    requires { IsUnread S.gives source.old }
+{
+    let Ok(true) = source.next_term() else {
+        return Err("no term")?;
+    };
+    let Ok(true) = source.next_term() else {
+        return Err("no second term")?;
+    };
+    list_behind_a_posting(alloc, source, out)
+}
+
+/// Of the first two documents of the sample: the second term stands in both, in the second one at its first position.
+#[test]
+fn list_behind_its_first_posting(rt: HostRuntime) -> Result<(), Fail> {
+    let alloc = rt.alloc();
+    let want = bytes_of(alloc, r"\x82\x81\x81")?;
+    let run = run_of(alloc, SAMPLE, 0, 2, "", 0)?;
+    let mut list = Vec::new(alloc);
+    let told = second_list_behind_a_posting(alloc, &mut run.source(), &mut list)?;
+    expect("a run", &told, "1 2")?;
+    expect_bytes("a run", &list, &want)?;
+    let bytes = written(alloc, &run)?;
+    let mut reader = RunReader::open(alloc, bytes.as_slice())?;
+    let mut list = Vec::new(alloc);
+    let told = second_list_behind_a_posting(alloc, &mut reader, &mut list)?;
+    expect("its text", &told, "1 2")?;
+    expect_bytes("its text", &list, &want)
+}
+
 /// A run whose lists have postings of one position and of several, and gaps of one byte, two and three: of documents
 /// and of positions.
 fn run_of_shapes(alloc: Global) -> Result<Run, Fail> {

@@ -57,7 +57,7 @@ invariant_of-self-2 c =
           c.in-Some.ensures c.self.invariant.0.given.left (λ told are counted bytes. c.new-self-inside-2.ensures told are counted bytes) refl,
       c.self.invariant.2,
       begins_begun c.self.inside.terms (term_shown c.in-Some.term) c.next.new.self c.self.invariant.0.given.rest c.new-self-inside-2.result c.first_gap-gap.result.0 c.first_gap-gap.result.1.now
-          c.in-Some.ensures c.self.invariant.0.given.left (λ told are counted bytes. c.new-self-inside-2.ensures told are counted bytes) c.first_gap-gap.ensures,
+          c.in-Some.ensures c.self.invariant.0.given.left (λ told are counted bytes. c.new-self-inside-2.ensures told are counted bytes) c.first_gap-gap.ensures.parts,
     )
 
 pub returns-clause-begun : goal.returns-clause-begun
