@@ -114,7 +114,8 @@ impl<'a> RunSource<'a> {
     #[inline]
     fn push_left(&self, out: &mut Vec<u8>, next: u32) -> Result<(), AllocError>
         requires some { 0 < length self.now.postings }
-        requires may { ArePostings next (2 ^ 32 - 1) (shifted self.now.heading.first self.now.postings) }
+        requires may { ArePostings next (2 ^ 32 - 1)
+            (shifted self.now.heading.first self.now.postings) }
         ensures ok { OnOk result (out.new.items ≡ out.old.items
             ++ list_bytes_from next (shifted self.now.heading.first self.now.postings)) }
         ensures err { OnErr result (out.new.items ≡ out.old.items) }
