@@ -13,7 +13,7 @@ use std::marker::Model;
 use std::thread::Threads;
 
 /// Where each section behind POSTINGS begins, and where the last ends.
-#[derive(Clone, Copy, Debug, PartialEq, Eq)]
+#[derive(Clone, Copy)]
 struct Places {
     stop: usize,
     documents: usize,

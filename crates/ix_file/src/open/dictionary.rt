@@ -25,7 +25,7 @@ use std::alloc::{AllocError, Global};
 const MOST_SHARED: usize = GROUP;
 
 /// A term as it was read: its text, the number of its documents, and of the bytes of its list.
-#[derive(Debug, PartialEq, Eq, Drop)]
+#[derive(Drop)]
 pub(crate) struct ListedTerm {
     pub(crate) term: String,
     pub(crate) documents: u32,
@@ -215,7 +215,7 @@ fn join(buffer: Vec<u8>, front: &[u8], own: &[u8]) -> Result<String, OpenError>
 }
 
 /// A term as it was cut: the bytes that it shares with the term before, its own, and what follows it.
-#[derive(Clone, Copy, Debug, PartialEq, Eq)]
+#[derive(Clone, Copy)]
 struct TermCut<'a, 'b> {
     front: &'b [u8],
     own: &'a [u8],

@@ -15,7 +15,7 @@ use ix_text::MAX_TOKENS;
 use std::alloc::Global;
 
 /// A document: where its name stands in DOCS, how many bytes the name has, and how many tokens the document.
-#[derive(Clone, Copy, Debug, PartialEq, Eq)]
+#[derive(Clone, Copy)]
 pub(crate) struct Row {
     pub(crate) start: usize,
     pub(crate) size: u8,

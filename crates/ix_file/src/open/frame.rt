@@ -12,7 +12,7 @@ use ix_index_text::{
 use ix_text::MAX_DOCUMENTS;
 
 /// The version of an index text.
-#[derive(Clone, Copy, Debug, PartialEq, Eq)]
+#[derive(Clone, Copy)]
 pub(crate) enum Version {
     /// Version 1: each term of the dictionary stands whole.
     Plain,
@@ -21,7 +21,7 @@ pub(crate) enum Version {
 }
 
 /// The sections of an index text, each where it stands.
-#[derive(Clone, Copy, Debug, PartialEq, Eq)]
+#[derive(Clone, Copy)]
 pub(crate) struct FileSections<'a> {
     pub(crate) postings: &'a [u8],
     pub(crate) stop: &'a [u8],
@@ -31,7 +31,7 @@ pub(crate) struct FileSections<'a> {
 }
 
 /// An index text cut by its trailer, and how many documents and terms that says there are.
-#[derive(Clone, Copy, Debug, PartialEq, Eq)]
+#[derive(Clone, Copy)]
 pub(crate) struct Frame<'a> {
     pub(crate) version: Version,
     pub(crate) sections: FileSections<'a>,
@@ -76,7 +76,7 @@ pub(crate) fn cut(bytes: &[u8]) -> Result<Frame<'_>, OpenError>
 }
 
 /// The parts of a frame: its marks, and between them the sections, their lengths and the counts.
-#[derive(Clone, Copy, Debug, PartialEq, Eq)]
+#[derive(Clone, Copy)]
 struct Parts<'a> {
     mark: &'a [u8],
     body: &'a [u8],

@@ -27,7 +27,7 @@ use std::thread::Threads;
 
 /// A gram: where it stands in GRAMS and how many bytes it has, how many terms have it, and where in GRAMS the gaps
 /// of their numbers stand and how many bytes these take.
-#[derive(Clone, Copy, Debug, PartialEq, Eq)]
+#[derive(Clone, Copy)]
 pub(crate) struct GramRow {
     pub(crate) start: usize,
     pub(crate) size: u8,

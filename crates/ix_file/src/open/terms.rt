@@ -6,7 +6,7 @@ use std::alloc::{AllocError, Global};
 use std::marker::Model;
 
 /// Where the list of a term stands in POSTINGS, how many bytes it has, and of how many documents it is.
-#[derive(Clone, Copy, Debug, PartialEq, Eq)]
+#[derive(Clone, Copy)]
 pub(crate) struct ListPlace {
     pub(crate) start: usize,
     pub(crate) size: u32,

@@ -1,5 +1,5 @@
 -- A number that stands first in as many bytes as it may have is the one that is read.
-use Rattle.std.proofs.Common.{arith}
+use Rattle.std.proofs.Common.{arith, rules}
 use Rattle.std.proofs.lemmas.Result.{err_from_is_err_and}
 use Rattle.ix_run_text.specs.Inputs.{known_left}
 use Rattle.ix_run_text.proofs.SpelledLemmas.{code_accepted, code_refused}
@@ -18,3 +18,7 @@ returns-then-number-eq0-clause-accepted g c number rest some fits short e =
 pub returns-clause-accepted : goal.returns-clause-accepted
 returns-clause-accepted g c number rest some fits short e =
     code_accepted (known_left g.R.Read.remaining c.args.input.now) (known_left g.R.Read.remaining c.code.new.self) rest c.in_ok-number.number number c.in_ok-number.ensures.taken e
+
+-- The check finds it too; with an answer a wrong body that falls here is refused sooner.
+pub returns-then-number-eq0-clause-some : goal.returns-then-number-eq0-clause-some
+returns-then-number-eq0-clause-some g c = search rules

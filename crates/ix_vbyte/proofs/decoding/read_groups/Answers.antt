@@ -1,5 +1,5 @@
 use Rattle.std.proofs.Common.{rules}
-use Rattle.ix_vbyte.proofs.Fronts.{read_more, read_code, read_big}
+use Rattle.ix_vbyte.proofs.Fronts.{read_more, read_code, read_big, reads}
 use Rattle.ix_vbyte.proofs.decoding.read_groups.Goals as goal
 
 pub returns-then-number : goal.returns-then-number
@@ -10,3 +10,11 @@ returns-then-byte-ge128 c = search (rules, read_code)
 
 pub loop-place-preserved : goal.loop-place-preserved
 loop-place-preserved c = search (rules, read_more)
+
+-- The check finds it too; with an answer a wrong body that falls here is refused sooner.
+pub returns : goal.returns
+returns c = search (rules, reads)
+
+-- The check finds it too; with an answer a wrong body that falls here is refused sooner.
+pub loop-place-init : goal.loop-place-init
+loop-place-init c = search (rules, reads)

@@ -1,4 +1,5 @@
 use Rattle.std.proofs.Common.{◌<◌, [], length, sym, ap, ◌∙◌, arith}
+use Rattle.std.proofs.lemmas.Grind.{common_steps}
 use Rattle.std.proofs.lemmas.Bool.Decides.{nat_tests}
 use Rattle.std.proofs.lemmas.List.{append-nil}
 use Rattle.std.proofs.lemmas.Result.{err_from_is_err_and}
@@ -68,3 +69,7 @@ returns-then-not-is_empty-clause-refused c texts e f =
     let five = first_of_cut _ _ _ _ _ texts.grams [] [] g.small g.found.0 g.found.1 (four.rest_is ∙ sym (append-nil texts.grams)) (four.more_is ∙ sym (append-nil (eight (length texts.grams)))) in
     let some : 0 < length c.in_ok-grams.body.now = grind (arith, nat_tests, c.is_empty.ensures, c.if-not-is_empty.true) in
     omega (arith, some, ap length five.rest_is)
+
+-- The check finds it too; with an answer a wrong body that falls here is refused sooner.
+pub returns-clause-found : goal.returns-clause-found
+returns-clause-found c = grind (arith, common_steps)

@@ -1,4 +1,4 @@
-use Rattle.std.proofs.Common.{◌||◌, not, arith}
+use Rattle.std.proofs.Common.{◌||◌, not, arith, rules}
 use Rattle.ix_file.proofs.ClaimLemmas.{marked_more}
 use Rattle.ix_file.proofs.PositionReading.{go_on_behind, read_more, read_within}
 use Rattle.ix_file.specs.declared.open.claims.Claims.TheVariants.{Marked}
@@ -24,3 +24,7 @@ loop-place-preserved c =
           coded (c.loop-place.invariant.goes_on positions rest are);
       room = omega arith;
     }
+
+-- The check finds it too; with an answer a wrong body that falls here is refused sooner.
+pub loop-place-init : goal.loop-place-init
+loop-place-init c = search rules

@@ -1,4 +1,4 @@
-use Rattle.std.proofs.Common.{List, ℕ, map, ap, refl, ◌∙◌, arith}
+use Rattle.std.proofs.Common.{List, ℕ, map, ap, refl, ◌∙◌, arith, rules}
 use Rattle.ix_text.specs.Terms.{term_of_word}
 use Rattle.ix_text.specs.TokenLists.{entry_of_term, token_list}
 use Rattle.ix_text.proofs.LawfulLemmas.{lawful_token_list}
@@ -35,3 +35,7 @@ returns-in_err-push-clause-lawful c = lawful_token_list c.args.stop.now c.args.t
 
 pub returns-clause-lawful : goal.returns-clause-lawful
 returns-clause-lawful c = lawful_token_list c.args.stop.now c.args.text.now c.utf8.text
+
+-- The check finds it too; with an answer a wrong body that falls here is refused sooner.
+pub returns-clause-count : goal.returns-clause-count
+returns-clause-count c = search rules

@@ -1,5 +1,5 @@
 -- Nothing is buffered at first, so that what is left is what the reader has.
-use Rattle.std.proofs.Common.{ℕ, List, [], Some, string_bytes, ap, subst, sym, ◌∙◌}
+use Rattle.std.proofs.Common.{ℕ, List, [], Some, string_bytes, ap, subst, sym, ◌∙◌, rules}
 use Rattle.std.proofs.lemmas.Result.{err_from_is_err_and}
 use Rattle.ix_run_text.specs.Heads.{Heading, heading_of}
 use Rattle.ix_run_text.specs.Inputs.{known_left}
@@ -45,3 +45,7 @@ returns-clause-faced g c first collection bytes is known =
           c.in_ok-head.ensures.lawful c.in_ok-marks.ensures.none
           (subst (λ (h : Heading). AreWhole h is.parts.entries) (sym found.0) (text_whole first collection bytes is)) found.1,
     )
+
+-- The check finds it too; with an answer a wrong body that falls here is refused sooner.
+pub invariant_of-result : goal.invariant_of-result
+invariant_of-result g c = search rules

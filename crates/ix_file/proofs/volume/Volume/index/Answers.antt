@@ -1,0 +1,10 @@
+use Rattle.std.proofs.Common.{rules}
+use Rattle.ix_file.proofs.volume.Volume.index.Goals as goal
+
+-- The check finds it too; with an answer a wrong body that falls here is refused sooner.
+pub new-requires : goal.new-requires
+new-requires c = search rules
+
+-- The check finds it too; with an answer a wrong body that falls here is refused sooner.
+pub returns : goal.returns
+returns c = search rules

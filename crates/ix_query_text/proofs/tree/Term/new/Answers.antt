@@ -1,0 +1,6 @@
+use Rattle.std.proofs.Common.{rules}
+use Rattle.ix_query_text.proofs.tree.Term.new.Goals as goal
+
+-- The check finds it too; with an answer a wrong body that falls here is refused sooner.
+pub returns : goal.returns
+returns c = search rules
