@@ -194,6 +194,22 @@ where
     Ok(format!(in alloc; "{} {}", listed.documents, listed.next)?)
 }
 
+/// Goes on to the next term, of which there is one.
+fn begin_term<S: Source>(source: &mut S) -> Result<(), Fail>
+where
+    S::Error: Drop,
+    requires { (finished : List DictionaryEntry)
+        × ((at_hand : Option DictionaryEntry) × S.gives source.old finished at_hand) }
+    ensures at_hand { OnOk result (IsSome (S.current source.new)) }
+    ensures begun { OnOk result ((finished : List DictionaryEntry)
+        × ((entry : DictionaryEntry) × S.gives source.new finished (Some entry))) }
+{
+    let Ok(true) = source.next_term() else {
+        return Err("no term")?;
+    };
+    Ok(())
+}
+
 /// The same of the second term of an unread source.
 fn second_list_behind_a_posting<S: Source>(
     alloc: Global,
@@ -204,12 +220,8 @@ where
     S::Error: Drop,
     requires { IsUnread S.gives source.old }
 {
-    let Ok(true) = source.next_term() else {
-        return Err("no term")?;
-    };
-    let Ok(true) = source.next_term() else {
-        return Err("no second term")?;
-    };
+    begin_term(source)?;
+    begin_term(source)?;
     list_behind_a_posting(alloc, source, out)
 }
 
