@@ -14,7 +14,6 @@ pub mod RunSizes
 pub mod RunSources
 pub mod SeenLemmas
 pub mod Sorting
-pub mod ShortRests
 pub mod SpanLemmas
 pub mod StretchMarks
 pub mod TermRows

@@ -15,7 +15,6 @@ mod run_file;
 mod run_source;
 mod run_text;
 mod seen_words;
-mod short_lists;
 mod span;
 mod term_list;
 

@@ -4,11 +4,10 @@ ghost use Rattle.ix_vbyte.specs.Code.{code_of};
 ghost use Rattle.ix_vbyte.specs.Walking.{IsCodedList};
 
 use crate::coded_terms::TermWalk;
-use crate::short_lists::push_behind;
 use ix_run_text::{ListError, Listed, RunHead, Source};
 use ix_text::Memory;
 use ix_vbyte::cursor::Postings;
-use ix_vbyte::first_number;
+use ix_vbyte::{first_number, push_code_and};
 use std::alloc::AllocError;
 use std::marker::Model;
 
@@ -123,7 +122,7 @@ impl<'a> RunSource<'a> {
             + length (list_bytes_from next (shifted self.now.heading.first self.now.postings))) }
     {
         if self.gap > 0 {
-            return push_behind(out, self.first + self.gap - next, self.rest);
+            return push_code_and(out, self.first + self.gap - next, self.rest);
         }
         self.postings.push_shifted(out, self.first, next)
     }

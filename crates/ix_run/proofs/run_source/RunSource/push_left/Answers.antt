@@ -40,7 +40,7 @@ returns-then-self-gt0-clause-ok c =
     let P : SourceValue → Type 0 = λ s. code_of (c.self.inside.first + c.self.inside.gap - c.args.next) ++ c.self.inside.rest.now ≡ list_bytes_from c.args.next (shifted s.heading.first s.postings) in
     let first : c.self.inside.first + c.self.inside.gap - c.args.next ≡ source.heading.first + 0 + c.self.inside.gap - c.args.next = let e = c.self.invariant.2 in omega arith in
     let spelled = subst P c.self.view_is (ap (λ n. code_of n ++ c.self.inside.rest.now) first ∙ is.spelled) in
-    subst (λ (bytes : List ℕ). OnOk c.push_behind.result (c.push_behind.new.out.items ≡ c.args.out.now.items ++ bytes)) spelled c.push_behind.ensures.ok
+    subst (λ (bytes : List ℕ). OnOk c.push_code_and.result (c.push_code_and.new.out.items ≡ c.args.out.now.items ++ bytes)) spelled c.push_code_and.ensures.ok
 
 pub returns-then-self-gt0-clause-full : goal.returns-then-self-gt0-clause-full
 returns-then-self-gt0-clause-full c =
@@ -52,4 +52,4 @@ returns-then-self-gt0-clause-full c =
     let P : SourceValue → Type 0 = λ s. code_of (c.self.inside.first + c.self.inside.gap - c.args.next) ++ c.self.inside.rest.now ≡ list_bytes_from c.args.next (shifted s.heading.first s.postings) in
     let first : c.self.inside.first + c.self.inside.gap - c.args.next ≡ source.heading.first + 0 + c.self.inside.gap - c.args.next = let e = c.self.invariant.2 in omega arith in
     let spelled = subst P c.self.view_is (ap (λ n. code_of n ++ c.self.inside.rest.now) first ∙ is.spelled) in
-    subst (λ (bytes : List ℕ). OnErr c.push_behind.result (vec_capacity c.args.out.now < vec_len c.args.out.now + length bytes)) spelled c.push_behind.ensures.full
+    subst (λ (bytes : List ℕ). OnErr c.push_code_and.result (vec_capacity c.args.out.now < vec_len c.args.out.now + length bytes)) spelled c.push_code_and.ensures.full
