@@ -5,7 +5,7 @@ use Rattle.std.proofs.lemmas.List.Elements.{All-weaker, Contains-push, Contains-
 use Rattle.std.proofs.lemmas.List.Kept.{AllPairs-from_increasing}
 use Rattle.std.proofs.lemmas.Option.{slice_get_within}
 use Rattle.std.proofs.lemmas.List.{length-map, take_more, length-take-le, get_or-take, get_or_default}
-use Rattle.std.specs.Prelude.{◌↔◌, All, Contains, Err, IfOk, IsTrue, Ok, Result, slice_get}
+use Rattle.std.specs.Prelude.{◌↔◌, All, Contains, IsTrue, slice_get}
 use Rattle.std.specs.List.Sorted.{IsStrictlyIncreasing}
 use Rattle.ix_gram.specs.Candidates.{AreCandidates, HasNoMatch}
 use Rattle.ix_gram.specs.Expanding.{AreMatches, IsMatch}
