@@ -2,6 +2,7 @@ pub mod CodedTerms
 pub mod Dictionaries
 pub mod DocumentEnds
 pub mod Errors
+pub mod Fronts
 pub mod HeldTerms
 pub mod Inverted
 pub mod PlaceSorts

@@ -1,5 +1,6 @@
 //! The terms of a run with their coded lists, close together in memory.
-ghost use Rattle.std.specs.Prelude.{◌≡◌, ◌+◌, ◌^◌, ◌<◌, [], ◌∷◌, ◌++◌, length, take, IfOk, IsTrue, MatchOption, OnErr, OnOk};
+ghost use Rattle.std.specs.Prelude.{◌≡◌, ◌+◌, ◌^◌, ◌<◌, [], ◌∷◌, ◌++◌, length, take, IfOk, IfSome, IsTrue, MatchOption, OnErr, OnOk};
+ghost use Rattle.ix_run.specs.Fronts.{IsFrontOf};
 ghost use Rattle.ix_run.specs.HeldTerms.{BeginsWithRow, BeginsWithShortCodes, ReadsRow, bytes_of_row};
 ghost use Rattle.ix_run.specs.Runs.{term_shown};
 
@@ -217,26 +218,28 @@ impl<'a> Model for TermWalk<'a> {
 }
 
 impl<'a> TermWalk<'a> {
-    /// The next term, and none behind the last.
+    /// The next term, with the bytes from its list on; none behind the last.
     #[inline(always)]
-    pub(crate) fn next(&mut self) -> Option<CodedTerm<'a>>
-        ensures { MatchOption result ((self.old ≡ []) × (self.new ≡ []))
-            (λ term. self.old ≡ term_shown term ∷ self.new) }
+    pub(crate) fn next(&mut self) -> Option<(CodedTerm<'a>, &'a [u8])>
+        ensures told { MatchOption result ((self.old ≡ []) × (self.new ≡ []))
+            (λ found. self.old ≡ term_shown found.0 ∷ self.new) }
+        ensures onward { IfSome result (λ found. IsFrontOf found.0.list.now found.1.now) }
     {
         if self.bytes.is_empty() {
             return None;
         }
         let (row, rest) = first_row(self.bytes);
-        let (text, rest) = rest.split_at(row.text as usize);
-        let (list, rest) = rest.split_at(row.list as usize);
+        let (text, onward) = rest.split_at(row.text as usize);
+        let (list, rest) = onward.split_at(row.list as usize);
         self.bytes = rest;
         // SAFETY: `push` got these bytes as text, and so the invariant has them.
         let term = unsafe { str::from_utf8_unchecked(text) };
-        Some(CodedTerm {
+        let coded = CodedTerm {
             term,
             documents: row.documents,
             last: row.last,
             list,
-        })
+        };
+        Some((coded, onward))
     }
 }

@@ -7,6 +7,7 @@ mod coded_terms;
 mod coding;
 mod dictionary;
 mod errors;
+mod front;
 mod inversion;
 mod place_sort;
 mod room;

@@ -1,13 +1,14 @@
 //! A run in memory as a source of its postings.
-ghost use Rattle.std.specs.Prelude.{◌≡◌, ℕ, ◌<◌, ◌++◌, length};
+ghost use Rattle.std.specs.Prelude.{◌≡◌, ℕ, ◌≤◌, ◌<◌, ◌++◌, length};
 ghost use Rattle.ix_vbyte.specs.Code.{code_of};
 ghost use Rattle.ix_vbyte.specs.Walking.{IsCodedList};
 
 use crate::coded_terms::TermWalk;
+use crate::front::Front;
 use ix_run_text::{ListError, Listed, RunHead, Source};
 use ix_text::Memory;
 use ix_vbyte::cursor::Postings;
-use ix_vbyte::{first_number, push_code_and};
+use ix_vbyte::first_number;
 use std::alloc::AllocError;
 use std::marker::Model;
 
@@ -30,7 +31,7 @@ pub struct RunSource<'a> {
     last: u32,
     // the first gap of that term's list and the bytes behind its code, where none of its postings was taken; or else 0
     gap: u32,
-    rest: &'a [u8],
+    rest: Front<'a>,
 }
 
 /// The first gap of a coded list, and the bytes behind its code; 0, which no gap is, where the list is empty.
@@ -39,6 +40,7 @@ fn first_gap(list: &[u8]) -> (u32, &[u8])
     requires { (count : ℕ) × IsCodedList count list.now }
     ensures parts { 0 < result.0 → list.now ≡ code_of result.0 ++ result.1.now }
     ensures none { result.0 ≡ 0 → length list.now ≡ 0 }
+    ensures within { length result.1.now ≤ length list.now }
 {
     if list.is_empty() {
         return (0, list);
@@ -70,7 +72,7 @@ impl<'a> Model for RunSource<'a> {
         })
         × EndsAt source.last source.postings
         × (source.first ≡ (heading_of source.head.now).first)
-        × BeginsBy source.gap source.rest.now source.postings };
+        × BeginsBy source.gap source.rest source.postings };
 }
 
 impl<'a> RunSource<'a> {
@@ -104,7 +106,7 @@ impl<'a> RunSource<'a> {
             postings: Postings::new(&[], 0),
             last: 0,
             gap: 0,
-            rest: &[],
+            rest: Front::none(),
         }
     }
 
@@ -122,7 +124,7 @@ impl<'a> RunSource<'a> {
             + length (list_bytes_from next (shifted self.now.heading.first self.now.postings))) }
     {
         if self.gap > 0 {
-            return push_code_and(out, self.first + self.gap - next, self.rest);
+            return self.rest.push_behind(out, self.first + self.gap - next);
         }
         self.postings.push_shifted(out, self.first, next)
     }
@@ -172,7 +174,7 @@ impl<'a> Source for RunSource<'a> {
         // It is never refused.
         ensures granted { IsOk result }
     {
-        let Some(term) = self.terms.next() else {
+        let Some((term, onward)) = self.terms.next() else {
             self.term = None;
             self.postings = Postings::new(&[], 0);
             self.gap = 0;
@@ -183,7 +185,7 @@ impl<'a> Source for RunSource<'a> {
         self.postings = Postings::new(term.list, term.documents);
         self.last = term.last;
         self.gap = gap;
-        self.rest = rest;
+        self.rest = Front::ending(onward, term.list.len(), rest.len());
         Ok(true)
     }
 

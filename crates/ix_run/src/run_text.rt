@@ -92,7 +92,7 @@ fn put_terms<W: Write>(out: &mut W, terms: &CodedTerms) -> Result<(), WriteRefus
         (flat_map value_bytes terms.now) }
 {
     let mut walk = terms.walk();
-    while let Some(term) = walk.next() {
+    while let Some((term, _)) = walk.next() {
         put_term(out, term)?;
     }
     Ok(())

@@ -14,7 +14,7 @@ overflow_add-self-inside c =
     let some : 0 < length source.postings = subst (λ (s : SourceValue). 0 < length s.postings) (sym c.self.view_is) c.requires.some in
     let may : ArePostings c.args.next (2 ^ 32 - 1) (shifted source.heading.first source.postings) =
     subst (λ (s : SourceValue). ArePostings c.args.next (2 ^ 32 - 1) (shifted s.heading.first s.postings)) (sym c.self.view_is) c.requires.may in
-    let is = counted_elsewhere c.self.inside.gap source.heading.first c.args.next c.self.inside.rest.now source.postings c.self.invariant.3 c.if-self-gt0.true some may in
+    let is = counted_elsewhere c.self.inside.gap source.heading.first c.args.next c.self.inside.rest source.postings c.self.invariant.3 c.if-self-gt0.true some may in
     let fits = is.fits in
     let first = c.self.invariant.2 in
     omega arith
@@ -25,7 +25,7 @@ overflow_sub-self-inside c =
     let some : 0 < length source.postings = subst (λ (s : SourceValue). 0 < length s.postings) (sym c.self.view_is) c.requires.some in
     let may : ArePostings c.args.next (2 ^ 32 - 1) (shifted source.heading.first source.postings) =
     subst (λ (s : SourceValue). ArePostings c.args.next (2 ^ 32 - 1) (shifted s.heading.first s.postings)) (sym c.self.view_is) c.requires.may in
-    let is = counted_elsewhere c.self.inside.gap source.heading.first c.args.next c.self.inside.rest.now source.postings c.self.invariant.3 c.if-self-gt0.true some may in
+    let is = counted_elsewhere c.self.inside.gap source.heading.first c.args.next c.self.inside.rest source.postings c.self.invariant.3 c.if-self-gt0.true some may in
     let low = is.low in
     let first = c.self.invariant.2 in
     omega arith
@@ -36,11 +36,11 @@ returns-then-self-gt0-clause-ok c =
     let some : 0 < length source.postings = subst (λ (s : SourceValue). 0 < length s.postings) (sym c.self.view_is) c.requires.some in
     let may : ArePostings c.args.next (2 ^ 32 - 1) (shifted source.heading.first source.postings) =
     subst (λ (s : SourceValue). ArePostings c.args.next (2 ^ 32 - 1) (shifted s.heading.first s.postings)) (sym c.self.view_is) c.requires.may in
-    let is = counted_elsewhere c.self.inside.gap source.heading.first c.args.next c.self.inside.rest.now source.postings c.self.invariant.3 c.if-self-gt0.true some may in
-    let P : SourceValue → Type 0 = λ s. code_of (c.self.inside.first + c.self.inside.gap - c.args.next) ++ c.self.inside.rest.now ≡ list_bytes_from c.args.next (shifted s.heading.first s.postings) in
+    let is = counted_elsewhere c.self.inside.gap source.heading.first c.args.next c.self.inside.rest source.postings c.self.invariant.3 c.if-self-gt0.true some may in
+    let P : SourceValue → Type 0 = λ s. code_of (c.self.inside.first + c.self.inside.gap - c.args.next) ++ c.self.inside.rest ≡ list_bytes_from c.args.next (shifted s.heading.first s.postings) in
     let first : c.self.inside.first + c.self.inside.gap - c.args.next ≡ source.heading.first + 0 + c.self.inside.gap - c.args.next = let e = c.self.invariant.2 in omega arith in
-    let spelled = subst P c.self.view_is (ap (λ n. code_of n ++ c.self.inside.rest.now) first ∙ is.spelled) in
-    subst (λ (bytes : List ℕ). OnOk c.push_code_and.result (c.push_code_and.new.out.items ≡ c.args.out.now.items ++ bytes)) spelled c.push_code_and.ensures.ok
+    let spelled = subst P c.self.view_is (ap (λ n. code_of n ++ c.self.inside.rest) first ∙ is.spelled) in
+    subst (λ (bytes : List ℕ). OnOk c.push_behind.result (c.push_behind.new.out.items ≡ c.args.out.now.items ++ bytes)) spelled c.push_behind.ensures.ok
 
 pub returns-then-self-gt0-clause-full : goal.returns-then-self-gt0-clause-full
 returns-then-self-gt0-clause-full c =
@@ -48,8 +48,8 @@ returns-then-self-gt0-clause-full c =
     let some : 0 < length source.postings = subst (λ (s : SourceValue). 0 < length s.postings) (sym c.self.view_is) c.requires.some in
     let may : ArePostings c.args.next (2 ^ 32 - 1) (shifted source.heading.first source.postings) =
     subst (λ (s : SourceValue). ArePostings c.args.next (2 ^ 32 - 1) (shifted s.heading.first s.postings)) (sym c.self.view_is) c.requires.may in
-    let is = counted_elsewhere c.self.inside.gap source.heading.first c.args.next c.self.inside.rest.now source.postings c.self.invariant.3 c.if-self-gt0.true some may in
-    let P : SourceValue → Type 0 = λ s. code_of (c.self.inside.first + c.self.inside.gap - c.args.next) ++ c.self.inside.rest.now ≡ list_bytes_from c.args.next (shifted s.heading.first s.postings) in
+    let is = counted_elsewhere c.self.inside.gap source.heading.first c.args.next c.self.inside.rest source.postings c.self.invariant.3 c.if-self-gt0.true some may in
+    let P : SourceValue → Type 0 = λ s. code_of (c.self.inside.first + c.self.inside.gap - c.args.next) ++ c.self.inside.rest ≡ list_bytes_from c.args.next (shifted s.heading.first s.postings) in
     let first : c.self.inside.first + c.self.inside.gap - c.args.next ≡ source.heading.first + 0 + c.self.inside.gap - c.args.next = let e = c.self.invariant.2 in omega arith in
-    let spelled = subst P c.self.view_is (ap (λ n. code_of n ++ c.self.inside.rest.now) first ∙ is.spelled) in
-    subst (λ (bytes : List ℕ). OnErr c.push_code_and.result (vec_capacity c.args.out.now < vec_len c.args.out.now + length bytes)) spelled c.push_code_and.ensures.full
+    let spelled = subst P c.self.view_is (ap (λ n. code_of n ++ c.self.inside.rest) first ∙ is.spelled) in
+    subst (λ (bytes : List ℕ). OnErr c.push_behind.result (vec_capacity c.args.out.now < vec_len c.args.out.now + length bytes)) spelled c.push_behind.ensures.full

@@ -15,7 +15,7 @@ invariant_of-self c =
           (sym c.again-postings.ensures ∙ c.in-Some.ensures.steps) some c.self.invariant.0,
       ends_next c.self.inside.last c.self.inside.postings c.next.new.self (c.in-Some.posting.document, c.in-Some.posting.positions) (sym c.again-postings.ensures ∙ c.in-Some.ensures.steps) c.self.invariant.1,
       c.self.invariant.2,
-      begins_none c.self.inside.rest.now c.next.new.self,
+      begins_none c.self.inside.rest c.next.new.self,
     )
 
 pub returns-clause-given : goal.returns-clause-given

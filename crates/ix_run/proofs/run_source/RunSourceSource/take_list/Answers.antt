@@ -43,7 +43,7 @@ invariant_of-self c =
           c.new-self-inside.result none c.requires.at_hand c.self.invariant.0,
       ends_none c.self.inside.last c.new-self-inside.result none,
       c.self.invariant.2,
-      begins_none c.self.inside.rest.now c.new-self-inside.result,
+      begins_none c.self.inside.rest c.new-self-inside.result,
     )
 
 pub returns-then-documents-eq0-clause-given : goal.returns-then-documents-eq0-clause-given
