@@ -184,19 +184,13 @@ pub spells_on : (before now : Option (List ℕ)) (old taken new : WriterSections
 spells_on before now old taken new refusal text spells e closes =
     subst (λ bytes. Spells before now bytes text) (sym (ap (λ v. v.items) closes.pending ∙ ap (λ s. s.pending.items) e)) spells
 
--- what is kept stays where only the grams were put in order
-pub ending_kept : (old new last : WriterSections) (told : Told) (ending : List ℕ) → IsClosed old told → IsEnding old (terms_of (entries_of told)) ending → KeepsTold new last → new ≡ record old { grams = new.grams } → (last.stop.items ++ last.documents.items ++ last.dictionary.bytes.items ++ ending ≡ old.stop.items ++ old.documents.items ++ old.dictionary.bytes.items ++ ending)
-ending_kept old new last told ending of is keeps e =
-    let stop : last.stop ≡ old.stop = keeps.front.stop ∙ ap (λ s. s.stop) e in
-    let documents : last.documents ≡ old.documents = keeps.front.documents ∙ ap (λ s. s.documents) e in
-    let dictionary : last.dictionary ≡ old.dictionary = keeps.dictionary ∙ ap (λ s. s.dictionary) e in
+-- what was kept stays, and the ending stands behind it
+pub ending_kept : (old last : WriterSections) (told : Told) (ending : List ℕ) → IsClosed old told → IsEnding old (terms_of (entries_of told)) ending → KeepsTold old last → (last.stop.items ++ last.documents.items ++ last.dictionary.bytes.items ++ ending ≡ old.stop.items ++ old.documents.items ++ old.dictionary.bytes.items ++ ending)
+ending_kept old last told ending of is keeps =
+    let stop : last.stop ≡ old.stop = keeps.front.stop in
+    let documents : last.documents ≡ old.documents = keeps.front.documents in
+    let dictionary : last.dictionary ≡ old.dictionary = keeps.dictionary in
     cc
-
--- and it is spelled on where the ending was made
-pub spells_ending : (before now : Option (List ℕ)) (old new : WriterSections) (text : List ℕ) → Spells before now old.pending.items text → new ≡ record old { grams = new.grams } → Spells before now new.pending.items text
-spells_ending before now old new text spells e =
-    let same : new.pending.items ≡ old.pending.items = ap (λ s. s.pending.items) e in
-    subst (λ bytes. Spells before now bytes text) (sym same) spells
 
 -- where the parts are those of a lawful collection, the whole text is one of it
 pub text_of_collection : (before now : Option (List ℕ)) (told : Told) (collection : Collection) → IsLawful collection → ArePartsOf collection (parts_of told) → IsFinished before now told → WritesIndexText before now collection

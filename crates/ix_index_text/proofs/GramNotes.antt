@@ -11,8 +11,7 @@ use Rattle.ix_vbyte.specs.Gaps.{Ascends, gaps_of, next_after}
 use Rattle.ix_vbyte.specs.Postings.{codes_of}
 use Rattle.ix_vbyte.proofs.Gaps.{Ascends-push, Ascends-wider, gaps_from-push, length-Ascends, next_after-push}
 use Rattle.ix_index_text.specs.Grams.{IsGramOfTerm}
-use Rattle.ix_index_text.specs.declared.writer.grams.Grams.{Grams}
-use Rattle.ix_index_text.specs.GramTables.{AddsTo, HoldsGrams, HoldsNumbers, HoldsRelation, IsListOf, ListsNumbers, Notes, gram_eq, text_of}
+use Rattle.ix_index_text.specs.GramTables.{AddsTo, HoldsNumbers, HoldsRelation, IsListOf, ListsNumbers, Notes, gram_eq, text_of}
 use Rattle.ix_index_text.specs.WindowPairs.{gram_of, pairs_of_term}
 use Rattle.ix_index_text.specs.declared.windows.Gram.{Gram}
 use Rattle.ix_index_text.specs.declared.writer.grams.GramList.{GramList}
@@ -263,7 +262,3 @@ module _ {S : Type 0} (lists : HashMap Gram GramList S) (terms : List (List ℕ)
 pub noted_more : {T E P Q : Type 0} (result : Result T E) → (P → Q) → OnOk result P → OnOk result Q
 noted_more (Ok value) f p = f p
 noted_more (Err error) f p = tt
-
--- the relation that a writer holds, by how many terms it has
-pub held_of : (grams : Grams) (terms : List (List ℕ)) → HoldsGrams grams terms → HoldsRelation grams.lists grams.terms (IsGramOfTerm terms)
-held_of grams terms held = subst (λ (top : ℕ). HoldsRelation grams.lists top (IsGramOfTerm terms)) (sym held.counted) held.related

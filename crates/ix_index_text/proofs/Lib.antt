@@ -15,5 +15,6 @@ pub mod SectionSizes
 pub mod SpellLemmas
 pub mod TellingLemmas
 pub mod TermPairs
+pub mod TermTexts
 pub mod TextLaws
 pub mod WindowSteps

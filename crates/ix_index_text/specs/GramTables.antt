@@ -1,5 +1,6 @@
--- What a writer holds of the grams of its terms: a coded list of the numbers of the terms for each gram.
-use Rattle.std.specs.Prelude.{◌≡◌, ℕ, ◌+◌, ◌^◌, ◌<◌, ◌==◌, ◌&&◌, ◌↔◌, ◌⊎◌, Bool, false, List, [], ◌∷◌, ◌++◌, flat_map, Option, MatchOption, length, encode_utf8_all, Contains, ⊤}
+-- What a writer holds of its terms, and of their grams: a coded list of the numbers of the terms for each gram.
+use Rattle.std.specs.Prelude.{◌≡◌, ℕ, ◌+◌, ◌^◌, ◌<◌, ◌==◌, ◌&&◌, ◌↔◌, ◌⊎◌, Bool, false, List, [], ◌∷◌, ◌++◌, map, flat_map, Option, MatchOption, length, string_bytes, encode_utf8_all, IsUtf8, All, Contains, ⊤}
+use Rattle.std.specs.List.{concat}
 use Rattle.std.specs.HashMap.{HashMap, get}
 use Rattle.std.specs.Ordering.{ordering_then, nat_cmp}
 use Rattle.std.specs.declared.cmp.Ordering.{Ordering}
@@ -8,7 +9,6 @@ use Rattle.ix_vbyte.specs.Code.{code_of}
 use Rattle.ix_vbyte.specs.Gaps.{Ascends, gaps_of, next_after}
 use Rattle.ix_vbyte.specs.Postings.{codes_of}
 use Rattle.ix_vbyte.specs.Texts.{counted}
-use Rattle.ix_index_text.specs.Grams.{IsGramOfTerm}
 use Rattle.ix_index_text.specs.declared.windows.Gram.{Gram}
 use Rattle.ix_index_text.specs.declared.writer.grams.GramList.{GramList}
 use Rattle.ix_index_text.specs.declared.writer.grams.Grams.{Grams}
@@ -54,11 +54,16 @@ pub record HoldsNumbers {S : Type 0} (lists : HashMap Gram GramList S) (top : �
 pub record HoldsRelation {S : Type 0} (lists : HashMap Gram GramList S) (top : ℕ) (relation : List ℕ → ℕ → Type 0) : Type 0 where
   pub each : (gram : Gram) → HoldsNumbers lists top relation gram
 
--- each gram of each of the terms is held with the term's number, and nothing else is
-pub record HoldsGrams (grams : Grams) (terms : List (List ℕ)) : Type 0 where
-  pub counted : grams.terms ≡ length terms
+-- These bytes are the texts of the terms, one behind another, and these numbers how many bytes each has.
+pub record AreTexts (texts sizes : List ℕ) (terms : List (List ℕ)) : Type 0 where
   pub few : length terms < 2 ^ 32
-  pub related : HoldsRelation grams.lists (length terms) (IsGramOfTerm terms)
+  pub joined : texts ≡ concat terms
+  pub sized : sizes ≡ map length terms
+  pub utf8 : All IsUtf8 terms
+
+-- the terms are held, and so their grams
+pub record HoldsGrams (grams : Grams) (terms : List (List ℕ)) : Type 0 where
+  pub are : AreTexts (string_bytes grams.texts) grams.sizes.items terms
 
 -- ascending numbers, the others and this one
 pub record AddsTo (number : ℕ) (numbers more : List ℕ) : Type 0 where

@@ -25,7 +25,7 @@ pub(crate) const FULL: usize = 1 << 16;
 const ROOM: usize = FULL + (1 << 12);
 
 /// What an `IndexWriter` keeps until its end: postings that are not written yet, the coded stop terms and
-/// rows, the dictionary and the grams.
+/// rows, the dictionary, and the terms whose grams are owed.
 #[derive(Drop)]
 pub struct WriterSections {
     /// What the next call answers, where it is no more to do anything.
@@ -114,22 +114,22 @@ impl WriterSections {
 
     /// Has a term without postings at hand.
     pub(crate) fn open(&mut self, term: &str) -> Result<(), AllocError>
-        requires { (terms : List (List ℕ)) × HoldsGrams self.old.grams terms
+        requires short { length term.now ≤ 255 }
+        requires few { (terms : List (List ℕ)) × HoldsGrams self.old.grams terms
             × (length terms < 2 ^ 32 - 1) }
         ensures opened { OnOk result (Opens self.old self.new term.now) }
         ensures refusal { self.new.refusal ≡ self.old.refusal }
     {
-        self.grams.push_term(*self.stop.allocator(), term)?;
+        self.grams.push_term(term)?;
         self.list.term.clear();
         self.list.term.extend_from_slice(term.as_bytes())
     }
 
     /// GRAMS and the trailer, after the last entry was closed.
-    pub(crate) fn ending(&mut self) -> Result<Vec<u8>, AllocError>
-        requires { (terms : List (List ℕ)) × HoldsGrams self.old.grams terms }
-        ensures ending { (terms : List (List ℕ)) → HoldsGrams self.old.grams terms →
-            IfOk result (λ ending. IsEnding self.old terms ending.items) }
-        ensures kept { self.new ≡ record self.old { grams = self.new.grams } }
+    pub(crate) fn ending(&self) -> Result<Vec<u8>, AllocError>
+        requires { (terms : List (List ℕ)) × HoldsGrams self.now.grams terms }
+        ensures { (terms : List (List ℕ)) → HoldsGrams self.now.grams terms →
+            IfOk result (λ ending. IsEnding self.now terms ending.items) }
     {
         let mut ending = Vec::new(*self.stop.allocator());
         self.grams.write(&mut ending)?;

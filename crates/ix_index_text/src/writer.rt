@@ -28,7 +28,8 @@ use std::alloc::Global;
 use std::io::Write;
 
 /// A writer of the index text, version 2, of a collection that is told to it in the order of the text: postings
-/// go out as they are told, and what is kept until the end is the dictionary, the grams and the rows.
+/// go out as they are told, and what is kept until the end is the dictionary, the texts of the terms for their grams, and
+/// the rows.
 pub struct IndexWriter<'a, W, S = WriterSections> {
     out: &'a mut W,
     sections: S,

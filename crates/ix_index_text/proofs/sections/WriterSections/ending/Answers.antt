@@ -2,8 +2,8 @@ use Rattle.std.proofs.Common.{◌≡◌, length, arith}
 use Rattle.ix_index_text.proofs.EndingLemmas.{is_ending, trailer_is}
 use Rattle.ix_index_text.proofs.sections.WriterSections.ending.Goals as goal
 
-pub returns-clause-ending : goal.returns-clause-ending
-returns-clause-ending c terms held =
+pub returns : goal.returns
+returns c terms held =
     let stop : c.len.result ≡ length c.args.self.now.stop.items = omega arith in
     let documents : c.len-2.result ≡ length c.args.self.now.documents.items = omega arith in
     let dictionary : c.len-3.result ≡ length c.args.self.now.dictionary.bytes.items = omega arith in

@@ -5,8 +5,8 @@ use Rattle.ix_index_text.proofs.writer.IndexWriter+W.term.Goals as goal
 pub close-requires-clause-term : goal.close-requires-clause-term
 close-requires-clause-term g c = short_at_hand _ _ _ (c.requires.may c.in_ok-take_up.ensures.ready) c.take_up.ensures.set
 
-pub open-requires : goal.open-requires
-open-requires g c = grams_told _ _ _ _ (c.requires.may c.in_ok-take_up.ensures.ready) c.take_up.ensures.set c.in_ok-close.ensures.closed
+pub open-requires-clause-few : goal.open-requires-clause-few
+open-requires-clause-few g c = grams_told _ _ _ _ (c.requires.may c.in_ok-take_up.ensures.ready) c.take_up.ensures.set c.in_ok-close.ensures.closed
 
 pub returns-clause-told : goal.returns-clause-told
 returns-clause-told g c before told is may = record {
