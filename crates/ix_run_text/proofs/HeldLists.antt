@@ -15,7 +15,7 @@ use Rattle.ix_run_text.specs.Heads.{Heading}
 use Rattle.ix_run_text.specs.Reading.{LieAhead, LieBehind, MayLieAhead, Standing, bytes_ahead}
 use Rattle.ix_run_text.specs.RunText.{term_bytes}
 use Rattle.ix_run_text.specs.Sources.{AreWhole, IsLawfulFront, closed, entry_with, extended}
-use Rattle.ix_run_text.specs.WalkedLists.{PostingsFit}
+use Rattle.ix_run_text.specs.MarkedLists.{PostingsFit}
 use Rattle.ix_run_text.specs.declared.run_reader.Place.TheVariants.{AtTerm}
 use Rattle.ix_run_text.proofs.ReadFronts.{closed-none, extended-nil, front_more, numbers_more}
 use Rattle.ix_run_text.proofs.ReadSteps.{last_stays, no_entry, spelled_before}

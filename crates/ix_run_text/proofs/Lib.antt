@@ -1,10 +1,14 @@
 pub mod CodeLemmas
 pub mod Faulting
+pub mod FitPostings
 pub mod Fronts
 pub mod HeadLemmas
 pub mod HeldLists
 pub mod InputLemmas
 pub mod ListSteps
+pub mod MarkLemmas
+pub mod MarkedLists
+pub mod MarkedReaders
 pub mod OrderLemmas
 pub mod Passing
 pub mod PieceLemmas
@@ -24,7 +28,4 @@ pub mod SpelledLemmas
 pub mod StopTermLemmas
 pub mod TermLemmas
 pub mod TextLaws
-pub mod WalkLemmas
-pub mod WalkedPostings
-pub mod WalkedReaders
 pub mod WholeLists

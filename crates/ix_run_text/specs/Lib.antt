@@ -3,6 +3,7 @@ pub mod Faults
 pub mod Heads
 pub mod Inputs
 pub mod Laws
+pub mod MarkedLists
 pub mod Orders
 pub mod Pieces
 pub mod ReadPostings
@@ -13,4 +14,3 @@ pub mod RunReaders
 pub mod RunText
 pub mod RunTextErrors
 pub mod Sources
-pub mod WalkedLists

@@ -1,16 +1,15 @@
 -- What a reader of a run text has read of its terms, and what it has left of them.
 use Rattle.std.specs.Prelude.{◌≡◌, ◌≢◌, ℕ, ◌+◌, List, [], ◌∷◌, ◌++◌, length, flat_map, string_bytes, slice_index_or, ◌-◌, ◌<◌, ◌≤◌, Option, Some, None, IfSome, option_map}
 use Rattle.ix_text.specs.Parts.{DictionaryEntry, Parts, Posting, terms_of}
-use Rattle.ix_text.specs.TokenMarks.{HoldsNumbers, ShareNumber}
+use Rattle.ix_text.specs.TokenMarks.{HoldsNumbers}
 use Rattle.ix_text.specs.TokenNumbers.{AreDistinct, numbers_of_entries}
 use Rattle.ix_text.specs.declared.token_marks.TokenMarks.{TokenMarks}
 use Rattle.ix_vbyte.specs.Gaps.{next_after}
 use Rattle.ix_vbyte.specs.Postings.{documents_of, list_bytes_from, posting_bytes}
 use Rattle.ix_run_text.specs.Heads.{Heading, heading_of}
-use Rattle.ix_run_text.specs.Inputs.{Passes, bytes_held, known_left, passed}
+use Rattle.ix_run_text.specs.Inputs.{Passes, known_left, passed}
 use Rattle.ix_run_text.specs.RunText.{term_bytes}
 use Rattle.ix_run_text.specs.Sources.{AreWhole, IsLawfulFront, closed, extended}
-use Rattle.ix_run_text.specs.WalkedLists.{IsWalkedList}
 use Rattle.ix_run_text.specs.declared.run_reader.Place.{Place}
 use Rattle.ix_run_text.specs.declared.run_reader.Place.TheVariants.{AtTerm, Ended, Failed}
 use Rattle.ix_run_text.specs.declared.run_reader.RunReader.{RunReader}
@@ -144,18 +143,11 @@ pub record GivesFirst {R : Type 0} (remaining : R → Option (List ℕ)) (reader
 abbrev pub heading_from : ℕ → Parts → Heading
 heading_from first parts = record { first = first; stop = parts.stop; rows = parts.rows }
 
--- Of the list at hand nothing was taken, and its bytes are buffered.
+-- Postings are left of the list at hand, none of it was taken, and its bytes are buffered.
 pub record IsHeldWhole {R : Type 0} (reader : RunReader R) : Type 0 where
+  pub some : 0 < reader.documents
   pub fresh : reader.next ≡ 0
   pub held : reader.bytes ≤ (passed reader.input).left
-
--- The list at hand was walked, of which nothing was taken: it has no fault, these are the numbers of its tokens, none of
--- which was told, and this is one above its last document.
-pub record IsWalked {R : Type 0} (reader : RunReader R) (next : ℕ) (numbers : List ℕ) : Type 0 where
-  pub held : IsHeldWhole reader
-  pub some : 0 < reader.documents
-  pub list : IsWalkedList (heading_of reader.head).rows (bytes_held reader.input) reader.bytes reader.documents next numbers
-  pub free : (told : List ℕ) → HoldsNumbers reader.marks told → ¬ (ShareNumber numbers told)
 
 -- From the old state to the new one a reader took the bytes of this posting from its list, in which its document is
 -- counted from the one before.

@@ -10,6 +10,7 @@ mod input;
 mod laws;
 mod list;
 mod listed;
+mod marking;
 mod rows;
 mod run_reader;
 mod run_text_error;
@@ -17,7 +18,6 @@ mod source;
 mod stop_terms;
 mod term;
 mod token_counts;
-mod walking;
 
 pub use head::{RunDoc, RunHead};
 pub use ix_vbyte::VbError;

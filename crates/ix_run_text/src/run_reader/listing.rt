@@ -2,7 +2,7 @@
 
 use super::RunReader;
 use crate::copying::{TakenPosting, push_taken};
-use crate::walking::{are_free, mark_all, walk};
+use crate::marking::mark_list;
 use crate::{ListError, Listed, RunTextError};
 use ix_vbyte::cursor::Postings;
 use std::io::Read;
@@ -10,7 +10,7 @@ use std::io::Read;
 impl<R: Read + Drop> RunReader<R> {
     ghost use Rattle.std.specs.Prelude.{◌≡◌, ◌≤◌, ◌↔◌, List, Some, IsSome, IsTrue, IfErr, IfOk, IfSome, OnErr, OnOk};
     ghost use Rattle.ix_text.specs.Parts.{DictionaryEntry};
-    ghost use Rattle.ix_run_text.specs.Reading.{HasRead, IsDrained, IsHeldWhole, IsWalked, MayYield, term_of};
+    ghost use Rattle.ix_run_text.specs.Reading.{HasRead, IsDrained, IsHeldWhole, MayYield, term_of};
     ghost use Rattle.ix_run_text.specs.RunReaders.{heading_read};
     ghost use Rattle.ix_run_text.specs.Sources.{GivesList, KeepsFaults};
     ghost use Rattle.ix_run_text.specs.Faults.{IsListFault, MayFault};
@@ -38,26 +38,25 @@ impl<R: Read + Drop> RunReader<R> {
             (KeepsFaults (MayFault R.remaining) self.old self.new) }
     {
         if self.holds_list() {
-            self.take_whole(next, positions, out)
+            self.take_whole(next, out)
         } else {
             self.take_each(next, positions, out)
         }
     }
 
-    /// Whether nothing was taken of the list at hand, and it is buffered whole.
+    /// Whether postings are left of the list at hand, nothing was taken of it, and it is buffered whole.
     fn holds_list(&self) -> bool
         ensures { IsTrue result ↔ IsHeldWhole self.now }
     {
-        self.next == 0 && self.input.holds(self.bytes)
+        self.documents > 0 && self.next == 0 && self.input.holds(self.bytes)
     }
 
-    /// The same of a list of which nothing was taken yet and which is buffered whole. It is walked in one pass, and then
-    /// its bytes are copied at once. Where that pass finds something amiss, the list is taken posting by posting, which
-    /// tells the first fault.
+    /// The same of a list of which nothing was taken yet and which is buffered whole. It is checked, and its tokens are
+    /// marked, in one pass over its bytes, which are copied at once then. Where memory is refused for them, the list was
+    /// passed.
     fn take_whole(
         &mut self,
         next: u32,
-        positions: &mut Vec<u32>,
         out: &mut Vec<u8>,
     ) -> Result<Listed, ListError<RunTextError>>
         requires at_hand { IsSome (term_of self.old) }
@@ -76,80 +75,38 @@ impl<R: Read + Drop> RunReader<R> {
         ensures no_more_faults { OnOk result
             (KeepsFaults (MayFault R.remaining) self.old self.new) }
     {
-        match self.walk_list(positions) {
-            Some(after) => self.take_walked(after, positions, next, out),
-            None => self.take_each(next, positions, out),
-        }
-    }
-
-    /// One above the last document of the list at hand, of which nothing was taken yet and which is buffered whole:
-    /// `numbers` then holds the numbers of its tokens, none of which was told. Nothing changes.
-    ///
-    /// None where the list has a fault, or a token was told before, or memory was refused.
-    fn walk_list(&self, numbers: &mut Vec<u32>) -> Option<u32>
-        requires { IsHeldWhole self.now }
-        ensures { IfSome result (λ after. IsWalked self.now after numbers.new.items) }
-    {
-        if self.documents == 0 {
-            return None;
-        }
-        let after = walk(
-            self.input.held(),
-            self.bytes,
-            self.documents,
-            &self.tokens,
-            numbers,
-        )?;
-        if are_free(numbers, &self.marks) {
-            Some(after)
-        } else {
-            None
-        }
-    }
-
-    /// Appends a list that was walked: its bytes are copied at once, and its tokens are told, whose numbers these are.
-    /// `after` is one above its last document.
-    fn take_walked(
-        &mut self,
-        after: u32,
-        numbers: &[u32],
-        next: u32,
-        out: &mut Vec<u8>,
-    ) -> Result<Listed, ListError<RunTextError>>
-        requires at_hand { IsSome (term_of self.old) }
-        requires begun { (finished : List DictionaryEntry)
-            × ((entry : DictionaryEntry) × HasRead self.old finished (Some entry)) }
-        requires low { next ≤ (heading_read self.old).first }
-        requires walked { IsWalked self.old after numbers.now }
-        ensures heading { heading_read self.new ≡ heading_read self.old }
-        ensures current { term_of self.new ≡ term_of self.old }
-        ensures drained { OnOk result (IsDrained self.new) }
-        ensures given { IfOk result (λ listed. GivesList (MayYield R.remaining) HasRead
-            self.old self.new (heading_read self.old).first next listed.documents listed.next
-            out.old.items out.new.items) }
-        ensures refused { OnErr result (out.new.items ≡ out.old.items) }
-        ensures fault { IfErr result (IsListFault (MayFault R.remaining self.old)) }
-        ensures no_more_faults { OnOk result
-            (KeepsFaults (MayFault R.remaining) self.old self.new) }
-    {
         let first = self.head.first;
-        let Some(list) = self.input.ahead(self.bytes) else {
+        let documents = self.documents;
+        let size = self.bytes;
+        let marked = mark_list(
+            self.input.held(),
+            size,
+            documents,
+            &self.tokens,
+            &mut self.marks,
+        );
+        let after = match marked {
+            Ok(after) => after,
+            Err(error) => {
+                self.fail();
+                return Err(ListError::Source(error));
+            }
+        };
+        let Some(list) = self.input.ahead(size) else {
             unreachable!()
         };
-        let postings = Postings::new(list, self.documents);
-        if postings.push_shifted(out, first, next).is_err() {
-            return Err(ListError::Memory);
-        }
-        let listed = Listed {
-            documents: self.documents,
-            next: first + after,
-        };
-        mark_all(numbers, &mut self.marks);
-        self.input.pass(self.bytes);
+        let pushed = Postings::new(list, documents).push_shifted(out, first, next);
+        self.input.pass(size);
         self.next = after;
         self.documents = 0;
         self.bytes = 0;
-        Ok(listed)
+        if pushed.is_err() {
+            return Err(ListError::Memory);
+        }
+        Ok(Listed {
+            documents,
+            next: first + after,
+        })
     }
 
     /// The same of any list, posting by posting.

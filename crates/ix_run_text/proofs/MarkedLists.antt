@@ -1,0 +1,200 @@
+-- A list whose tokens are marked as it is gone over, posting by posting.
+use Rattle.std.proofs.Common.{◌≡◌, ℕ, ◌+◌, ◌-◌, ◌<◌, ◌≤◌, List, [], ◌∷◌, ◌++◌, length, take, drop, sum_by, refl, sym, ap, subst, ◌∙◌, arith, append_assoc, append-nil, length-append}
+use Rattle.std.proofs.Math.Seq.{drop-append_seam, take-append_seam}
+use Rattle.std.proofs.lemmas.List.{map-append}
+use Rattle.std.proofs.lemmas.List.Elements.{All-head}
+use Rattle.ix_text.specs.Parts.{DocumentRow, Posting}
+use Rattle.ix_text.specs.TokenMarks.{HoldsNumbers}
+use Rattle.ix_text.specs.TokenNumbers.{AreDistinct, numbers_of_posting, numbers_of_postings}
+use Rattle.ix_text.specs.TokenTables.{HasTokens}
+use Rattle.ix_text.specs.declared.token_marks.TokenMarks.{TokenMarks}
+use Rattle.ix_text.specs.declared.token_table.TokenTable.{TokenTable}
+use Rattle.ix_text.proofs.DistinctNumbers.{distinct_front}
+use Rattle.ix_text.proofs.TokensApart.{numbers_of_postings-append, numbers_of_postings-push}
+use Rattle.ix_vbyte.specs.Gaps.{next_after}
+use Rattle.ix_vbyte.specs.Postings.{IsPosting, documents_of, list_bytes, list_bytes_from, posting_bytes}
+use Rattle.ix_vbyte.proofs.Gaps.{next_after-push}
+use Rattle.ix_vbyte.proofs.Postings.{list_bytes_from-push, posting_apart}
+use Rattle.ix_run_text.specs.ReadPostings.{IsFree, PostingFits}
+use Rattle.ix_run_text.specs.MarkedLists.{ListStands, MarksList, MarksPosting, PostingsFit}
+use Rattle.ix_run_text.proofs.FitPostings.{fit_are}
+
+-- ---- lists of postings, parted
+
+list_bytes_from-append : (next : ℕ) (ps qs : List Posting) → list_bytes_from next (ps ++ qs) ≡ list_bytes_from next ps ++ list_bytes_from (next_after next (documents_of ps)) qs
+list_bytes_from-append next [] qs = refl
+list_bytes_from-append next (p ∷ ps) qs =
+    ap (λ (bytes : List ℕ). posting_bytes (p.0 + 1 - next) p ++ bytes) (list_bytes_from-append (p.0 + 1) ps qs)
+    ∙ sym (append_assoc (posting_bytes (p.0 + 1 - next) p) (list_bytes_from (p.0 + 1) ps) (list_bytes_from (next_after (p.0 + 1) (documents_of ps)) qs))
+
+fit_push : (rows : List DocumentRow) (next : ℕ) (postings : List Posting) (posting : Posting) → PostingsFit rows next postings → PostingFits rows (next_after next (documents_of postings)) posting
+    → PostingsFit rows next (postings ++ posting ∷ [])
+fit_push rows next [] posting fit fits = (fits, tt)
+fit_push rows next (p ∷ ps) posting fit fits = (fit.0, fit_push rows (p.0 + 1) ps posting fit.1 fits)
+
+fit_behind : (rows : List DocumentRow) (next : ℕ) (front behind : List Posting) → PostingsFit rows next (front ++ behind) → PostingsFit rows (next_after next (documents_of front)) behind
+fit_behind rows next [] behind fit = fit
+fit_behind rows next (p ∷ front) behind fit = fit_behind rows (p.0 + 1) front behind fit.1
+
+-- ---- so many postings were gone over
+
+-- Their tokens are marked, these bytes are left, and `left` of them are the list's.
+pub record GoneOver (rows : List DocumentRow) (bytes rest : List ℕ) (size left documents place next : ℕ) (old now : TokenMarks) : Type 0 where
+  pub front : List Posting
+  pub fit : PostingsFit rows 0 front
+  pub counted : length front ≡ place
+  pub coded : bytes ≡ list_bytes front ++ rest
+  pub sized : length (list_bytes front) + left ≡ size
+  pub next_is : next ≡ next_after 0 (documents_of front)
+  pub marked : (numbers : List ℕ) → HoldsNumbers old numbers → AreDistinct numbers
+      → AreDistinct (numbers ++ numbers_of_postings rows front) × HoldsNumbers now (numbers ++ numbers_of_postings rows front)
+  pub stood : (stands : ListStands rows bytes size documents old) → (behind : List Posting) × (stands.postings ≡ front ++ behind)
+
+pub gone_none : (rows : List DocumentRow) (bytes : List ℕ) (size documents : ℕ) (marks : TokenMarks) → GoneOver rows bytes bytes size size documents 0 0 marks marks
+gone_none rows bytes size documents marks = record {
+  front = [];
+  fit = tt;
+  counted = refl;
+  coded = refl;
+  sized = omega arith;
+  next_is = refl;
+  marked = λ numbers held distinct. (subst AreDistinct (sym (append-nil numbers)) distinct, subst (HoldsNumbers marks) (sym (append-nil numbers)) held);
+  stood = λ stands. (stands.postings, refl);
+}
+
+-- The posting that stands next, of tokens that are not marked.
+pub record StandsNext (rows : List DocumentRow) (next left : ℕ) (rest : List ℕ) (now : TokenMarks) : Type 0 where
+  pub numbers : List ℕ
+  pub held : HoldsNumbers now numbers
+  pub posting : Posting
+  pub behind : List ℕ
+  pub fits : PostingFits rows next posting
+  pub free : IsFree rows numbers posting
+  pub short : length (posting_bytes (posting.0 + 1 - next) posting) ≤ left
+  pub spelled : rest ≡ posting_bytes (posting.0 + 1 - next) posting ++ behind
+
+module _ (rows : List DocumentRow) (bytes rest : List ℕ) (size left documents place next : ℕ) (old now : TokenMarks) (gone : GoneOver rows bytes rest size left documents place next old now) where
+  abbrev gone_bytes : List ℕ
+  gone_bytes = list_bytes gone.front
+
+  abbrev gone_numbers : List ℕ
+  gone_numbers = numbers_of_postings rows gone.front
+
+  module _ (stands : ListStands rows bytes size documents old) (posting : Posting) (others : List Posting) (is : stands.postings ≡ gone.front ++ posting ∷ others) where
+    abbrev first : List ℕ
+    first = posting_bytes (posting.0 + 1 - next) posting
+
+    abbrev later : List ℕ
+    later = list_bytes_from (posting.0 + 1) others
+
+    parted : list_bytes stands.postings ≡ gone_bytes ++ (first ++ later)
+    parted =
+        ap list_bytes is ∙ list_bytes_from-append 0 gone.front (posting ∷ others)
+        ∙ ap (λ (n : ℕ). gone_bytes ++ (posting_bytes (posting.0 + 1 - n) posting ++ later)) (sym gone.next_is)
+
+    next_spelled : rest ≡ first ++ (later ++ stands.behind)
+    next_spelled =
+        let whole : gone_bytes ++ rest ≡ gone_bytes ++ (first ++ (later ++ stands.behind)) =
+        sym gone.coded ∙ stands.spelled ∙ ap (λ (bs : List ℕ). bs ++ stands.behind) parted ∙ append_assoc gone_bytes (first ++ later) stands.behind
+        ∙ ap (λ (bs : List ℕ). gone_bytes ++ bs) (append_assoc first later stands.behind) in
+        sym (drop-append_seam gone_bytes rest) ∙ ap (drop (length gone_bytes)) whole ∙ drop-append_seam gone_bytes (first ++ (later ++ stands.behind))
+
+    told : AreDistinct ((stands.numbers ++ gone_numbers) ++ numbers_of_posting rows posting)
+    told =
+        let here : List ℕ = numbers_of_posting rows posting in
+        let rest_of : List ℕ = numbers_of_postings rows others in
+        let all : stands.numbers ++ numbers_of_postings rows stands.postings ≡ ((stands.numbers ++ gone_numbers) ++ here) ++ rest_of =
+        ap (λ (ps : List Posting). stands.numbers ++ numbers_of_postings rows ps) is
+        ∙ ap (λ (ns : List ℕ). stands.numbers ++ ns) (numbers_of_postings-append rows gone.front (posting ∷ others))
+        ∙ sym (append_assoc stands.numbers gone_numbers (here ++ rest_of)) ∙ sym (append_assoc (stands.numbers ++ gone_numbers) here rest_of) in
+        distinct_front ((stands.numbers ++ gone_numbers) ++ here) rest_of (subst AreDistinct all stands.free)
+
+    next_fits : PostingFits rows next posting
+    next_fits = subst (λ (n : ℕ). PostingFits rows n posting) (sym gone.next_is) (fit_behind rows 0 gone.front (posting ∷ others) (subst (PostingsFit rows 0) is stands.fit)).0
+
+    next_stands : StandsNext rows next left rest now
+    next_stands = record {
+      numbers = stands.numbers ++ gone_numbers;
+      held = (gone.marked stands.numbers stands.held (distinct_front stands.numbers (numbers_of_postings rows stands.postings) stands.free)).1;
+      posting = posting;
+      behind = later ++ stands.behind;
+      fits = next_fits;
+      free = told;
+      short = (let sized = stands.sized in let so_far = gone.sized in omega (arith, ap length parted, length-append gone_bytes (first ++ later), length-append first later, sized, so_far));
+      spelled = next_spelled;
+    }
+
+  -- where such a list stands, a posting stands next
+  pub stands_next : (stands : ListStands rows bytes size documents old) → place < documents → StandsNext rows next left rest now
+  stands_next stands few = by (gone.stood stands).0 (gone.stood stands).1
+    where
+      by : (behind : List Posting) → stands.postings ≡ gone.front ++ behind → StandsNext rows next left rest now
+      by [] is = absurd (let counted = stands.counted in let so_far = gone.counted in omega (arith, ap length is, length-append gone.front [], counted, so_far, few))
+      by (posting ∷ others) is = next_stands stands posting others is
+
+  -- none of the list is left
+  pub nothing_left : (stands : ListStands rows bytes size documents old) → place ≡ documents → left ≡ 0
+  nothing_left stands all = by (gone.stood stands).0 (gone.stood stands).1
+    where
+      by : (behind : List Posting) → stands.postings ≡ gone.front ++ behind → left ≡ 0
+      by [] is = (let sized = stands.sized in let so_far = gone.sized in omega (arith, ap (λ (ps : List Posting). length (list_bytes ps)) (is ∙ append-nil gone.front), sized, so_far))
+      by (posting ∷ others) is = absurd (let counted = stands.counted in let so_far = gone.counted in omega (arith, ap length is, length-append gone.front (posting ∷ others), counted, so_far, all))
+
+  -- one posting more
+  module _ (tokens : TokenTable) (has : HasTokens tokens rows) (document taken : ℕ) (new : TokenMarks) (marks : MarksPosting tokens next rest document taken now new) (within : taken ≤ left) (few : place < documents) where
+    abbrev spells : List ℕ
+    spells = posting_bytes (document + 1 - next) (document, marks.positions)
+
+    fits_here : PostingFits rows next (document, marks.positions)
+    fits_here = marks.fits rows has
+
+    is_posting : (q : Posting) → PostingFits rows next q → IsPosting (length rows + sum_by (λ row. row.tokens) rows) q
+    is_posting q fits =
+        All-head (IsPosting (length rows + sum_by (λ row. row.tokens) rows)) q []
+        (fit_are rows (length rows + sum_by (λ row. row.tokens) rows) (omega arith) (omega arith) next (q ∷ []) (fits, tt)).each
+
+    longer : list_bytes (gone.front ++ (document, marks.positions) ∷ []) ≡ gone_bytes ++ spells
+    longer = list_bytes_from-push 0 gone.front (document, marks.positions) ∙ ap (λ (n : ℕ). gone_bytes ++ posting_bytes (document + 1 - n) (document, marks.positions)) (sym gone.next_is)
+
+    stood_more : (stands : ListStands rows bytes size documents old) → (behind : List Posting) × (stands.postings ≡ (gone.front ++ (document, marks.positions) ∷ []) ++ behind)
+    stood_more stands = by (gone.stood stands).0 (gone.stood stands).1
+      where
+        by : (behind : List Posting) → stands.postings ≡ gone.front ++ behind → (after : List Posting) × (stands.postings ≡ (gone.front ++ (document, marks.positions) ∷ []) ++ after)
+        by [] is = absurd (let counted = stands.counted in let so_far = gone.counted in omega (arith, ap length is, length-append gone.front [], counted, so_far, few))
+        by (q ∷ qs) is =
+            let same = posting_apart next (length rows + sum_by (λ row. row.tokens) rows) (document, marks.positions) q (drop taken rest) (list_bytes_from (q.0 + 1) qs ++ stands.behind) fits_here.above (next_fits stands q qs is).above
+            (is_posting (document, marks.positions) fits_here) (is_posting q (next_fits stands q qs is)) (sym marks.spelled ∙ next_spelled stands q qs is) in
+            (qs, is ∙ ap (λ (p : Posting). gone.front ++ p ∷ qs) (sym same.0) ∙ sym (append_assoc gone.front ((document, marks.positions) ∷ []) qs))
+
+    pub gone_more : GoneOver rows bytes (drop taken rest) size (left - taken) documents (place + 1) (document + 1) old new
+    gone_more = record {
+      front = gone.front ++ (document, marks.positions) ∷ [];
+      fit = fit_push rows 0 gone.front (document, marks.positions) gone.fit (subst (λ (n : ℕ). PostingFits rows n (document, marks.positions)) gone.next_is fits_here);
+      counted = (let so_far = gone.counted in omega (arith, length-append gone.front ((document, marks.positions) ∷ []), so_far));
+      coded =
+          gone.coded ∙ ap (λ (bs : List ℕ). gone_bytes ++ bs) marks.spelled ∙ sym (append_assoc gone_bytes spells (drop taken rest))
+          ∙ ap (λ (bs : List ℕ). bs ++ drop taken rest) (sym longer);
+      sized = (let so_far = gone.sized in let size_is = marks.sized in omega (arith, ap length longer, length-append gone_bytes spells, so_far, size_is));
+      next_is = sym (ap (next_after 0) (map-append (λ (q : Posting). q.0) gone.front ((document, marks.positions) ∷ [])) ∙ next_after-push 0 (documents_of gone.front) document);
+      marked = λ numbers held distinct.
+          let before = gone.marked numbers held distinct in
+          let after = marks.marked rows (numbers ++ gone_numbers) has before.1 before.0 in
+          let same : (numbers ++ gone_numbers) ++ numbers_of_posting rows (document, marks.positions) ≡ numbers ++ numbers_of_postings rows (gone.front ++ (document, marks.positions) ∷ []) =
+          append_assoc numbers gone_numbers (numbers_of_posting rows (document, marks.positions)) ∙ ap (λ (ns : List ℕ). numbers ++ ns) (sym (numbers_of_postings-push rows gone.front (document, marks.positions))) in
+          (subst AreDistinct same after.0, subst (HoldsNumbers new) same after.1);
+      stood = stood_more;
+    }
+
+  -- all were gone over
+  pub marks_list : place ≡ documents → left ≡ 0 → MarksList rows bytes size documents next old now
+  marks_list all none =
+      let size_is : size ≡ length gone_bytes = (let so_far = gone.sized in omega (arith, so_far, none)) in
+      record {
+        postings = gone.front;
+        fit = gone.fit;
+        counted = gone.counted ∙ all;
+        coded = ap (λ (n : ℕ). take n bytes) size_is ∙ ap (take (length gone_bytes)) gone.coded ∙ take-append_seam gone_bytes rest;
+        sized = size_is;
+        next_is = gone.next_is;
+        marked = gone.marked;
+      }

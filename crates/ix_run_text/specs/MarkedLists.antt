@@ -1,0 +1,69 @@
+-- A list of postings whose tokens are marked as it is gone over: the postings that its bytes spell.
+use Rattle.std.specs.Prelude.{◌≡◌, ℕ, ◌+◌, ◌-◌, ◌<◌, ◌≤◌, List, [], ◌∷◌, ◌++◌, ⊤, length, take, drop}
+use Rattle.ix_text.specs.Parts.{DocumentRow, Posting}
+use Rattle.ix_text.specs.TokenMarks.{HoldsNumbers}
+use Rattle.ix_text.specs.TokenNumbers.{AreDistinct, numbers_of_posting, numbers_of_postings}
+use Rattle.ix_text.specs.declared.token_marks.TokenMarks.{TokenMarks}
+use Rattle.ix_text.specs.TokenTables.{HasTokens}
+use Rattle.ix_text.specs.declared.token_table.TokenTable.{TokenTable}
+use Rattle.ix_vbyte.specs.Code.{code_of}
+use Rattle.ix_vbyte.specs.Gaps.{Ascends, gaps_of, next_after}
+use Rattle.ix_vbyte.specs.Postings.{codes_of, documents_of, list_bytes, posting_bytes}
+use Rattle.ix_run_text.specs.ReadPostings.{IsFree, PostingFits, numbers_at}
+
+-- postings that may come next in a list, one behind another
+abbrev pub PostingsFit : List DocumentRow → ℕ → List Posting → Type 0
+PostingsFit rows next [] = ⊤
+PostingsFit rows next (posting ∷ postings) = PostingFits rows next posting × PostingsFit rows (posting.0 + 1) postings
+
+-- The bytes begin with this position, in so many of them: it is not below `next`, and below the end.
+pub record BeginsWithPosition (next end : ℕ) (bytes : List ℕ) (position size : ℕ) : Type 0 where
+  pub above : next ≤ position
+  pub below : position < end
+  pub spelled : bytes ≡ code_of (position + 1 - next) ++ drop size bytes
+  pub sized : size ≡ length (code_of (position + 1 - next))
+
+-- The bytes begin with so many positions below the end, in so many of them; their tokens are marked, and none was before, where
+-- the first token of the document has this number.
+pub record MarksPositions (first end count : ℕ) (bytes : List ℕ) (size : ℕ) (old new : TokenMarks) : Type 0 where
+  pub positions : List ℕ
+  pub ascend : Ascends 0 end positions
+  pub counted : length positions ≡ count
+  pub spelled : bytes ≡ codes_of (gaps_of positions) ++ drop size bytes
+  pub sized : size ≡ length (codes_of (gaps_of positions))
+  pub marked : (numbers : List ℕ) → HoldsNumbers old numbers → AreDistinct numbers
+      → AreDistinct (numbers ++ numbers_at first positions) × HoldsNumbers new (numbers ++ numbers_at first positions)
+
+-- The bytes begin with a posting of this document, in so many of them, that may come next; its tokens are marked, and none was
+-- before.
+pub record MarksPosting (tokens : TokenTable) (next : ℕ) (bytes : List ℕ) (document size : ℕ) (old new : TokenMarks) : Type 0 where
+  pub positions : List ℕ
+  pub fits : (rows : List DocumentRow) → HasTokens tokens rows → PostingFits rows next (document, positions)
+  pub spelled : bytes ≡ posting_bytes (document + 1 - next) (document, positions) ++ drop size bytes
+  pub sized : size ≡ length (posting_bytes (document + 1 - next) (document, positions))
+  pub marked : (rows : List DocumentRow) (numbers : List ℕ) → HasTokens tokens rows → HoldsNumbers old numbers → AreDistinct numbers
+      → IsFree rows numbers (document, positions) × HoldsNumbers new (numbers ++ numbers_of_posting rows (document, positions))
+
+-- The bytes begin with a whole list of so many postings, in `size` of them, of these documents; one above the last of them; its
+-- tokens are marked, and none was before.
+pub record MarksList (rows : List DocumentRow) (bytes : List ℕ) (size documents next : ℕ) (old new : TokenMarks) : Type 0 where
+  pub postings : List Posting
+  pub fit : PostingsFit rows 0 postings
+  pub counted : length postings ≡ documents
+  pub coded : take size bytes ≡ list_bytes postings
+  pub sized : size ≡ length (list_bytes postings)
+  pub next_is : next ≡ next_after 0 (documents_of postings)
+  pub marked : (numbers : List ℕ) → HoldsNumbers old numbers → AreDistinct numbers
+      → AreDistinct (numbers ++ numbers_of_postings rows postings) × HoldsNumbers new (numbers ++ numbers_of_postings rows postings)
+
+-- Such a list stands first, of tokens that are not marked.
+pub record ListStands (rows : List DocumentRow) (bytes : List ℕ) (size documents : ℕ) (marks : TokenMarks) : Type 0 where
+  pub numbers : List ℕ
+  pub held : HoldsNumbers marks numbers
+  pub postings : List Posting
+  pub behind : List ℕ
+  pub fit : PostingsFit rows 0 postings
+  pub free : AreDistinct (numbers ++ numbers_of_postings rows postings)
+  pub counted : length postings ≡ documents
+  pub sized : length (list_bytes postings) ≡ size
+  pub spelled : bytes ≡ list_bytes postings ++ behind
