@@ -1,4 +1,4 @@
--- A list that is buffered whole: once it was walked, its bytes are copied and its tokens told at once.
+-- A list that is buffered whole: its tokens are marked as it is gone over, and its bytes are copied at once.
 use Rattle.std.proofs.Common.{◌≡◌, ℕ, ◌+◌, ◌^◌, ◌<◌, List, [], ◌∷◌, ◌++◌, length, Option, Some, None, IfSome, refl, sym, ap, subst, ◌∙◌, arith, length-append}
 use Rattle.std.proofs.lemmas.List.{append_assoc, append-nil, map-append}
 use Rattle.std.specs.Io.KnownBytes.{Consumes}

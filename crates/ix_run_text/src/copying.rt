@@ -1,5 +1,5 @@
 //! A posting that was read, appended to a list as it was coded.
-ghost use Rattle.std.specs.Prelude.{◌≡◌, ◌<◌, ◌≤◌, ◌+◌, ◌-◌, ◌^◌, ◌++◌, List, ℕ, length, OnOk, OnErr};
+ghost use Rattle.std.specs.Prelude.{◌≡◌, ◌<◌, ◌≤◌, ◌+◌, ◌-◌, ◌^◌, ◌++◌, length, OnOk, OnErr};
 ghost use Rattle.ix_vbyte.specs.Gaps.{Ascends};
 ghost use Rattle.ix_vbyte.specs.Postings.{posting_bytes};
 ghost use Rattle.ix_run_text.specs.Inputs.{Buffered, Passes, passed};

@@ -1,5 +1,5 @@
 //! Reading what stands in a run text before its terms.
-ghost use Rattle.std.specs.Prelude.{OnOk, codes, ◌≡◌, ◌<◌, ◌≤◌, ◌^◌, ◌++◌, List, ℕ, length, flat_map, map, string_bytes, Some, All, IfOk, MatchResult};
+ghost use Rattle.std.specs.Prelude.{OnOk, codes, ◌≡◌, ◌<◌, ◌^◌, ◌++◌, List, ℕ, length, string_bytes, Some, IfOk, MatchResult};
 ghost use Rattle.std.specs.Int.{to_le_bytes, w32};
 ghost use Rattle.std.specs.Io.KnownBytes.{Consumes};
 ghost use Rattle.ix_text.specs.Terms.{IsTerm};

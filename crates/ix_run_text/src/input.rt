@@ -1,5 +1,5 @@
 //! What is left of a reader, buffered.
-ghost use Rattle.std.specs.Prelude.{◌≡◌, ◌<◌, ◌≤◌, ◌++◌, ◌+◌, ◌*◌, ◌%◌, List, [], ℕ, length, take, vec_len, ◌∷◌, ◌↔◌, IfOk, IfErr, IfNone, IfSome, IsTrue, OnOk, MatchBool};
+ghost use Rattle.std.specs.Prelude.{◌≡◌, ◌<◌, ◌≤◌, ◌++◌, ◌+◌, List, [], ℕ, length, take, vec_len, ◌∷◌, ◌↔◌, IfOk, IfErr, IfNone, IfSome, IsTrue, OnOk, MatchBool};
 ghost use Rattle.std.specs.Io.{ReadsAtMost};
 ghost use Rattle.std.specs.Io.KnownBytes.{Consumes, IsAtEnd, Keeps};
 ghost use Rattle.std.specs.Option.{option_to_list};

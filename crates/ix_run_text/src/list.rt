@@ -1,10 +1,10 @@
 //! Reading a list of postings in a run text, posting by posting.
-ghost use Rattle.std.specs.Prelude.{◌≡◌, ◌<◌, ◌≤◌, ◌+◌, ◌-◌, ◌^◌, ◌++◌, List, [], ◌∷◌, ℕ, length, Contains, Some, IfOk, IfErr, OnOk, MatchOption, MatchResult};
+ghost use Rattle.std.specs.Prelude.{◌≡◌, ◌<◌, ◌≤◌, ◌+◌, ◌-◌, ◌^◌, ◌++◌, List, [], ◌∷◌, ℕ, length, Contains, Some, IfOk, IfErr, OnOk, MatchResult};
 ghost use Rattle.std.specs.Io.KnownBytes.{Consumes};
 ghost use Rattle.ix_text.specs.Parts.{DocumentRow, Posting};
 ghost use Rattle.ix_text.specs.TokenMarks.{HoldsNumbers, room};
 ghost use Rattle.ix_text.specs.TokenNumbers.{AreDistinct, numbers_of_posting};
-ghost use Rattle.ix_text.specs.TokenTables.{HasTokens, IsSpan};
+ghost use Rattle.ix_text.specs.TokenTables.{HasTokens};
 ghost use Rattle.ix_vbyte.specs.Code.{code_of};
 ghost use Rattle.ix_vbyte.specs.Gaps.{Ascends, gaps_of};
 ghost use Rattle.ix_vbyte.specs.Postings.{codes_of, posting_bytes};
@@ -14,6 +14,7 @@ ghost use Rattle.ix_run_text.specs.RunTextErrors.{IsRefusal};
 
 use crate::RunTextError;
 use crate::input::Input;
+use crate::marking::{document_behind, mark_single};
 use ix_text::{TokenMarks, TokenTable};
 use std::io::Read;
 
@@ -154,16 +155,7 @@ fn tell_single(
         → posting.1 ≡ (position_gap - 1) ∷ []
         → IfErr result IsRefusal }
 {
-    let Some((document, span)) = document_behind(tokens, next, gap) else {
-        return Err(RunTextError::DocRange);
-    };
-    let (first, count) = span;
-    if position_gap > count {
-        return Err(RunTextError::PositionRange);
-    }
-    if !marks.mark(first + (position_gap - 1)) {
-        return Err(RunTextError::Doubled);
-    }
+    let document = mark_single(gap, position_gap, next, tokens, marks)?;
     positions.clear();
     positions.push(position_gap - 1)?;
     Ok(document)
@@ -217,20 +209,6 @@ fn read_number<R: Read>(input: &mut Input<R>, limit: usize) -> Result<(u32, usiz
         return Err(RunTextError::Zero);
     }
     Ok((number, bytes))
-}
-
-/// The document behind a gap, and the number of its first token with how many tokens it has. None where there is no
-/// such document.
-#[inline]
-pub(crate) fn document_behind(tokens: &TokenTable, next: u32, gap: u32) -> Option<(u32, (u32, u32))>
-    requires { 0 < gap }
-    ensures { (rows : List DocumentRow) → HasTokens tokens.now rows
-        → MatchOption result (length rows < 2 ^ 32 → length rows ≤ next + (gap - 1)) (λ found.
-        (found.0 ≡ next + (gap - 1)) × IsSpan rows found.0 found.1) }
-{
-    let document = next.checked_add(gap - 1)?;
-    let span = tokens.span(document)?;
-    Some((document, span))
 }
 
 /// Takes so many positions, in at most `limit` bytes, of a document with this span, and marks their tokens. Answers

@@ -1,9 +1,9 @@
 //! Taking the postings of a list whose bytes are all at hand: each is checked, and its tokens are marked, as it comes.
-ghost use Rattle.std.specs.Prelude.{◌≡◌, ◌<◌, ◌≤◌, ◌+◌, ◌-◌, ◌^◌, ◌++◌, [], ◌∷◌, List, ℕ, Some, IfOk, IfErr, MatchResult, Contains, drop, length};
+ghost use Rattle.std.specs.Prelude.{◌≡◌, ◌<◌, ◌≤◌, ◌+◌, ◌-◌, ◌^◌, ◌++◌, [], ◌∷◌, List, ℕ, Some, IfOk, IfErr, MatchOption, MatchResult, Contains, drop, length};
 ghost use Rattle.ix_text.specs.Parts.{DocumentRow, Posting};
 ghost use Rattle.ix_text.specs.TokenMarks.{HoldsNumbers, room};
 ghost use Rattle.ix_text.specs.TokenNumbers.{AreDistinct, numbers_of_posting};
-ghost use Rattle.ix_text.specs.TokenTables.{HasTokens};
+ghost use Rattle.ix_text.specs.TokenTables.{HasTokens, IsSpan};
 ghost use Rattle.ix_vbyte.specs.Code.{code_of};
 ghost use Rattle.ix_vbyte.specs.Postings.{posting_bytes};
 ghost use Rattle.ix_vbyte.specs.ShortPostings.{BeginsWithShort};
@@ -12,7 +12,6 @@ ghost use Rattle.ix_run_text.specs.RunTextErrors.{IsRefusal};
 ghost use Rattle.ix_run_text.specs.MarkedLists.{ListStands, MarksList, MarksPositions, MarksPosting, BeginsWithPosition};
 
 use crate::RunTextError;
-use crate::list::document_behind;
 use ix_text::{TokenMarks, TokenTable};
 use ix_vbyte::{VbError, decode, short_number, short_posting};
 
@@ -160,6 +159,20 @@ pub(crate) fn mark_single(
     Ok(document)
 }
 
+/// The document behind a gap, and the number of its first token with how many tokens it has. None where there is no
+/// such document.
+#[inline]
+pub(crate) fn document_behind(tokens: &TokenTable, next: u32, gap: u32) -> Option<(u32, (u32, u32))>
+    requires { 0 < gap }
+    ensures { (rows : List DocumentRow) → HasTokens tokens.now rows
+        → MatchOption result (length rows < 2 ^ 32 → length rows ≤ next + (gap - 1)) (λ found.
+        (found.0 ≡ next + (gap - 1)) × IsSpan rows found.0 found.1) }
+{
+    let document = next.checked_add(gap - 1)?;
+    let span = tokens.span(document)?;
+    Some((document, span))
+}
+
 /// How many bytes so many positions take that the bytes begin with, of a document with this span. Their tokens are marked.
 ///
 /// The errors are those of `read_posting`, where the bytes end with the list. After an error any tokens may be marked.
@@ -201,7 +214,7 @@ fn mark_position(
     requires below { next ≤ span.1 }
     requires fits { span.0 + span.1 ≤ 2 ^ 28 }
     requires room { span.0 + span.1 ≤ room marks.old }
-    ensures walked { IfOk result (λ found.
+    ensures begins { IfOk result (λ found.
         BeginsWithPosition next span.1 bytes.now found.0 found.1) }
     ensures room { room marks.new ≡ room marks.old }
     ensures marked { IfOk result (λ found. (numbers : List ℕ) → HoldsNumbers marks.old numbers

@@ -8,7 +8,7 @@ use ix_vbyte::cursor::Postings;
 use std::io::Read;
 
 impl<R: Read + Drop> RunReader<R> {
-    ghost use Rattle.std.specs.Prelude.{◌≡◌, ◌≤◌, ◌↔◌, List, Some, IsSome, IsTrue, IfErr, IfOk, IfSome, OnErr, OnOk};
+    ghost use Rattle.std.specs.Prelude.{◌≡◌, ◌≤◌, ◌↔◌, List, Some, IsSome, IsTrue, IfErr, IfOk, OnErr, OnOk};
     ghost use Rattle.ix_text.specs.Parts.{DictionaryEntry};
     ghost use Rattle.ix_run_text.specs.Reading.{HasRead, IsDrained, IsHeldWhole, MayYield, term_of};
     ghost use Rattle.ix_run_text.specs.RunReaders.{heading_read};

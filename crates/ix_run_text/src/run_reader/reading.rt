@@ -6,7 +6,7 @@ use std::io::Read;
 use std::mem::replace;
 
 impl<R: Read + Drop> Source for RunReader<R> {
-    ghost use Rattle.std.specs.Prelude.{◌≡◌, ◌<◌, ◌≤◌, ◌∷◌, [], List, ℕ, Some, None, Ok, Err, false, IsSome, IfErr, IfOk, IfSome, OnErr, OnOk, MatchBool, MatchOption, MatchResult};
+    ghost use Rattle.std.specs.Prelude.{◌≡◌, ◌<◌, ◌≤◌, [], List, ℕ, Some, None, Ok, Err, false, IsSome, IfErr, IfOk, IfSome, OnErr, OnOk, MatchBool, MatchOption, MatchResult};
     ghost use Rattle.ix_text.specs.Parts.{DictionaryEntry, Posting};
     ghost use Rattle.ix_run_text.specs.Reading.{BeginsFirst, Faces, GivesFirst, HasFailed, HasRead, IsDrained, IsEnded, MayYield, postings_left, term_of};
     ghost use Rattle.ix_run_text.specs.RunReaders.{heading_read};

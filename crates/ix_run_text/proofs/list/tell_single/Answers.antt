@@ -1,46 +1,26 @@
--- The document's tokens have their marks, and the one told is the posting's.
-use Rattle.std.proofs.Common.{◌≡◌, ℕ, ◌-◌, ◌∷◌, [], List, ◌++◌, ap, ◌∙◌, arith, sym, subst}
-use Rattle.std.proofs.lemmas.Bool.{false≢true}
-use Rattle.ix_text.specs.TokenTables.{IsSpan}
-use Rattle.ix_run_text.proofs.PostingLemmas.{ascends_single, document_within, few_documents, free_single, marked_single, span_within}
+-- The posting's token is marked, and its position is all that is held.
+use Rattle.std.proofs.Common.{◌≡◌, ℕ, ◌-◌, ◌∷◌, [], List, ◌++◌, ap, ◌∙◌, sym, subst}
+use Rattle.std.proofs.lemmas.Result.{err_from_is_err_and}
+use Rattle.ix_text.specs.TokenMarks.{HoldsNumbers}
+use Rattle.ix_text.specs.TokenNumbers.{numbers_of_posting}
+use Rattle.ix_run_text.specs.ReadPostings.{IsFree, PostingFits}
 use Rattle.ix_run_text.proofs.list.tell_single.Goals as goal
 
-pub returns-in_default-clause-accepted : goal.returns-in_default-clause-accepted
-returns-in_default-clause-accepted c rows numbers posting has held fits free gap only =
-    let tokens = c.args.tokens.now in
-    let marks = c.args.marks.now in
-    let past = c.in_default.ensures rows has (few_documents tokens marks c.requires.ready rows has c.args.next posting fits) in
-    omega (arith, past, gap, fits.above, document_within tokens marks c.requires.ready rows has c.args.next posting fits)
+pub returns-in_err-document-clause-accepted : goal.returns-in_err-document-clause-accepted
+returns-in_err-document-clause-accepted c rows numbers posting has held fits free gap only =
+    let p = err_from_is_err_and c.from_residual.result c.from_residual.ensures.1 in
+    rw (p.1, p.2) (c.in_err-document.ensures.accepted rows numbers posting has held fits free gap only)
 
-pub returns-then-position_gap-count-clause-accepted : goal.returns-then-position_gap-count-clause-accepted
-returns-then-position_gap-count-clause-accepted c rows numbers posting has held fits free gap only =
-    let found = c.in-Some.ensures rows has in
-    let same : c.in-Some.document ≡ posting.0 = omega (arith, found.0, gap, fits.above) in
-    let span = subst (λ (document : ℕ). IsSpan rows document c.in-Some.span) same found.1 in
-    omega (arith, c.if-position_gap-count.true, ascends_single c.args.tokens.now c.args.marks.now c.requires.ready rows has c.args.next posting fits c.args.position_gap c.in-Some.span span only, c.requires.some.1)
+pub returns-clause-told : goal.returns-clause-told
+returns-clause-told c =
+    (c.in_ok-document.ensures.told, c.in_ok-push.ensures.items ∙ ap (λ (xs : List ℕ). xs ++ (c.args.position_gap - 1) ∷ []) c.clear.ensures.items)
 
-pub overflow_add-first : goal.overflow_add-first
-overflow_add-first c =
-    let ready = c.requires.ready in
-    let found = c.in-Some.ensures ready.rows ready.has in
-    omega (arith, span_within ready.rows c.in-Some.document c.in-Some.span found.1, ready.few_tokens, c.if-position_gap-count.false)
-
-pub mark-requires : goal.mark-requires
-mark-requires c =
-    let ready = c.requires.ready in
-    let found = c.in-Some.ensures ready.rows ready.has in
-    omega (arith, span_within ready.rows c.in-Some.document c.in-Some.span found.1, ready.marked, c.if-position_gap-count.false, c.requires.some.1)
-
-pub returns-then-not-mark-clause-accepted : goal.returns-then-not-mark-clause-accepted
-returns-then-not-mark-clause-accepted c rows numbers posting has held fits free gap only =
-    let found = c.in-Some.ensures rows has in
-    let same : c.in-Some.document ≡ posting.0 = omega (arith, found.0, gap, fits.above) in
-    let span = subst (λ (document : ℕ). IsSpan rows document c.in-Some.span) same found.1 in
-    absurd (false≢true (sym c.if-not-mark.true ∙ (c.mark.ensures.free numbers held).1 (free_single rows numbers posting c.args.position_gap c.in-Some.span span free only)))
+pub returns-clause-fits : goal.returns-clause-fits
+returns-clause-fits c rows has =
+    let only : c.push.new.self.items ≡ (c.args.position_gap - 1) ∷ [] = c.in_ok-push.ensures.items ∙ ap (λ (xs : List ℕ). xs ++ (c.args.position_gap - 1) ∷ []) c.clear.ensures.items in
+    subst (λ (xs : List ℕ). PostingFits rows c.args.next (c.in_ok-document.document, xs)) (sym only) (c.in_ok-document.ensures.fits rows has)
 
 pub returns-clause-marked : goal.returns-clause-marked
 returns-clause-marked c rows numbers has held distinct =
-    let found = c.in-Some.ensures rows has in
     let only : c.push.new.self.items ≡ (c.args.position_gap - 1) ∷ [] = c.in_ok-push.ensures.items ∙ ap (λ (xs : List ℕ). xs ++ (c.args.position_gap - 1) ∷ []) c.clear.ensures.items in
-    marked_single rows numbers c.in-Some.document c.args.position_gap c.push.new.self.items c.in-Some.span found.1 only c.mark.new.self distinct
-    ((c.mark.ensures.free numbers held).0 c.if-not-mark.false) (c.mark.ensures.marked numbers held)
+    subst (λ (xs : List ℕ). IsFree rows numbers (c.in_ok-document.document, xs) × HoldsNumbers c.mark_single.new.marks (numbers ++ numbers_of_posting rows (c.in_ok-document.document, xs))) (sym only) (c.in_ok-document.ensures.marked rows numbers has held distinct)

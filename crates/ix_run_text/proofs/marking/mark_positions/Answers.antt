@@ -19,7 +19,7 @@ loop-preserved c =
     let new = c.mark_position.new.marks in
     subst (λ (rest : List ℕ). MarkedSoFar c.args.span.0 c.args.span.1 c.args.count (loop.counter + 1) c.args.bytes.now rest (c.in_ok-position.position + 1) c.args.marks.now new) (sym (take_rest loop.rest.now c.in_ok-position.size))
     (so_far_more c.args.span.0 c.args.span.1 c.args.count loop.counter c.args.bytes.now loop.rest.now loop.next c.args.marks.now loop.marks loop.invariant c.loop-test.true
-    c.in_ok-position.position c.in_ok-position.size new is.walked is.room is.marked is.accepted)
+    c.in_ok-position.position c.in_ok-position.size new is.begins is.room is.marked is.accepted)
 
 pub returns-clause-accepted : goal.returns-clause-accepted
 returns-clause-accepted c =
