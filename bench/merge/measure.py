@@ -1,6 +1,8 @@
 #!/usr/bin/env python3
 """Measures merging, and prints the best of each over the rounds of the bench, with the limits that are set beside the
-figures. What POSTINGS alone takes is the whole less the index of one document that holds each term once.
+figures. What POSTINGS alone takes is the whole less the index of one document that holds each term once. Of copying the
+middle of the rounds is told too: in some rounds the copy finds memory that is there from the round before, and a merge,
+which takes more, finds little.
 
 usage: measure.py MERGE_BENCH TEXT TERMS
 """
@@ -23,6 +25,11 @@ def best(words):
     return [min(column) for column in zip(*rounds_of(words))]
 
 
+def middle(numbers):
+    """The number in the middle."""
+    return sorted(numbers)[len(numbers) // 2]
+
+
 def main():
     bench, text, terms = sys.argv[1:]
     with open(text, "rb") as lines:
@@ -31,11 +38,14 @@ def main():
     with open(terms, "wb") as out:
         subprocess.run([bench, "terms", text], stdout=out, check=True)
     listed = best([bench, terms, "1"])[1]
-    few, many = (best([bench, text, blocks[parts]]) for parts in (PARTS, MOST))
+    rounds = rounds_of([bench, text, blocks[PARTS]])
+    few = [min(column) for column in zip(*rounds)]
+    many = best([bench, text, blocks[MOST]])
     inverted, merged, from_texts, read, copied, size, runs, positions, alike = few
+    usual = middle([line[4] for line in rounds])
     print(f"{os.path.getsize(text)} bytes of text, {count} documents; an index of {size} bytes with {positions} positions; inverting {inverted} us")
     print(f"merging {runs} runs in memory {merged} us, {merged / inverted:.2f} times inverting (limit {INVERTING})")
-    print(f"  its dictionary and grams {listed} us; the rest {(merged - listed) / copied:.1f} times a copy of the index, {copied} us (limit {COPY} of POSTINGS)")
+    print(f"  its dictionary and grams {listed} us; the rest {(merged - listed) / usual:.1f} times a copy of the index, {usual} us (limit {COPY} of POSTINGS), and {(merged - listed) / copied:.1f} times the fastest copy, {copied} us")
     print(f"  from run texts {from_texts} us, where reading them takes {read} us: {from_texts / (read + merged):.2f} times both (limit 1)")
     print(f"merging {many[6]} runs {many[1]} us, {many[1] / merged:.2f} times as long (limit {MANY})")
     print("the run texts give the same bytes" if alike and many[8] else "THE RUN TEXTS GIVE OTHER BYTES")
