@@ -2,7 +2,8 @@
 """Measures merging, and prints the best of each over the rounds of the bench, with the limits that are set beside the
 figures. What POSTINGS alone takes is the whole less the index of one document that holds each term once. Of copying the
 middle of the rounds is told too: in some rounds the copy finds memory that is there from the round before, and a merge,
-which takes more, finds little.
+which takes more, finds little. A thousand runs and sixteen are merged in turn by one process, since the speed of a machine
+may move between two.
 
 usage: measure.py MERGE_BENCH TEXT TERMS
 """
@@ -41,13 +42,15 @@ def main():
     rounds = rounds_of([bench, text, blocks[PARTS]])
     few = [min(column) for column in zip(*rounds)]
     many = best([bench, text, blocks[MOST]])
+    pairs = rounds_of([bench, text, blocks[PARTS], blocks[MOST]])
+    least = [min(column) for column in zip(*pairs)]
     inverted, merged, from_texts, read, copied, size, runs, positions, alike = few
     usual = middle([line[4] for line in rounds])
     print(f"{os.path.getsize(text)} bytes of text, {count} documents; an index of {size} bytes with {positions} positions; inverting {inverted} us")
     print(f"merging {runs} runs in memory {merged} us, {merged / inverted:.2f} times inverting (limit {INVERTING})")
     print(f"  its dictionary and grams {listed} us; the rest {(merged - listed) / usual:.1f} times a copy of the index, {usual} us (limit {COPY} of POSTINGS), and {(merged - listed) / copied:.1f} times the fastest copy, {copied} us")
     print(f"  from run texts {from_texts} us, where reading them takes {read} us: {from_texts / (read + merged):.2f} times both (limit 1)")
-    print(f"merging {many[6]} runs {many[1]} us, {many[1] / merged:.2f} times as long (limit {MANY})")
+    print(f"merging {many[6]} runs {least[1]} us, {least[1] / least[0]:.2f} times as long as {runs} in turn with them, {least[0]} us; in the middle of {len(pairs)} rounds {middle([one / other for other, one in pairs]):.2f} times (limit {MANY})")
     print("the run texts give the same bytes" if alike and many[8] else "THE RUN TEXTS GIVE OTHER BYTES")
     print(f"memory of inverting and merging: {peak_of([bench, text, blocks[PARTS], 'once']) / os.path.getsize(text):.2f} times the text, which is part of it")
 
