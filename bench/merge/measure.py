@@ -1,9 +1,9 @@
 #!/usr/bin/env python3
 """Measures merging, and prints the best of each over the rounds of the bench, with the limits that are set beside the
-figures. What POSTINGS alone takes is the whole less the index of one document that holds each term once. Of copying the
-middle of the rounds is told too: in some rounds the copy finds memory that is there from the round before, and a merge,
-which takes more, finds little. A thousand runs and sixteen are merged in turn by one process, since the speed of a machine
-may move between two.
+figures. What POSTINGS alone takes is the whole less the index of one document that holds each term once, which another
+process makes. It is told twice, the best beside the best copy and the middle of the rounds beside the middle copy: a copy
+into memory that is there from the round before takes a quarter of one that asks the system for it. A thousand runs and
+sixteen are merged in turn by one process too, since the speed of a machine may move between two.
 
 usage: measure.py MERGE_BENCH TEXT TERMS
 """
@@ -38,7 +38,8 @@ def main():
     blocks = {parts: str(max(1, -(-count // parts))) for parts in (PARTS, MOST)}
     with open(terms, "wb") as out:
         subprocess.run([bench, "terms", text], stdout=out, check=True)
-    listed = best([bench, terms, "1"])[1]
+    listing = [line[1] for line in rounds_of([bench, terms, "1"])]
+    listed = min(listing)
     rounds = rounds_of([bench, text, blocks[PARTS]])
     few = [min(column) for column in zip(*rounds)]
     many = best([bench, text, blocks[MOST]])
@@ -46,11 +47,14 @@ def main():
     least = [min(column) for column in zip(*pairs)]
     inverted, merged, from_texts, read, copied, size, runs, positions, alike = few
     usual = middle([line[4] for line in rounds])
+    rest = middle([line[1] for line in rounds]) - middle(listing)
     print(f"{os.path.getsize(text)} bytes of text, {count} documents; an index of {size} bytes with {positions} positions; inverting {inverted} us")
     print(f"merging {runs} runs in memory {merged} us, {merged / inverted:.2f} times inverting (limit {INVERTING})")
-    print(f"  its dictionary and grams {listed} us; the rest {(merged - listed) / usual:.1f} times a copy of the index, {usual} us (limit {COPY} of POSTINGS), and {(merged - listed) / copied:.1f} times the fastest copy, {copied} us")
+    print(f"  its dictionary and grams {listed} us; the rest {(merged - listed) / copied:.1f} times a copy of the index, {copied} us (limit {COPY} of POSTINGS); by the middle of the rounds {rest / usual:.1f} times, {usual} us")
     print(f"  from run texts {from_texts} us, where reading them takes {read} us: {from_texts / (read + merged):.2f} times both (limit 1)")
-    print(f"merging {many[6]} runs {least[1]} us, {least[1] / least[0]:.2f} times as long as {runs} in turn with them, {least[0]} us; in the middle of {len(pairs)} rounds {middle([one / other for other, one in pairs]):.2f} times (limit {MANY})")
+    print(f"merging {many[6]} runs {many[1]} us, {many[1] / merged:.2f} times as long (limit {MANY})")
+    ratios = [other / one for one, other in pairs]
+    print(f"  in turn with {runs} runs in one process {least[1] / least[0]:.2f} times by the best, {middle(ratios):.2f} by the middle of {len(ratios)} rounds, of which {sum(ratio > MANY for ratio in ratios)} are above the limit")
     print("the run texts give the same bytes" if alike and many[8] else "THE RUN TEXTS GIVE OTHER BYTES")
     print(f"memory of inverting and merging: {peak_of([bench, text, blocks[PARTS], 'once']) / os.path.getsize(text):.2f} times the text, which is part of it")
 
