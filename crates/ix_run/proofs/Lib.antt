@@ -1,7 +1,6 @@
 pub mod Blocks
 pub mod CodedLists
 pub mod CodedPlaces
-pub mod FirstGaps
 pub mod FrontLemmas
 pub mod HeldTermLemmas
 pub mod Inverting

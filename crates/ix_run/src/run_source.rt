@@ -160,6 +160,7 @@ impl<'a> Source for RunSource<'a> {
     }
 
     /// Goes on to the next term. False: there is none, now and at each later call. Never refused, and takes no memory.
+    #[inline(always)]
     fn next_term(&mut self) -> Result<bool, Memory>
         ensures heading { self.new.heading ≡ self.old.heading }
         ensures begun { IfOk result (λ more. MatchBool more

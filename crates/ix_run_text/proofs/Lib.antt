@@ -23,6 +23,7 @@ pub mod ReadWholes
 pub mod ReaderLists
 pub mod RowLemmas
 pub mod RunTold
+pub mod ShiftedLists
 pub mod ShortCodes
 pub mod SpelledLemmas
 pub mod StopTermLemmas

@@ -1,8 +1,8 @@
 -- A reader whose list is held whole: what its calls ask, what it gave when the list was taken, and which list stands there.
-use Rattle.std.proofs.Common.{◌≡◌, ℕ, ◌-◌, ◌+◌, ◌^◌, ◌≤◌, List, [], ◌∷◌, ◌++◌, length, take, drop, Option, Some, None, string_bytes, ap, sym, subst, ◌∙◌, arith, length-drop, length-take, take-append-drop}
+use Rattle.std.proofs.Common.{◌≡◌, ℕ, ◌-◌, ◌+◌, ◌^◌, ◌<◌, ◌≤◌, List, [], ◌∷◌, ◌++◌, length, take, drop, Option, Some, None, string_bytes, ap, sym, subst, ◌∙◌, arith, length-drop, length-take, take-append-drop}
 use Rattle.std.proofs.lemmas.List.Elements.{All-weaker}
 use Rattle.std.specs.Io.KnownBytes.{Consumes}
-use Rattle.ix_text.specs.Parts.{DictionaryEntry, Posting}
+use Rattle.ix_text.specs.Parts.{DictionaryEntry, DocumentRow, Posting}
 use Rattle.std.specs.Io.KnownBytes.{prepend_known}
 use Rattle.std.specs.List.{flat_map}
 use Rattle.std.proofs.Math.Seq.{take-append_seam}
@@ -17,19 +17,26 @@ use Rattle.ix_run_text.proofs.ReadWholes.{closed-given, posting_fits}
 use Rattle.ix_run_text.proofs.Fronts.{whole_front}
 use Rattle.ix_text.proofs.TokensApart.{lawful_distinct}
 use Rattle.ix_text.specs.declared.token_marks.TokenMarks.{TokenMarks}
-use Rattle.ix_vbyte.specs.Postings.{ArePostings, IsPosting, documents_of, list_bytes, list_bytes_from, shifted}
-use Rattle.ix_vbyte.specs.Walking.{IsCodedList}
+use Rattle.ix_text.specs.TokenTables.{HasTokens}
+use Rattle.ix_vbyte.specs.Postings.{ArePostings, IsPosting, documents_of, list_bytes, list_bytes_from}
 use Rattle.ix_vbyte.proofs.Gaps.{Ascends-wider, next_after-push}
 use Rattle.ix_run_text.specs.Heads.{Heading, heading_of, parts_with}
 use Rattle.ix_run_text.specs.Inputs.{bytes_held, known_left, passed}
 use Rattle.ix_run_text.specs.Reading.{Faces, HasRead, IsHeldWhole, LieBehind, standing}
-use Rattle.ix_run_text.specs.MarkedLists.{ListStands, MarksList, PostingsFit}
+use Rattle.ix_run_text.specs.MarkedLists.{ListStands, MarksList, MayShift, PostingsFit}
 use Rattle.ix_run_text.specs.declared.run_reader.Place.TheVariants.{AtTerm}
 use Rattle.ix_run_text.specs.declared.run_reader.RunReader.{RunReader}
 use Rattle.ix_run_text.proofs.HeldLists.{TakesAll}
 use Rattle.ix_run_text.proofs.ReadSteps.{no_entry, term_at_hand}
 use Rattle.ix_run_text.proofs.FitPostings.{fit_are, near_fit}
 use Rattle.ix_run_text.proofs.WholeLists.{shift_postings}
+
+-- the list that was gone over is the one at hand
+pub marked_list : {R : Type 0} (reader : RunReader R) (after : ℕ) (marks : TokenMarks) (bytes : List ℕ) → bytes ≡ bytes_held reader.input
+    → ((rows : List DocumentRow) → HasTokens reader.tokens rows → MarksList rows bytes reader.bytes reader.documents after reader.marks marks)
+    → MarksList (heading_of reader.head).rows (bytes_held reader.input) reader.bytes reader.documents after reader.marks marks
+marked_list reader after marks bytes is marked =
+    subst (λ (held : List ℕ). MarksList (heading_of reader.head).rows held reader.bytes reader.documents after reader.marks marks) is (marked (heading_of reader.head).rows reader.table)
 
 module _ {R : Type 0} (reader : RunReader R) (after : ℕ) (marks : TokenMarks) (held : IsHeldWhole reader)
     (list : MarksList (heading_of reader.head).rows (bytes_held reader.input) reader.bytes reader.documents after reader.marks marks) where
@@ -58,18 +65,17 @@ module _ {R : Type 0} (reader : RunReader R) (after : ℕ) (marks : TokenMarks) 
   pub marked_here : reader.place ≡ AtTerm
   marked_here = term_at_hand reader.place reader.documents reader.drained held.some
 
-  module _ (bytes : List ℕ) (is : bytes ≡ take reader.bytes (bytes_held reader.input)) where
-    pub marked_list : IsCodedList reader.documents bytes
-    marked_list = record { postings = told; are = are; counted = list.counted; coded = is ∙ list.coded }
-
-    module _ (read : List Posting) (reads : (postings : List Posting) → ArePostings 0 (2 ^ 32 - 1) postings → length postings ≡ reader.documents → bytes ≡ list_bytes postings → read ≡ postings) where
-      pub marked_read : read ≡ told
-      marked_read = reads told are list.counted (is ∙ list.coded)
-
-      pub marked_shifted : (next : ℕ) → next ≤ reader.head.first → reader.head.first ≤ 2 ^ 28 → ArePostings next (2 ^ 32 - 1) (shifted reader.head.first read)
-      marked_shifted next low few =
-          subst (λ (ps : List Posting). ArePostings next (2 ^ 32 - 1) (shifted reader.head.first ps)) (sym marked_read)
-          (shift_postings reader.head.first 0 (2 ^ 28) next (2 ^ 32 - 1) told (omega (arith, low)) (omega (arith, few)) are_low)
+  -- its list may be counted from a number of the whole collection
+  pub marked_may : (next : ℕ) → next ≤ reader.head.first → reader.head.first ≤ 2 ^ 28 → MayShift reader.head.first next (take reader.bytes (bytes_held reader.input)) told
+  marked_may next low few =
+      let some = held.some in
+      let counted = list.counted in
+      record {
+        some = omega (arith, some, counted);
+        are = are;
+        coded = list.coded;
+        may = shift_postings reader.head.first 0 (2 ^ 28) next (2 ^ 32 - 1) told (omega (arith, low)) (omega (arith, few)) are_low;
+      }
 
   -- what it takes
   module _ (left behind : Option (List ℕ)) (consumes : Consumes left behind (take reader.bytes (bytes_held reader.input))) where
@@ -119,6 +125,10 @@ held_parts held list tail (Some xs) e within = (let is : held ++ xs ≡ list ++ 
 pub held_size : {R : Type 0} (input : Input R) → length (bytes_held input) ≡ (passed input).left
 unfolding bytes_held passed
 held_size input = (let inside = input.within in omega (arith, length-drop input.start (take input.end input.buffer.items), length-take input.end input.buffer.items, inside))
+
+pub held_narrow : {R : Type 0} (input : Input R) → (passed input).left < 2 ^ 32
+unfolding passed
+held_narrow input = (let inside = input.within in let narrow = input.narrow in omega (arith, inside, narrow))
 
 held_front : {R : Type 0} (remaining : R → Option (List ℕ)) (input : Input R) (list tail : List ℕ) → known_left remaining input ≡ Some (list ++ tail) → length list ≤ (passed input).left
     → bytes_held input ≡ list ++ drop (length list) (bytes_held input)

@@ -63,3 +63,7 @@ module _ {R : Type 0} (remaining : R → Option (List ℕ)) where
     last = gives.last;
     coded = gives.coded;
   }
+
+pub err_more : {T E : Type 0} {P Q : E → Type 0} (result : Result T E) → ((error : E) → P error → Q error) → IfErr result P → IfErr result Q
+err_more (Ok x) more told = tt
+err_more (Err error) more told = more error told

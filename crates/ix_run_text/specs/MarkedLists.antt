@@ -1,5 +1,5 @@
 -- A list of postings whose tokens are marked as it is gone over: the postings that its bytes spell.
-use Rattle.std.specs.Prelude.{◌≡◌, ℕ, ◌+◌, ◌-◌, ◌<◌, ◌≤◌, List, [], ◌∷◌, ◌++◌, ⊤, length, take, drop}
+use Rattle.std.specs.Prelude.{◌≡◌, ℕ, ◌+◌, ◌-◌, ◌^◌, ◌<◌, ◌≤◌, List, [], ◌∷◌, ◌++◌, ⊤, length, take, drop}
 use Rattle.ix_text.specs.Parts.{DocumentRow, Posting}
 use Rattle.ix_text.specs.TokenMarks.{HoldsNumbers}
 use Rattle.ix_text.specs.TokenNumbers.{AreDistinct, numbers_of_posting, numbers_of_postings}
@@ -8,7 +8,7 @@ use Rattle.ix_text.specs.TokenTables.{HasTokens}
 use Rattle.ix_text.specs.declared.token_table.TokenTable.{TokenTable}
 use Rattle.ix_vbyte.specs.Code.{code_of}
 use Rattle.ix_vbyte.specs.Gaps.{Ascends, gaps_of, next_after}
-use Rattle.ix_vbyte.specs.Postings.{codes_of, documents_of, list_bytes, posting_bytes}
+use Rattle.ix_vbyte.specs.Postings.{ArePostings, codes_of, documents_of, list_bytes, posting_bytes, shifted}
 use Rattle.ix_run_text.specs.ReadPostings.{IsFree, PostingFits, numbers_at}
 
 -- postings that may come next in a list, one behind another
@@ -67,3 +67,11 @@ pub record ListStands (rows : List DocumentRow) (bytes : List ℕ) (size documen
   pub counted : length postings ≡ documents
   pub sized : length (list_bytes postings) ≡ size
   pub spelled : bytes ≡ list_bytes postings ++ behind
+
+-- The bytes are the list of these postings, of which there is one; their documents may be counted from another number, behind a
+-- document one below `next`.
+pub record MayShift (first next : ℕ) (bytes : List ℕ) (postings : List Posting) : Type 0 where
+  pub some : 0 < length postings
+  pub are : ArePostings 0 (2 ^ 32 - 1) postings
+  pub coded : bytes ≡ list_bytes postings
+  pub may : ArePostings next (2 ^ 32 - 1) (shifted first postings)

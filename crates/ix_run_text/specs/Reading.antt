@@ -149,6 +149,11 @@ pub record IsHeldWhole {R : Type 0} (reader : RunReader R) : Type 0 where
   pub fresh : reader.next ≡ 0
   pub held : reader.bytes ≤ (passed reader.input).left
 
+-- The reader stands where it stood, and the same bytes are before it.
+pub record StandsStill {R : Type 0} (old new : RunReader R) : Type 0 where
+  pub stands : standing new ≡ standing old
+  pub input : new.input ≡ old.input
+
 -- From the old state to the new one a reader took the bytes of this posting from its list, in which its document is
 -- counted from the one before.
 pub record TookPosting {R : Type 0} (old new : RunReader R) (posting : Posting) : Type 0 where

@@ -1,13 +1,43 @@
-//! A posting that was read, appended to a list as it was coded.
-ghost use Rattle.std.specs.Prelude.{◌≡◌, ◌<◌, ◌≤◌, ◌+◌, ◌-◌, ◌^◌, ◌++◌, length, OnOk, OnErr};
+//! Lists and postings that were read, appended to a list as they were coded.
+ghost use Rattle.std.specs.Prelude.{◌≡◌, ◌<◌, ◌≤◌, ◌+◌, ◌-◌, ◌^◌, ◌++◌, List, length, take, OnOk, OnErr, vec_capacity, vec_len};
+ghost use Rattle.ix_text.specs.Parts.{Posting};
 ghost use Rattle.ix_vbyte.specs.Gaps.{Ascends};
-ghost use Rattle.ix_vbyte.specs.Postings.{posting_bytes};
+ghost use Rattle.ix_vbyte.specs.Postings.{list_bytes_from, posting_bytes, shifted};
 ghost use Rattle.ix_run_text.specs.Inputs.{Buffered, Passes, passed};
+ghost use Rattle.ix_run_text.specs.MarkedLists.{MayShift};
 
 use crate::input::Input;
-use ix_vbyte::{code_len, push_code_and, push_posting};
+use ix_vbyte::{code_len, first_number, push_code_and, push_code_and_front, push_posting};
 use std::alloc::AllocError;
 use std::io::Read;
+
+/// How many bytes more a list may take where its documents are counted from another number: its first gap is coded anew.
+pub(crate) const MORE_BYTES: usize = 4;
+
+/// Appends the list that the bytes begin with, in `size` of them, to a list in which `next` is one above the document before
+/// it: each of its documents' numbers is raised by `first`. Where memory is refused, which it is only where `MORE_BYTES` more
+/// than the list has find no room, nothing was appended.
+#[inline]
+pub(crate) fn push_list(
+    bytes: &[u8],
+    size: usize,
+    first: u32,
+    next: u32,
+    out: &mut Vec<u8>,
+) -> Result<(), AllocError>
+    requires within { size ≤ length bytes.now }
+    requires may { (postings : List Posting)
+        × MayShift first next (take size bytes.now) postings }
+    ensures ok { (postings : List Posting) → MayShift first next (take size bytes.now) postings
+        → OnOk result (out.new.items
+        ≡ out.old.items ++ list_bytes_from next (shifted first postings)) }
+    ensures err { OnErr result (out.new.items ≡ out.old.items) }
+    ensures full { OnErr result (vec_capacity out.old < vec_len out.old + (size + 4)) }
+{
+    let (gap, rest) = first_number(&bytes[..size]);
+    let behind = &bytes[size - rest.len()..];
+    push_code_and_front(out, first + gap - next, behind, rest.len())
+}
 
 /// A posting as it was read.
 #[derive(Clone, Copy)]

@@ -1,5 +1,5 @@
 //! What is left of a reader, buffered.
-ghost use Rattle.std.specs.Prelude.{◌≡◌, ◌<◌, ◌≤◌, ◌++◌, ◌+◌, List, [], ℕ, length, take, vec_len, ◌∷◌, ◌↔◌, IfOk, IfErr, IfNone, IfSome, IsTrue, OnOk, MatchBool};
+ghost use Rattle.std.specs.Prelude.{◌≡◌, ◌^◌, ◌<◌, ◌≤◌, ◌++◌, ◌+◌, List, [], ℕ, length, take, vec_len, ◌∷◌, ◌↔◌, IfOk, IfErr, IfNone, IfSome, IsTrue, OnOk, MatchBool};
 ghost use Rattle.std.specs.Io.{ReadsAtMost};
 ghost use Rattle.std.specs.Io.KnownBytes.{Consumes, IsAtEnd, Keeps};
 ghost use Rattle.std.specs.Option.{option_to_list};
@@ -26,6 +26,7 @@ pub(crate) struct Input<R> {
     ghost ordered: { start ≤ end },
     ghost within: { end ≤ vec_len buffer },
     ghost room: { 0 < vec_len buffer },
+    ghost narrow: { vec_len buffer < 2 ^ 32 },
 }
 
 impl<R: Read> Input<R> {
@@ -269,19 +270,6 @@ impl<R: Read> Input<R> {
         ensures { result.now ≡ bytes_held self.now }
     {
         &self.buffer[self.start..self.end]
-    }
-
-    /// The bytes that come next, so many, where they are all buffered. Nothing is taken.
-    #[inline(always)]
-    pub(crate) fn ahead(&self, count: usize) -> Option<&[u8]>
-        ensures next { IfSome result (λ bytes. (bytes.now ≡ take count (bytes_held self.now))
-            × (length bytes.now ≡ count)) }
-        ensures none { IfNone result ((passed self.now).left < count) }
-    {
-        if count > self.end - self.start {
-            return None;
-        }
-        Some(&self.buffer[self.start..self.start + count])
     }
 
     /// Takes so many bytes, which are all buffered, without a look at them.

@@ -1,3 +1,4 @@
+pub mod Cutting
 pub mod Ends
 pub mod EndsByByte
 pub mod Fronts

@@ -1,14 +1,13 @@
 //! The postings of a list, into a list of a whole collection.
 
 use super::RunReader;
-use crate::copying::{TakenPosting, push_taken};
+use crate::copying::{MORE_BYTES, TakenPosting, push_list, push_taken};
 use crate::marking::mark_list;
 use crate::{ListError, Listed, RunTextError};
-use ix_vbyte::cursor::Postings;
 use std::io::Read;
 
 impl<R: Read + Drop> RunReader<R> {
-    ghost use Rattle.std.specs.Prelude.{◌≡◌, ◌≤◌, ◌↔◌, List, Some, IsSome, IsTrue, IfErr, IfOk, OnErr, OnOk};
+    ghost use Rattle.std.specs.Prelude.{◌≡◌, ◌≤◌, ◌<◌, ◌+◌, ◌↔◌, List, Some, IsSome, IsTrue, IfErr, IfOk, OnErr, OnOk, vec_capacity, vec_len};
     ghost use Rattle.ix_text.specs.Parts.{DictionaryEntry};
     ghost use Rattle.ix_run_text.specs.Reading.{HasRead, IsDrained, IsHeldWhole, MayYield, term_of};
     ghost use Rattle.ix_run_text.specs.RunReaders.{heading_read};
@@ -36,6 +35,8 @@ impl<R: Read + Drop> RunReader<R> {
         ensures fault { IfErr result (IsListFault (MayFault R.remaining self.old)) }
         ensures no_more_faults { OnOk result
             (KeepsFaults (MayFault R.remaining) self.old self.new) }
+        ensures kept { IsHeldWhole self.old → IfErr result (λ error. error ≡ ListError.Memory
+            → self.new ≡ self.old) }
     {
         if self.holds_list() {
             self.take_whole(next, out)
@@ -52,8 +53,8 @@ impl<R: Read + Drop> RunReader<R> {
     }
 
     /// The same of a list of which nothing was taken yet and which is buffered whole. It is checked, and its tokens are
-    /// marked, in one pass over its bytes, which are copied at once then. Where memory is refused for them, the list was
-    /// passed.
+    /// marked, in one pass over its bytes, which are copied at once then. The room for them is asked for before: where
+    /// memory is refused, which it is only where the list and `MORE_BYTES` find no room, the reader stands as it stood.
     fn take_whole(
         &mut self,
         next: u32,
@@ -74,10 +75,16 @@ impl<R: Read + Drop> RunReader<R> {
         ensures fault { IfErr result (IsListFault (MayFault R.remaining self.old)) }
         ensures no_more_faults { OnOk result
             (KeepsFaults (MayFault R.remaining) self.old self.new) }
+        ensures kept { IfErr result (λ error. error ≡ ListError.Memory → self.new ≡ self.old) }
+        ensures full { IfErr result (λ error. error ≡ ListError.Memory
+            → vec_capacity out.old < vec_len out.old + (self.old.bytes + 4)) }
     {
         let first = self.head.first;
         let documents = self.documents;
         let size = self.bytes;
+        if out.try_reserve(size + MORE_BYTES).is_err() {
+            return Err(ListError::Memory);
+        }
         let marked = mark_list(
             self.input.held(),
             size,
@@ -92,17 +99,13 @@ impl<R: Read + Drop> RunReader<R> {
                 return Err(ListError::Source(error));
             }
         };
-        let Some(list) = self.input.ahead(size) else {
+        let Ok(()) = push_list(self.input.held(), size, first, next, out) else {
             unreachable!()
         };
-        let pushed = Postings::new(list, documents).push_shifted(out, first, next);
         self.input.pass(size);
         self.next = after;
         self.documents = 0;
         self.bytes = 0;
-        if pushed.is_err() {
-            return Err(ListError::Memory);
-        }
         Ok(Listed {
             documents,
             next: first + after,

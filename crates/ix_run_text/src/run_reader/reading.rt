@@ -8,7 +8,7 @@ use std::mem::replace;
 impl<R: Read + Drop> Source for RunReader<R> {
     ghost use Rattle.std.specs.Prelude.{◌≡◌, ◌<◌, ◌≤◌, [], List, ℕ, Some, None, Ok, Err, false, IsSome, IfErr, IfOk, IfSome, OnErr, OnOk, MatchBool, MatchOption, MatchResult};
     ghost use Rattle.ix_text.specs.Parts.{DictionaryEntry, Posting};
-    ghost use Rattle.ix_run_text.specs.Reading.{BeginsFirst, Faces, GivesFirst, HasFailed, HasRead, IsDrained, IsEnded, MayYield, postings_left, term_of};
+    ghost use Rattle.ix_run_text.specs.Reading.{BeginsFirst, Faces, GivesFirst, HasFailed, HasRead, IsDrained, IsEnded, IsHeldWhole, MayYield, StandsStill, postings_left, term_of};
     ghost use Rattle.ix_run_text.specs.RunReaders.{heading_read};
     ghost use Rattle.ix_run_text.specs.RunTextErrors.{IsRefusal};
     ghost use Rattle.ix_run_text.specs.Sources.{BeginsTerm, EndsTerms, EndsPostings, GivesList, GivesPosting, KeepsFaults};
@@ -129,7 +129,8 @@ impl<R: Read + Drop> Source for RunReader<R> {
     /// at once.
     ///
     /// `ListError::Memory` where the list finds no room, and `ListError::Source` with the errors of `next_posting`. A
-    /// refusal leaves the term at hand, and `out` as it was; some postings of the term may have been passed.
+    /// refusal leaves the term at hand, and `out` as it was. `ListError::Memory` leaves the reader as it was where the list
+    /// is buffered whole and nothing was taken of it; else some postings of the term may have been passed.
     fn take_list(&mut self, next: u32, out: &mut Vec<u8>) -> Result<Listed, ListError<RunTextError>>
         requires at_hand { IsSome (term_of self.old) }
         requires begun { (finished : List DictionaryEntry)
@@ -145,6 +146,10 @@ impl<R: Read + Drop> Source for RunReader<R> {
         ensures fault { IfErr result (IsListFault (MayFault R.remaining self.old)) }
         ensures no_more_faults { OnOk result
             (KeepsFaults (MayFault R.remaining) self.old self.new) }
+
+        // What a refusal leaves.
+        ensures kept { IsHeldWhole self.old → IfErr result (λ error. error ≡ ListError.Memory
+            → StandsStill self.old self.new) }
     {
         let mut positions = replace(&mut self.positions, Vec::new(self.alloc));
         let listed = self.take_postings(next, &mut positions, out);

@@ -1,11 +1,11 @@
 //! Worked codes, and every short string of bytes.
-ghost use Rattle.std.specs.Prelude.{◌<◌, ◌^◌, length};
+ghost use Rattle.std.specs.Prelude.{◌<◌, ◌≤◌, ◌^◌, length};
 
 use super::digits::{bytes_of, digits_of};
 use crate::tables::{Call, otherwise};
 use ix_vbyte::{
-    VbError, code_len, decode, encode, push_code, push_counted, push_gaps, push_posting,
-    short_number, short_posting,
+    VbError, code_len, decode, encode, push_code, push_code_and_front, push_counted, push_gaps,
+    push_posting, short_number, short_posting,
 };
 use std::alloc::{AllocError, Global};
 use std::test::Fail;
@@ -231,6 +231,22 @@ fn counted(alloc: Global, bytes: &[u8], text: &[u8]) -> Result<Vec<u8>, AllocErr
     Ok(out)
 }
 
+/// The code of a number, and the first bytes of a text, so many, behind an x in a vector with room for so many bytes.
+fn code_and_front(
+    alloc: Global,
+    room: usize,
+    n: u32,
+    text: &[u8],
+    count: usize,
+) -> Result<Vec<u8>, AllocError>
+    requires { count ≤ length text.now }
+{
+    let mut out = Vec::with_capacity(alloc, room)?;
+    out.extend_from_slice(b"x")?;
+    push_code_and_front(&mut out, n, text, count)?;
+    Ok(out)
+}
+
 /// The gaps of 0, 4 and 5.
 fn gaps_from_zero(alloc: Global) -> Result<Vec<u8>, AllocError> {
     let mut out = Vec::new(alloc);
@@ -251,6 +267,26 @@ fn two_postings(alloc: Global) -> Result<Vec<u8>, AllocError> {
     push_posting(&mut out, 0, 0, &[1, 3])?;
     push_posting(&mut out, 1, 4, &[0])?;
     Ok(out)
+}
+
+#[test]
+fn fronts_behind_codes(rt: HostRuntime) -> Result<(), Fail> {
+    let text = b"abcdefghijklmnopqrstuvwxyz";
+    for room in [1, 4, 18, 19, 100] {
+        let out = code_and_front(rt.alloc(), room, 5, text, 0)?;
+        assert_eq!(rt; out.as_slice(), b"x\x85".as_slice());
+        let out = code_and_front(rt.alloc(), room, 824, text, 3)?;
+        assert_eq!(rt; out.as_slice(), b"x\x06\xb8abc".as_slice());
+        let out = code_and_front(rt.alloc(), room, 824, b"abc", 3)?;
+        assert_eq!(rt; out.as_slice(), b"x\x06\xb8abc".as_slice());
+        let out = code_and_front(rt.alloc(), room, 16384, text, 2)?;
+        assert_eq!(rt; out.as_slice(), b"x\x01\x00\x80ab".as_slice());
+        let out = code_and_front(rt.alloc(), room, 127, text, 16)?;
+        assert_eq!(rt; out.as_slice(), b"x\xffabcdefghijklmnop".as_slice());
+        let out = code_and_front(rt.alloc(), room, 128, text, 17)?;
+        assert_eq!(rt; out.as_slice(), b"x\x01\x80abcdefghijklmnopq".as_slice());
+    }
+    Ok(())
 }
 
 #[test]

@@ -3,9 +3,9 @@ use Rattle.std.proofs.Common.{◌≡◌, ℕ, ◌+◌, ◌-◌, ◌^◌, ◌<◌
 use Rattle.std.specs.Option.{option_copied}
 use Rattle.ix_vbyte.specs.Code.{code_of}
 use Rattle.ix_vbyte.specs.Postings.{ArePostings, list_bytes_from, shifted}
+use Rattle.ix_vbyte.proofs.Shifting.{shifted_parts}
 use Rattle.ix_run_text.specs.Heads.{heading_of}
 use Rattle.ix_run.specs.RunSources.{SourceValue}
-use Rattle.ix_run.proofs.FirstGaps.{counted_elsewhere}
 use Rattle.ix_run.proofs.run_source.RunSource.push_left.Goals as goal
 
 pub overflow_add-self-inside : goal.overflow_add-self-inside
@@ -14,7 +14,7 @@ overflow_add-self-inside c =
     let some : 0 < length source.postings = subst (λ (s : SourceValue). 0 < length s.postings) (sym c.self.view_is) c.requires.some in
     let may : ArePostings c.args.next (2 ^ 32 - 1) (shifted source.heading.first source.postings) =
     subst (λ (s : SourceValue). ArePostings c.args.next (2 ^ 32 - 1) (shifted s.heading.first s.postings)) (sym c.self.view_is) c.requires.may in
-    let is = counted_elsewhere c.self.inside.gap source.heading.first c.args.next c.self.inside.rest source.postings c.self.invariant.3 c.if-self-gt0.true some may in
+    let is = shifted_parts c.self.inside.gap source.heading.first c.args.next c.self.inside.rest source.postings (c.self.invariant.3 c.if-self-gt0.true) some may in
     let fits = is.fits in
     let first = c.self.invariant.2 in
     omega arith
@@ -25,7 +25,7 @@ overflow_sub-self-inside c =
     let some : 0 < length source.postings = subst (λ (s : SourceValue). 0 < length s.postings) (sym c.self.view_is) c.requires.some in
     let may : ArePostings c.args.next (2 ^ 32 - 1) (shifted source.heading.first source.postings) =
     subst (λ (s : SourceValue). ArePostings c.args.next (2 ^ 32 - 1) (shifted s.heading.first s.postings)) (sym c.self.view_is) c.requires.may in
-    let is = counted_elsewhere c.self.inside.gap source.heading.first c.args.next c.self.inside.rest source.postings c.self.invariant.3 c.if-self-gt0.true some may in
+    let is = shifted_parts c.self.inside.gap source.heading.first c.args.next c.self.inside.rest source.postings (c.self.invariant.3 c.if-self-gt0.true) some may in
     let low = is.low in
     let first = c.self.invariant.2 in
     omega arith
@@ -36,7 +36,7 @@ returns-then-self-gt0-clause-ok c =
     let some : 0 < length source.postings = subst (λ (s : SourceValue). 0 < length s.postings) (sym c.self.view_is) c.requires.some in
     let may : ArePostings c.args.next (2 ^ 32 - 1) (shifted source.heading.first source.postings) =
     subst (λ (s : SourceValue). ArePostings c.args.next (2 ^ 32 - 1) (shifted s.heading.first s.postings)) (sym c.self.view_is) c.requires.may in
-    let is = counted_elsewhere c.self.inside.gap source.heading.first c.args.next c.self.inside.rest source.postings c.self.invariant.3 c.if-self-gt0.true some may in
+    let is = shifted_parts c.self.inside.gap source.heading.first c.args.next c.self.inside.rest source.postings (c.self.invariant.3 c.if-self-gt0.true) some may in
     let P : SourceValue → Type 0 = λ s. code_of (c.self.inside.first + c.self.inside.gap - c.args.next) ++ c.self.inside.rest ≡ list_bytes_from c.args.next (shifted s.heading.first s.postings) in
     let first : c.self.inside.first + c.self.inside.gap - c.args.next ≡ source.heading.first + 0 + c.self.inside.gap - c.args.next = let e = c.self.invariant.2 in omega arith in
     let spelled = subst P c.self.view_is (ap (λ n. code_of n ++ c.self.inside.rest) first ∙ is.spelled) in
@@ -48,7 +48,7 @@ returns-then-self-gt0-clause-full c =
     let some : 0 < length source.postings = subst (λ (s : SourceValue). 0 < length s.postings) (sym c.self.view_is) c.requires.some in
     let may : ArePostings c.args.next (2 ^ 32 - 1) (shifted source.heading.first source.postings) =
     subst (λ (s : SourceValue). ArePostings c.args.next (2 ^ 32 - 1) (shifted s.heading.first s.postings)) (sym c.self.view_is) c.requires.may in
-    let is = counted_elsewhere c.self.inside.gap source.heading.first c.args.next c.self.inside.rest source.postings c.self.invariant.3 c.if-self-gt0.true some may in
+    let is = shifted_parts c.self.inside.gap source.heading.first c.args.next c.self.inside.rest source.postings (c.self.invariant.3 c.if-self-gt0.true) some may in
     let P : SourceValue → Type 0 = λ s. code_of (c.self.inside.first + c.self.inside.gap - c.args.next) ++ c.self.inside.rest ≡ list_bytes_from c.args.next (shifted s.heading.first s.postings) in
     let first : c.self.inside.first + c.self.inside.gap - c.args.next ≡ source.heading.first + 0 + c.self.inside.gap - c.args.next = let e = c.self.invariant.2 in omega arith in
     let spelled = subst P c.self.view_is (ap (λ n. code_of n ++ c.self.inside.rest) first ∙ is.spelled) in

@@ -16,7 +16,7 @@ unfolding passed
 invariant_of-self g c =
     let few = c.requires in
     let ordered = c.args.self.now.ordered in
-    record { ordered = omega (arith, few, ordered); within = c.args.self.now.within; room = c.args.self.now.room }
+    record { ordered = omega (arith, few, ordered); within = c.args.self.now.within; room = c.args.self.now.room; narrow = c.args.self.now.narrow }
 
 pub returns : goal.returns
 unfolding known_left bytes_held

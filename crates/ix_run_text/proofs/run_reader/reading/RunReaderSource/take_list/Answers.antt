@@ -1,5 +1,8 @@
 -- The room for positions says nothing of where a reader stands.
-use Rattle.ix_run_text.proofs.ReaderLists.{faults_lent, list_fault_lent, list_lent}
+use Rattle.std.proofs.Common.{ap}
+use Rattle.ix_run_text.specs.Reading.{standing}
+use Rattle.ix_run_text.specs.declared.run_reader.RunReader.{RunReader}
+use Rattle.ix_run_text.proofs.ReaderLists.{err_more, faults_lent, list_fault_lent, list_lent}
 use Rattle.ix_run_text.proofs.run_reader.reading.RunReaderSource.take_list.Goals as goal
 
 pub returns-clause-given : goal.returns-clause-given
@@ -19,3 +22,9 @@ returns-clause-no_more_faults g c =
     (record { yielded = λ rest entries may. may; given = λ finished entry read. read; ended = λ ended. ended; failed = λ failed. failed; faced = λ postings entries faces. faces })
     (record { yielded = λ rest entries may. may; given = λ finished entry read. read; ended = λ ended. ended; failed = λ failed. failed; faced = λ postings entries faces. faces })
     c.take_postings-listed.result c.take_postings-listed.ensures.no_more_faults
+
+pub returns-clause-kept : goal.returns-clause-kept
+returns-clause-kept g c whole =
+    err_more c.take_postings-listed.result
+    (λ error kept is. (let same = kept is in record { stands = ap standing same; input = ap (λ (reader : RunReader g.row.R.Denot). reader.input) same }))
+    (c.take_postings-listed.ensures.kept (record { some = whole.some; fresh = whole.fresh; held = whole.held }))
