@@ -1,9 +1,10 @@
 #!/usr/bin/env python3
 """Measures merging, and prints the best of each over the rounds of the bench, with the limits that are set beside the
-figures. What POSTINGS alone takes is the whole less the index of one document that holds each term once, which another
-process makes. It is told twice, the best beside the best copy and the middle of the rounds beside the middle copy: a copy
-into memory that is there from the round before takes a quarter of one that asks the system for it. A thousand runs and
-sixteen are merged in turn by one process too, since the speed of a machine may move between two.
+figures. What POSTINGS alone takes is the whole less the index of one document that holds each term once. It is told three
+times. Where two processes make these two, the best stands beside the best copy and the middle of the rounds beside the
+middle copy: a copy into memory that is there from the round before takes a quarter of one that asks the system for it. And
+one process merges both and copies in turn, so that all three find such memory, or none does. A thousand runs and sixteen are
+merged in turn by one process too, since the speed of a machine may move between two.
 
 usage: measure.py MERGE_BENCH TEXT TERMS
 """
@@ -43,6 +44,9 @@ def main():
     rounds = rounds_of([bench, text, blocks[PARTS]])
     few = [min(column) for column in zip(*rounds)]
     many = best([bench, text, blocks[MOST]])
+    turns = rounds_of([bench, text, blocks[PARTS], terms])
+    shares = [(one - other) / copy for one, other, copy in turns]
+    whole, grams, again = [middle(column) for column in zip(*turns)]
     pairs = rounds_of([bench, text, blocks[PARTS], blocks[MOST]])
     least = [min(column) for column in zip(*pairs)]
     inverted, merged, from_texts, read, copied, size, runs, positions, alike = few
@@ -51,6 +55,7 @@ def main():
     print(f"{os.path.getsize(text)} bytes of text, {count} documents; an index of {size} bytes with {positions} positions; inverting {inverted} us")
     print(f"merging {runs} runs in memory {merged} us, {merged / inverted:.2f} times inverting (limit {INVERTING})")
     print(f"  its dictionary and grams {listed} us; the rest {(merged - listed) / copied:.1f} times a copy of the index, {copied} us (limit {COPY} of POSTINGS); by the middle of the rounds {rest / usual:.1f} times, {usual} us")
+    print(f"  in turn in one process {whole} us, {grams} us of them dictionary and grams, a copy {again} us: the rest {middle(shares):.1f} times a copy by the middle of {len(shares)} rounds, {min(shares):.1f} to {max(shares):.1f}, of which {sum(share > COPY for share in shares)} are above the limit")
     print(f"  from run texts {from_texts} us, where reading them takes {read} us: {from_texts / (read + merged):.2f} times both (limit 1)")
     print(f"merging {many[6]} runs {many[1]} us, {many[1] / merged:.2f} times as long (limit {MANY})")
     ratios = [other / one for one, other in pairs]
