@@ -3,8 +3,9 @@
 figures. What POSTINGS alone takes is the whole less the index of one document that holds each term once. It is told three
 times. Where two processes make these two, the best stands beside the best copy and the middle of the rounds beside the
 middle copy: a copy into memory that is there from the round before takes a quarter of one that asks the system for it. And
-one process merges both and copies in turn, so that all three find such memory, or none does. A thousand runs and sixteen are
-merged in turn by one process too, since the speed of a machine may move between two.
+one process merges both, and copies as many bytes as the one index is longer than the other, in turn: all three find such
+memory, or none does. A thousand runs and sixteen are merged in turn by one process too, since the speed of a machine may
+move between two.
 
 usage: measure.py MERGE_BENCH TEXT TERMS
 """
@@ -45,8 +46,8 @@ def main():
     few = [min(column) for column in zip(*rounds)]
     many = best([bench, text, blocks[MOST]])
     turns = rounds_of([bench, text, blocks[PARTS], terms])
-    shares = [(one - other) / copy for one, other, copy in turns]
-    whole, grams, again = [middle(column) for column in zip(*turns)]
+    shares = [(one - other) / copy for one, other, copy, _ in turns]
+    whole, grams, again, more = [middle(column) for column in zip(*turns)]
     pairs = rounds_of([bench, text, blocks[PARTS], blocks[MOST]])
     least = [min(column) for column in zip(*pairs)]
     inverted, merged, from_texts, read, copied, size, runs, positions, alike = few
@@ -55,8 +56,8 @@ def main():
     print(f"{os.path.getsize(text)} bytes of text, {count} documents; an index of {size} bytes with {positions} positions; inverting {inverted} us")
     ratios = [other / one for one, other in pairs]
     print(f"merging {runs} runs in memory {merged} us, {merged / inverted:.2f} times inverting (limit {INVERTING})")
-    print(f"  POSTINGS alone {middle(shares):.1f} times a copy of the index by the middle of {len(shares)} rounds, {min(shares):.1f} to {max(shares):.1f} (limit {COPY}; {sum(share > COPY for share in shares)} above): in turn in one process the whole {whole} us, dictionary and grams {grams} us, a copy {again} us")
-    print(f"  two processes apart: dictionary and grams {listed} us; the rest {(merged - listed) / copied:.1f} times the fastest copy, {copied} us; by the middle of the rounds {rest / usual:.1f} times, {usual} us")
+    print(f"  POSTINGS alone {middle(shares):.1f} times a copy of the {more} bytes that it writes by the middle of {len(shares)} rounds, {min(shares):.1f} to {max(shares):.1f} (limit {COPY}; {sum(share > COPY for share in shares)} above): in turn in one process the whole {whole} us, dictionary and grams {grams} us, a copy {again} us")
+    print(f"  two processes apart: dictionary and grams {listed} us; the rest {(merged - listed) / copied:.1f} times the fastest copy of the whole index, {copied} us; by the middle of the rounds {rest / usual:.1f} times, {usual} us")
     print(f"  from run texts {from_texts} us, where reading them takes {read} us: {from_texts / (read + merged):.2f} times both (limit 1)")
     print(f"merging {many[6]} runs {least[1] / least[0]:.2f} times as long by the best, {middle(ratios):.2f} by the middle of {len(ratios)} rounds (limit {MANY}; {sum(ratio > MANY for ratio in ratios)} above), in turn in one process")
     print(f"  two processes apart: {many[1]} us, {many[1] / merged:.2f} times as long")
