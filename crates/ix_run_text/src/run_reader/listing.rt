@@ -37,6 +37,8 @@ impl<R: Read + Drop> RunReader<R> {
             (KeepsFaults (MayFault R.remaining) self.old self.new) }
         ensures kept { IsHeldWhole self.old → IfErr result (λ error. error ≡ ListError.Memory
             → self.new ≡ self.old) }
+        ensures full { IsHeldWhole self.old → IfErr result (λ error. error ≡ ListError.Memory
+            → vec_capacity out.old < vec_len out.old + (self.old.bytes + 4)) }
     {
         if self.holds_list() {
             self.take_whole(next, out)

@@ -6,7 +6,7 @@ use std::io::Read;
 use std::mem::replace;
 
 impl<R: Read + Drop> Source for RunReader<R> {
-    ghost use Rattle.std.specs.Prelude.{◌≡◌, ◌<◌, ◌≤◌, [], List, ℕ, Some, None, Ok, Err, false, IsSome, IfErr, IfOk, IfSome, OnErr, OnOk, MatchBool, MatchOption, MatchResult};
+    ghost use Rattle.std.specs.Prelude.{◌≡◌, ◌<◌, ◌≤◌, ◌+◌, [], List, ℕ, Some, None, Ok, Err, false, IsSome, IfErr, IfOk, IfSome, OnErr, OnOk, MatchBool, MatchOption, MatchResult, vec_capacity, vec_len};
     ghost use Rattle.ix_text.specs.Parts.{DictionaryEntry, Posting};
     ghost use Rattle.ix_run_text.specs.Reading.{BeginsFirst, Faces, GivesFirst, HasFailed, HasRead, IsDrained, IsEnded, IsHeldWhole, MayYield, StandsStill, postings_left, term_of};
     ghost use Rattle.ix_run_text.specs.RunReaders.{heading_read};
@@ -129,8 +129,9 @@ impl<R: Read + Drop> Source for RunReader<R> {
     /// at once.
     ///
     /// `ListError::Memory` where the list finds no room, and `ListError::Source` with the errors of `next_posting`. A
-    /// refusal leaves the term at hand, and `out` as it was. `ListError::Memory` leaves the reader as it was where the list
-    /// is buffered whole and nothing was taken of it; else some postings of the term may have been passed.
+    /// refusal leaves the term at hand, and `out` as it was. Where the list is buffered whole and nothing was taken of it,
+    /// room is asked for the list and four bytes more, since its first gap may be coded longer, and `ListError::Memory`
+    /// leaves the reader as it was; else some postings of the term may have been passed.
     fn take_list(&mut self, next: u32, out: &mut Vec<u8>) -> Result<Listed, ListError<RunTextError>>
         requires at_hand { IsSome (term_of self.old) }
         requires begun { (finished : List DictionaryEntry)
@@ -150,6 +151,10 @@ impl<R: Read + Drop> Source for RunReader<R> {
         // What a refusal leaves.
         ensures kept { IsHeldWhole self.old → IfErr result (λ error. error ≡ ListError.Memory
             → StandsStill self.old self.new) }
+
+        // It is refused only where the list and four bytes more find no room.
+        ensures full { IsHeldWhole self.old → IfErr result (λ error. error ≡ ListError.Memory
+            → vec_capacity out.old < vec_len out.old + (self.old.bytes + 4)) }
     {
         let mut positions = replace(&mut self.positions, Vec::new(self.alloc));
         let listed = self.take_postings(next, &mut positions, out);
