@@ -224,7 +224,6 @@ impl<'a> TermWalk<'a> {
         ensures told { MatchOption result ((self.old ≡ []) × (self.new ≡ []))
             (λ found. self.old ≡ term_shown found.0 ∷ self.new) }
         ensures onward { IfSome result (λ found. IsFrontOf found.0.list.now found.1.now) }
-        ensures short { IfSome result (λ found. length found.0.list.now < 2 ^ 32) }
     {
         if self.bytes.is_empty() {
             return None;

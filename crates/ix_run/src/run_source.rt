@@ -18,14 +18,14 @@ pub struct RunSource<'a> {
     head: &'a RunHead,
     // the number of its first document, which stands in the head too: heads lie far apart in memory
     first: u32,
-    // the last document of the term at hand, where one of its postings is left
-    last: u32,
     // the terms that are left
     terms: TermWalk<'a>,
     // the term at hand
     term: Option<&'a str>,
     // its list, where none of its postings was taken singly; or else one of no postings
     list: WholeList<'a>,
+    // the last document of that term, where one of its postings is left
+    last: u32,
     // the postings that are left of it, where one was taken singly; or else none
     postings: Postings<'a>,
 }
@@ -93,10 +93,10 @@ impl<'a> RunSource<'a> {
         RunSource {
             head,
             first: head.first,
-            last: 0,
             terms,
             term: None,
             list: WholeList::none(),
+            last: 0,
             postings: Postings::new(&[], 0),
         }
     }

@@ -30,9 +30,9 @@ fn first_gap(list: &[u8]) -> (u32, usize)
 pub(crate) struct WholeList<'a> {
     // its bytes, and what stands behind them
     onward: &'a [u8],
-    size: u32,
+    size: usize,
     // how many of its bytes are the code of its first gap
-    code: u32,
+    code: usize,
     gap: u32,
     // how many postings it has, where it was not cleared
     documents: u32,
@@ -73,7 +73,6 @@ impl<'a> WholeList<'a> {
     /// This list of so many postings, which stands at the front of other bytes.
     #[inline(always)]
     pub(crate) fn new(list: &[u8], onward: &'a [u8], documents: u32) -> WholeList<'a>
-        requires short { length list.now < 2 ^ 32 }
         requires coded { IsCodedList documents list.now }
         requires front { IsFrontOf list.now onward.now }
         ensures { (postings : List (ℕ × List ℕ)) → ArePostings 0 (2 ^ 32 - 1) postings
@@ -82,8 +81,8 @@ impl<'a> WholeList<'a> {
         let (gap, code) = first_gap(list);
         WholeList {
             onward,
-            size: list.len() as u32,
-            code: code as u32,
+            size: list.len(),
+            code,
             gap,
             documents,
         }
@@ -102,7 +101,7 @@ impl<'a> WholeList<'a> {
         requires { 0 < length self.now }
         ensures { result ≡ self.now }
     {
-        Postings::new(&self.onward[..self.size as usize], self.documents)
+        Postings::new(&self.onward[..self.size], self.documents)
     }
 
     /// It has no postings any more.
@@ -131,8 +130,7 @@ impl<'a> WholeList<'a> {
         ensures full { OnErr result (vec_capacity out.old
             < vec_len out.old + length (list_bytes_from next (shifted first self.now))) }
     {
-        let rest = &self.onward[self.code as usize..];
-        let count = (self.size - self.code) as usize;
-        push_code_and_front(out, first + self.gap - next, rest, count)
+        let rest = &self.onward[self.code..];
+        push_code_and_front(out, first + self.gap - next, rest, self.size - self.code)
     }
 }
