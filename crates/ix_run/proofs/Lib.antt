@@ -18,7 +18,6 @@ pub mod SpanLemmas
 pub mod StretchMarks
 pub mod TermRows
 pub mod Turning
-pub mod WholeListLemmas
 pub mod Writing
 pub use Rattle.ix_run_text.proofs.ListSteps
 pub use Rattle.ix_run_text.proofs.ReadFronts

@@ -7,13 +7,14 @@ use Rattle.ix_text.specs.Parts.{DictionaryEntry, Posting, ArePartsOf, row_of}
 use Rattle.ix_text.specs.PartsLaws.{IsLawfulTerm}
 use Rattle.ix_text.proofs.PartsLawful.{lawful_parts}
 use Rattle.ix_text.proofs.PartsLemmas.{same_entry_fields}
+use Rattle.ix_vbyte.specs.Code.{code_of}
 use Rattle.ix_vbyte.specs.Gaps.{next_after}
 use Rattle.ix_vbyte.specs.Postings.{ArePostings, documents_of, list_bytes, list_bytes_from, shifted}
 use Rattle.ix_vbyte.specs.Walking.{IsCodedList}
 use Rattle.ix_vbyte.proofs.Gaps.{length-Ascends, next_after-le}
 use Rattle.ix_run_text.specs.Heads.{Heading, parts_with}
 use Rattle.ix_run.specs.Runs.{IsRunOf, RunValue, TermValue, coded, last_document, run_value}
-use Rattle.ix_run.specs.RunSources.{AreCoded, EndsAt, HasGiven, HasLeft, IsAtEndOfTerm, IsAtPlace, SourceValue, heading_shown, unread}
+use Rattle.ix_run.specs.RunSources.{AreCoded, BeginsBy, EndsAt, HasGiven, HasLeft, IsAtEndOfTerm, IsAtPlace, SourceValue, heading_shown, unread}
 use Rattle.ix_run_text.specs.Sources.{AreWhole, BeginsTerm, EndsPostings, EndsTerms, GivesList, GivesPosting, closed, entry_with, extended}
 use Rattle.ix_run_text.proofs.Fronts.{front_lawful}
 use Rattle.ix_run_text.proofs.WholeLists.{codable, list_below, postings_behind, shift_after, shift_postings}
@@ -319,19 +320,18 @@ ends_next last postings left posting is at = by left (subst (EndsAt last) is at)
     by [] at some = absurd (omega arith)
     by (q ∷ qs) at some = at (omega arith)
 
--- ---- a list of which nothing was taken, or what is left of one; the other is of no postings
-pub left_whole : (list postings : List Posting) → (0 < length list → postings ≡ []) → 0 < length list → list ++ postings ≡ list
-left_whole list postings other some = ap (λ (ps : List Posting). list ++ ps) (other some) ∙ append-nil list
+-- ---- the first gap of a list, and the bytes behind its code
+pub begins_none : (rest : List ℕ) (postings : List Posting) → BeginsBy 0 rest postings
+begins_none rest postings some = absurd (omega arith)
 
-pub left_rest : (list postings : List Posting) → length list ≡ 0 → list ++ postings ≡ postings
-left_rest [] postings none = refl
-left_rest (p ∷ ps) postings none = absurd (omega arith)
-
-pub others_left : (list postings : List Posting) → list ≡ [] → list ++ postings ≡ postings
-others_left list postings none = ap (λ (ps : List Posting). ps ++ postings) none
-
-pub nothing_more : (list postings : List Posting) → list ≡ [] → postings ≡ [] → list ++ postings ≡ []
-nothing_more list postings none_listed none_left = others_left list postings none_listed ∙ none_left
+pub begins_begun : (all : List TermValue) (value : TermValue) (values : List TermValue) (rest : List DictionaryEntry) (postings : List Posting) (gap : ℕ) (behind : List ℕ) → all ≡ value ∷ values → AreCoded all rest
+    → ToldBy value postings → (0 < gap → value.list ≡ code_of gap ++ behind) → BeginsBy gap behind postings
+begins_begun all value values rest postings gap behind is left told found some =
+    let P : List TermValue → Type 0 = λ values. AreCoded values rest in
+    let first = first_entry value values rest (subst P is left) in
+    let listed : postings ≡ first.entry.postings = told_postings value postings first.entry told first.is first.are in
+    let list : value.list ≡ list_bytes first.entry.postings = ap (λ (v : TermValue). v.list) first.is in
+    ap list_bytes listed ∙ sym list ∙ found some
 
 -- ---- all that is left of a list
 -- what is known of the postings that are left, so that they can be counted from elsewhere

@@ -11,7 +11,6 @@ pub mod RunSources
 pub mod Runs
 pub mod SeenWords
 pub mod TermLists
-pub mod WholeLists
 pub mod Writing
 pub use Rattle.ix_run_text.specs.Faults
 pub use Rattle.ix_run_text.specs.Heads

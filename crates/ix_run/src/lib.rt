@@ -7,6 +7,7 @@ mod coded_terms;
 mod coding;
 mod dictionary;
 mod errors;
+mod front;
 mod inversion;
 mod place_sort;
 mod room;
@@ -17,7 +18,6 @@ mod run_text;
 mod seen_words;
 mod span;
 mod term_list;
-mod whole_list;
 
 pub use errors::{RunError, WriteError};
 pub use inversion::invert;

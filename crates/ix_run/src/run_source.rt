@@ -1,11 +1,14 @@
 //! A run in memory as a source of its postings.
-ghost use Rattle.std.specs.Prelude.{◌≡◌, []};
+ghost use Rattle.std.specs.Prelude.{◌≡◌, ℕ, ◌≤◌, ◌<◌, ◌++◌, length};
+ghost use Rattle.ix_vbyte.specs.Code.{code_of};
+ghost use Rattle.ix_vbyte.specs.Walking.{IsCodedList};
 
 use crate::coded_terms::TermWalk;
-use crate::whole_list::WholeList;
+use crate::front::Front;
 use ix_run_text::{ListError, Listed, RunHead, Source};
 use ix_text::Memory;
 use ix_vbyte::cursor::Postings;
+use ix_vbyte::first_number;
 use std::alloc::AllocError;
 use std::marker::Model;
 
@@ -22,29 +25,34 @@ pub struct RunSource<'a> {
     terms: TermWalk<'a>,
     // the term at hand
     term: Option<&'a str>,
-    // its list, where none of its postings was taken singly; or else one of no postings
-    list: WholeList<'a>,
+    // the postings of the term at hand that are left
+    postings: Postings<'a>,
     // the last document of that term, where one of its postings is left
     last: u32,
-    // the postings that are left of it, where one was taken singly; or else none
-    postings: Postings<'a>,
+    // the first gap of that term's list and the bytes behind its code, where none of its postings was taken; or else 0
+    gap: u32,
+    rest: Front<'a>,
 }
 
-/// Passes all postings that are left.
-#[inline(always)]
-fn pass_all(postings: &mut Postings<'_>)
-    ensures { postings.new ≡ [] }
+/// The first gap of a coded list, and the bytes behind its code; 0, which no gap is, where the list is empty.
+#[inline]
+fn first_gap(list: &[u8]) -> (u32, &[u8])
+    requires { (count : ℕ) × IsCodedList count list.now }
+    ensures parts { 0 < result.0 → list.now ≡ code_of result.0 ++ result.1.now }
+    ensures none { result.0 ≡ 0 → length list.now ≡ 0 }
+    ensures within { length result.1.now ≤ length list.now }
 {
-    if postings.len() > 0 {
-        *postings = Postings::new(&[], 0);
+    if list.is_empty() {
+        return (0, list);
     }
+    first_number(list)
 }
 
 impl<'a> Model for RunSource<'a> {
-    ghost use Rattle.std.specs.Prelude.{◌≡◌, ◌<◌, ◌++◌, [], length};
+    ghost use Rattle.std.specs.Prelude.{◌≡◌};
     ghost use Rattle.std.specs.Option.{option_copied};
     ghost use Rattle.ix_run_text.specs.Heads.{heading_of};
-    ghost use Rattle.ix_run.specs.RunSources.{EndsAt, IsAtPlace, SourceValue};
+    ghost use Rattle.ix_run.specs.RunSources.{BeginsBy, EndsAt, IsAtPlace, SourceValue};
 
     ghost Value = { SourceValue };
 
@@ -52,7 +60,7 @@ impl<'a> Model for RunSource<'a> {
       heading = heading_of source.head.now;
       terms = source.terms;
       term = option_copied source.term;
-      postings = source.list ++ source.postings;
+      postings = source.postings;
     } };
 
     ghost invariant = { λ source.
@@ -60,11 +68,11 @@ impl<'a> Model for RunSource<'a> {
           heading = heading_of source.head.now;
           terms = source.terms;
           term = option_copied source.term;
-          postings = source.list ++ source.postings;
+          postings = source.postings;
         })
-        × EndsAt source.last (source.list ++ source.postings)
+        × EndsAt source.last source.postings
         × (source.first ≡ (heading_of source.head.now).first)
-        × (0 < length source.list → source.postings ≡ []) };
+        × BeginsBy source.gap source.rest source.postings };
 }
 
 impl<'a> RunSource<'a> {
@@ -95,38 +103,16 @@ impl<'a> RunSource<'a> {
             first: head.first,
             terms,
             term: None,
-            list: WholeList::none(),
-            last: 0,
             postings: Postings::new(&[], 0),
-        }
-    }
-
-    /// How many postings of the term at hand are left.
-    #[inline(always)]
-    fn count_left(&self) -> u32
-        ensures { result ≡ length self.now.postings }
-    {
-        if self.list.len() > 0 {
-            self.list.len()
-        } else {
-            self.postings.len() as u32
-        }
-    }
-
-    /// The postings that are left, one by one.
-    fn postings_left(&self) -> Postings<'a>
-        ensures { result ≡ self.now.postings }
-    {
-        if self.list.len() > 0 {
-            self.list.postings()
-        } else {
-            self.postings.again()
+            last: 0,
+            gap: 0,
+            rest: Front::none(),
         }
     }
 
     /// Appends the postings that are left, of which there is one, as a list of a whole collection: the first gap is
     /// taken from `next`. Where none was taken, no byte of the list is read anew.
-    #[inline(always)]
+    #[inline]
     fn push_left(&self, out: &mut Vec<u8>, next: u32) -> Result<(), AllocError>
         requires some { 0 < length self.now.postings }
         requires may { ArePostings next (2 ^ 32 - 1)
@@ -137,11 +123,10 @@ impl<'a> RunSource<'a> {
         ensures full { OnErr result (vec_capacity out.old < vec_len out.old
             + length (list_bytes_from next (shifted self.now.heading.first self.now.postings))) }
     {
-        if self.list.len() > 0 {
-            self.list.push_shifted(out, self.first, next)
-        } else {
-            self.postings.push_shifted(out, self.first, next)
+        if self.gap > 0 {
+            return self.rest.push_behind(out, self.first + self.gap - next);
         }
+        self.postings.push_shifted(out, self.first, next)
     }
 }
 
@@ -190,15 +175,18 @@ impl<'a> Source for RunSource<'a> {
         // It is never refused.
         ensures granted { IsOk result }
     {
-        pass_all(&mut self.postings);
         let Some((term, onward)) = self.terms.next() else {
             self.term = None;
-            self.list.clear();
+            self.postings = Postings::new(&[], 0);
+            self.gap = 0;
             return Ok(false);
         };
+        let (gap, rest) = first_gap(term.list);
         self.term = Some(term.term);
-        self.list = WholeList::new(term.list, onward, term.documents);
+        self.postings = Postings::new(term.list, term.documents);
         self.last = term.last;
+        self.gap = gap;
+        self.rest = Front::ending(onward, term.list.len(), rest.len());
         Ok(true)
     }
 
@@ -226,13 +214,13 @@ impl<'a> Source for RunSource<'a> {
         ensures full { OnErr result
             (FirstExceeds (vec_capacity positions.old) self.old.postings) }
     {
-        let mut postings = self.postings_left();
+        let mut postings = self.postings.again();
         let Some(posting) = postings.next() else {
             return Ok(None);
         };
         posting.read_positions(positions)?;
-        self.list.clear();
         self.postings = postings;
+        self.gap = 0;
         Ok(Some(posting.document))
     }
 
@@ -240,7 +228,6 @@ impl<'a> Source for RunSource<'a> {
     /// whole collection, and the first gap taken from `next`, which is one above the document before them, or 0. Only
     /// that gap is coded anew. `ListError::Memory` where the list finds no room, which leaves the source and `out` as
     /// they were.
-    #[inline(always)]
     fn take_list(&mut self, next: u32, out: &mut Vec<u8>) -> Result<Listed, ListError<Memory>>
         requires at_hand { IsSome self.old.term }
         requires low { next ≤ self.old.heading.first }
@@ -260,15 +247,15 @@ impl<'a> Source for RunSource<'a> {
         ensures full { OnErr result (vec_capacity out.old < vec_len out.old
             + length (list_bytes_from next (shifted self.old.heading.first self.old.postings))) }
     {
-        let documents = self.count_left();
+        let documents = self.postings.len() as u32;
         if documents == 0 {
             return Ok(Listed { documents, next });
         }
         if self.push_left(out, next).is_err() {
             return Err(ListError::Memory);
         }
-        self.list.clear();
-        pass_all(&mut self.postings);
+        self.postings = Postings::new(&[], 0);
+        self.gap = 0;
         Ok(Listed {
             documents,
             next: self.first + self.last + 1,
