@@ -5,6 +5,7 @@ pub mod Fronts
 pub mod HeadLemmas
 pub mod HeldLists
 pub mod InputLemmas
+pub mod ListRooms
 pub mod ListSteps
 pub mod MarkLemmas
 pub mod MarkedLists

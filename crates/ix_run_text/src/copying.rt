@@ -49,7 +49,8 @@ pub(crate) struct TakenPosting {
 }
 
 /// Appends the posting that was taken last from the input, with this document and these positions, to a list in which
-/// `next` is one above the document before it. Where memory is refused, nothing was appended.
+/// `next` is one above the document before it. Where memory is refused, which it is only where the posting finds no room,
+/// nothing was appended.
 ///
 /// Behind the gap stand the bytes that were read: of several positions they are copied, where they are still buffered. One
 /// position is written as fast anew.
@@ -71,6 +72,10 @@ pub(crate) fn push_taken<R: Read>(
     ensures ok { OnOk result (out.new.items
         ≡ out.old.items ++ posting_bytes (document + 1 - next) (document, positions.now)) }
     ensures err { OnErr result (out.new.items ≡ out.old.items) }
+    ensures full { OnErr result (vec_capacity out.old
+        < vec_len out.old
+        + length (posting_bytes (document + 1 - next) (document, positions.now))) }
+    ensures capacity { vec_capacity out.old ≤ vec_capacity out.new }
 {
     if positions.len() > 1 {
         let head = code_len(taken.gap);

@@ -37,7 +37,7 @@ impl<R: Read + Drop> RunReader<R> {
             (KeepsFaults (MayFault R.remaining) self.old self.new) }
         ensures kept { IsHeldWhole self.old → IfErr result (λ error. error ≡ ListError.Memory
             → self.new ≡ self.old) }
-        ensures full { IsHeldWhole self.old → IfErr result (λ error. error ≡ ListError.Memory
+        ensures full { IfErr result (λ error. error ≡ ListError.Memory
             → vec_capacity out.old < vec_len out.old + (self.old.bytes + 4)) }
     {
         if self.holds_list() {
@@ -114,7 +114,8 @@ impl<R: Read + Drop> RunReader<R> {
         })
     }
 
-    /// The same of any list, posting by posting.
+    /// The same of any list, posting by posting. Where memory is refused, which it is only where what is left of the list
+    /// and `MORE_BYTES` find no room, some postings may have been passed.
     fn take_each(
         &mut self,
         next: u32,
@@ -135,6 +136,8 @@ impl<R: Read + Drop> RunReader<R> {
         ensures fault { IfErr result (IsListFault (MayFault R.remaining self.old)) }
         ensures no_more_faults { OnOk result
             (KeepsFaults (MayFault R.remaining) self.old self.new) }
+        ensures full { IfErr result (λ error. error ≡ ListError.Memory
+            → vec_capacity out.old < vec_len out.old + (self.old.bytes + 4)) }
     {
         let first = self.head.first;
         let start = out.len();

@@ -128,10 +128,10 @@ impl<R: Read + Drop> Source for RunReader<R> {
     /// is checked as `next_posting` does it. The bytes of a list that is buffered whole, as almost all are, are then copied
     /// at once.
     ///
-    /// `ListError::Memory` where the list finds no room, and `ListError::Source` with the errors of `next_posting`. A
-    /// refusal leaves the term at hand, and `out` as it was. Where the list is buffered whole and nothing was taken of it,
-    /// room is asked for the list and four bytes more, since its first gap may be coded longer, and `ListError::Memory`
-    /// leaves the reader as it was; else some postings of the term may have been passed.
+    /// `ListError::Memory`, only where what is left of the list and four bytes more find no room, since its first gap may be
+    /// coded longer; `ListError::Source` with the errors of `next_posting`. A refusal leaves the term at hand, and `out` as
+    /// it was. Where the list is buffered whole and nothing was taken of it, `ListError::Memory` leaves the reader as it was
+    /// too; else some postings of the term may have been passed.
     fn take_list(&mut self, next: u32, out: &mut Vec<u8>) -> Result<Listed, ListError<RunTextError>>
         requires at_hand { IsSome (term_of self.old) }
         requires begun { (finished : List DictionaryEntry)
@@ -152,8 +152,8 @@ impl<R: Read + Drop> Source for RunReader<R> {
         ensures kept { IsHeldWhole self.old → IfErr result (λ error. error ≡ ListError.Memory
             → StandsStill self.old self.new) }
 
-        // It is refused only where the list and four bytes more find no room.
-        ensures full { IsHeldWhole self.old → IfErr result (λ error. error ≡ ListError.Memory
+        // It is refused only where what is left of the list and four bytes more find no room.
+        ensures full { IfErr result (λ error. error ≡ ListError.Memory
             → vec_capacity out.old < vec_len out.old + (self.old.bytes + 4)) }
     {
         let mut positions = replace(&mut self.positions, Vec::new(self.alloc));
