@@ -85,8 +85,9 @@ impl<'a> IndexSource<'a> {
 }
 
 impl<'a> Source for IndexSource<'a> {
-    ghost use Rattle.std.specs.Prelude.{◌≡◌, ◌≤◌, ℕ, List, Some, None, Ok, false, IsOk, IsSome, IfOk, IfErr, OnErr, OnOk, MatchBool, MatchOption};
-    ghost use Rattle.ix_run.specs.RunSources.{HasGiven, HasLeft, IsAtEnd, IsAtEndOfTerm, MayLackMemory};
+    ghost use Rattle.std.specs.Prelude.{◌≡◌, ◌+◌, ◌<◌, ◌≤◌, ℕ, List, Some, None, Ok, false, length, IsOk, IsSome, IfOk, IfErr, OnErr, OnOk, MatchBool, MatchOption, vec_capacity, vec_len};
+    ghost use Rattle.ix_file.specs.Postings.{list_bytes_from, shifted};
+    ghost use Rattle.ix_run.specs.RunSources.{FirstExceeds, HasGiven, HasLeft, IsAtEnd, IsAtEndOfTerm, MayLackMemory};
     ghost use Rattle.ix_run.specs.Sources.{BeginsTerm, EndsPostings, EndsTerms, GivesList, GivesPosting, KeepsFaults};
     ghost use Rattle.ix_run.specs.Faults.{IsListFault};
 
@@ -155,8 +156,10 @@ impl<'a> Source for IndexSource<'a> {
         ensures fault { IfErr result (MayLackMemory self.old) }
         ensures no_more_faults { OnOk result (KeepsFaults MayLackMemory self.old self.new) }
 
-        // What a refusal leaves.
+        // It is refused only where the positions find no room, which leaves the source as it was.
         ensures kept { OnErr result (self.new ≡ self.old) }
+        ensures full { OnErr result
+            (FirstExceeds (vec_capacity positions.old) self.old.postings) }
     {
         let mut postings = self.postings.again();
         let Some(posting) = postings.next() else {
@@ -184,9 +187,11 @@ impl<'a> Source for IndexSource<'a> {
         ensures fault { IfErr result (IsListFault (MayLackMemory self.old)) }
         ensures no_more_faults { OnOk result (KeepsFaults MayLackMemory self.old self.new) }
 
-        // What a refusal leaves, and which it is.
+        // It is refused only where the list finds no room, which leaves the source as it was.
         ensures kept { OnErr result (self.new ≡ self.old) }
         ensures error { IfErr result (λ error. error ≡ ListError.Memory) }
+        ensures full { OnErr result (vec_capacity out.old < vec_len out.old
+            + length (list_bytes_from next (shifted self.old.heading.first self.old.postings))) }
     {
         let documents = self.postings.len() as u32;
         if documents == 0 {

@@ -1,4 +1,4 @@
-use Rattle.std.proofs.Common.{List, ℕ, IsSome, map, drop, sym, subst, ◌∙◌}
+use Rattle.std.proofs.Common.{List, ℕ, IsSome, map, drop, sym, ap, subst, ◌∙◌}
 use Rattle.std.specs.Option.{option_copied}
 use Rattle.ix_run.specs.Heads.{heading_of}
 use Rattle.ix_run.specs.Runs.{coded}
@@ -6,6 +6,7 @@ use Rattle.ix_run.specs.RunSources.{HasGiven, HasLeft, SourceValue}
 use Rattle.ix_run.specs.Sources.{GivesPosting}
 use Rattle.ix_run.proofs.Lacking.{going_fault, some_going}
 use Rattle.ix_run.proofs.RunSources.{place_next, step_given}
+use Rattle.ix_merge.proofs.WholeMerge.{on_err}
 use Rattle.ix_merge.proofs.index_source.IndexSourceSource.next_posting.Goals as goal
 
 pub invariant_of-self : goal.invariant_of-self
@@ -21,6 +22,15 @@ returns-clause-given c =
     subst P c.self.view_is
     (subst Q (sym c.in_ok-read_positions.ensures.ok)
     (step_given (heading_of c.self.inside.head) (map coded (drop c.self.inside.number c.self.inside.index.now.parts.entries)) (option_copied c.self.inside.term) (c.in-Some.posting.document, c.in-Some.posting.positions) c.next.new.self c.self.inside.postings (sym c.again-postings.ensures ∙ c.in-Some.ensures.steps)))
+
+pub returns-in_err-read_positions-clause-full : goal.returns-in_err-read_positions-clause-full
+returns-in_err-read_positions-clause-full c =
+    on_err c.from_residual.result (record {
+      posting = (c.in-Some.posting.document, c.in-Some.posting.positions);
+      others = c.next.new.self;
+      parts = sym (ap (λ (s : SourceValue). s.postings) c.self.view_is) ∙ sym c.again-postings.ensures ∙ c.in-Some.ensures.steps;
+      more = c.in_err-read_positions.ensures.full;
+    })
 
 pub returns-in_default-clause-no_more_faults : goal.returns-in_default-clause-no_more_faults
 returns-in_default-clause-no_more_faults c = λ error may. some_going c.args.self.now c.requires
