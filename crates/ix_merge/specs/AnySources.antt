@@ -1,11 +1,12 @@
 -- What a source tells that is a run text, as it is read, or an opened index: what its part tells.
-use Rattle.std.specs.Prelude.{◌≡◌, ℕ, List, ◌++◌, Option, None, option_map}
+use Rattle.std.specs.Prelude.{◌≡◌, ℕ, ◌+◌, ◌≤◌, ⊤, List, ◌++◌, length, Option, None, option_map}
+use Rattle.ix_file.specs.Postings.{list_bytes_from, shifted}
 use Rattle.ix_text.specs.Parts.{DictionaryEntry, Posting}
 use Rattle.ix_run.specs.Faults.{MayFault}
 use Rattle.ix_run.specs.Heads.{Heading}
 use Rattle.ix_run.specs.Reading.{HasRead, IsDrained, IsEnded, MayYield, term_of}
 use Rattle.ix_run.specs.RunReaders.{heading_read}
-use Rattle.ix_run.specs.RunSources.{HasGiven, HasLeft, IsAtEnd, IsAtEndOfTerm}
+use Rattle.ix_run.specs.RunSources.{FirstExceeds, HasGiven, HasLeft, IsAtEnd, IsAtEndOfTerm}
 use Rattle.ix_run.specs.Sources.{AreWhole, IsLawfulFront, closed}
 use Rattle.ix_run.specs.RunTextError.{RunTextError}
 use Rattle.ix_run.specs.RunTextError.TheVariants.{Memory}
@@ -46,6 +47,22 @@ SourceIsEnded (Index index) = IsAtEnd index
 abbrev pub SourceMayFault : {R : Type 0} → (R → Option (List ℕ)) → AnySource R → RunTextError → Type 0
 SourceMayFault remaining (Run run) error = MayFault remaining run error
 SourceMayFault remaining (Index index) error = (¬ (IsAtEnd index)) × (error ≡ Memory)
+
+-- it is a run text
+abbrev pub IsOfRunText : {R : Type 0} → AnySource R → Type 0
+IsOfRunText (Run run) = ⊤
+IsOfRunText (Index index) = ⊥
+
+-- The next posting's positions exceed this room: of an index those of its next posting, of a run text so many as were read.
+abbrev pub LacksRoom : {R : Type 0} → AnySource R → ℕ → ℕ → Type 0
+LacksRoom (Run run) room read = room ≤ read
+LacksRoom (Index index) room read = FirstExceeds room index.postings
+
+-- the room that the list at hand wants at most, behind a document one below this number: of an index its bytes, of a run text
+-- those that are left of it, and four more for its first gap
+abbrev pub list_room : {R : Type 0} → AnySource R → ℕ → ℕ
+list_room (Run run) next = run.bytes + 4
+list_room (Index index) next = length (list_bytes_from next (shifted index.heading.first index.postings))
 
 -- ---- its laws
 

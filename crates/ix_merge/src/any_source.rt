@@ -17,7 +17,12 @@ pub enum AnySource<'a, R> {
 }
 
 impl<'a, R: Read + Drop> Source for AnySource<'a, R> {
-    ghost use Rattle.ix_merge.specs.AnySources.{heading_of_source, term_of_source};
+    ghost use Rattle.std.specs.Prelude.{◌≡◌, ◌+◌, ◌<◌, ◌≤◌, List, ℕ, Some, None, Ok, false, IsSome, IfOk, IfErr, OnErr, OnOk, MatchBool, MatchOption, vec_capacity, vec_len};
+    ghost use Rattle.ix_text.specs.Parts.{DictionaryEntry};
+    ghost use Rattle.ix_run.specs.Faults.{IsListFault};
+    ghost use Rattle.ix_run.specs.RunTextError.TheVariants.{Memory};
+    ghost use Rattle.ix_run.specs.Sources.{BeginsTerm, EndsPostings, EndsTerms, GivesList, GivesPosting, KeepsFaults};
+    ghost use Rattle.ix_merge.specs.AnySources.{IsOfRunText, LacksRoom, heading_of_source, list_room, term_of_source};
     ghost use Rattle.ix_merge.specs.AnySources.{SourceHasGiven, SourceIsDrained, SourceIsEnded, SourceMayFault, SourceMayYield};
     ghost use Rattle.ix_merge.specs.AnySources.{source_drained_without_term, source_given_lawfully};
     ghost use Rattle.ix_merge.specs.AnySources.{source_given_of_term, source_yielded_lawfully};
@@ -45,7 +50,23 @@ impl<'a, R: Read + Drop> Source for AnySource<'a, R> {
         }
     }
 
-    fn next_term(&mut self) -> Result<bool, RunTextError> {
+    fn next_term(&mut self) -> Result<bool, RunTextError>
+        ensures heading { heading_of_source self.new ≡ heading_of_source self.old }
+        ensures begun { IfOk result (λ more. MatchBool more
+            ((term : List ℕ) × (term_of_source self.new ≡ Some term)
+            × BeginsTerm (SourceMayYield R.remaining) SourceHasGiven SourceIsDrained
+            self.old self.new term)
+            ((term_of_source self.new ≡ None) × SourceIsEnded self.new
+            × EndsTerms (SourceMayYield R.remaining) SourceHasGiven SourceIsDrained
+            self.old self.new)) }
+        ensures ended { SourceIsEnded self.old → (result ≡ Ok false) × SourceIsEnded self.new }
+        ensures fault { IfErr result (SourceMayFault R.remaining self.old) }
+        ensures no_more_faults { OnOk result
+            (KeepsFaults (SourceMayFault R.remaining) self.old self.new) }
+
+        // An index is never refused.
+        ensures granted { OnErr result (IsOfRunText self.old) }
+    {
         match self {
             AnySource::Run(run) => run.next_term(),
             AnySource::Index(index) => match index.next_term() {
@@ -62,7 +83,26 @@ impl<'a, R: Read + Drop> Source for AnySource<'a, R> {
         }
     }
 
-    fn next_posting(&mut self, positions: &mut Vec<u32>) -> Result<Option<u32>, RunTextError> {
+    /// `RunTextError::Memory` only where the positions find no room: of an index those of its next posting, of a run text
+    /// those that were read.
+    fn next_posting(&mut self, positions: &mut Vec<u32>) -> Result<Option<u32>, RunTextError>
+        requires { IsSome (term_of_source self.old) }
+        ensures heading { heading_of_source self.new ≡ heading_of_source self.old }
+        ensures current { term_of_source self.new ≡ term_of_source self.old }
+        ensures given { IfOk result (λ found. MatchOption found
+            (SourceIsDrained self.new
+            × EndsPostings (SourceMayYield R.remaining) SourceHasGiven self.old self.new)
+            (λ document. GivesPosting (SourceMayYield R.remaining) SourceHasGiven
+            self.old self.new (document, positions.new.items))) }
+        ensures drained { SourceIsDrained self.old → result ≡ Ok None }
+        ensures fault { IfErr result (SourceMayFault R.remaining self.old) }
+        ensures no_more_faults { OnOk result
+            (KeepsFaults (SourceMayFault R.remaining) self.old self.new) }
+
+        // It is refused memory only where the positions find no room.
+        ensures full { IfErr result (λ error. error ≡ Memory
+            → LacksRoom self.old (vec_capacity positions.old) (vec_len positions.new)) }
+    {
         match self {
             AnySource::Run(run) => run.next_posting(positions),
             AnySource::Index(index) => match index.next_posting(positions) {
@@ -72,11 +112,28 @@ impl<'a, R: Read + Drop> Source for AnySource<'a, R> {
         }
     }
 
-    fn take_list(
-        &mut self,
-        next: u32,
-        out: &mut Vec<u8>,
-    ) -> Result<Listed, ListError<RunTextError>> {
+    /// `ListError::Memory` only where the list finds no room: of an index its bytes, of a run text those that are left of it
+    /// and four more.
+    fn take_list(&mut self, next: u32, out: &mut Vec<u8>) -> Result<Listed, ListError<RunTextError>>
+        requires at_hand { IsSome (term_of_source self.old) }
+        requires begun { (finished : List DictionaryEntry)
+            × ((entry : DictionaryEntry) × SourceHasGiven self.old finished (Some entry)) }
+        requires low { next ≤ (heading_of_source self.old).first }
+        ensures heading { heading_of_source self.new ≡ heading_of_source self.old }
+        ensures current { term_of_source self.new ≡ term_of_source self.old }
+        ensures drained { OnOk result (SourceIsDrained self.new) }
+        ensures given { IfOk result (λ listed. GivesList (SourceMayYield R.remaining)
+            SourceHasGiven self.old self.new (heading_of_source self.old).first next
+            listed.documents listed.next out.old.items out.new.items) }
+        ensures refused { OnErr result (out.new.items ≡ out.old.items) }
+        ensures fault { IfErr result (IsListFault (SourceMayFault R.remaining self.old)) }
+        ensures no_more_faults { OnOk result
+            (KeepsFaults (SourceMayFault R.remaining) self.old self.new) }
+
+        // It is refused memory only where the list finds no room.
+        ensures full { IfErr result (λ error. error ≡ ListError.Memory
+            → vec_capacity out.old < vec_len out.old + list_room self.old next) }
+    {
         match self {
             AnySource::Run(run) => run.take_list(next, out),
             AnySource::Index(index) => match index.take_list(next, out) {

@@ -1,12 +1,12 @@
 //! What is left of a reader, buffered.
-ghost use Rattle.std.specs.Prelude.{◌≡◌, ◌^◌, ◌<◌, ◌≤◌, ◌++◌, ◌+◌, List, [], ℕ, length, take, vec_len, ◌∷◌, ◌↔◌, IfOk, IfErr, IfNone, IfSome, IsTrue, OnOk, MatchBool};
+ghost use Rattle.std.specs.Prelude.{◌≡◌, ◌≢◌, ◌^◌, ◌<◌, ◌≤◌, ◌++◌, ◌+◌, List, [], ℕ, length, take, vec_len, ◌∷◌, ◌↔◌, IfOk, IfErr, IfNone, IfSome, IsTrue, OnOk, MatchBool};
 ghost use Rattle.std.specs.Io.{ReadsAtMost};
 ghost use Rattle.std.specs.Io.KnownBytes.{Consumes, IsAtEnd, Keeps};
 ghost use Rattle.std.specs.Option.{option_to_list};
 ghost use Rattle.ix_vbyte.specs.Code.{code_of};
 ghost use Rattle.ix_vbyte.specs.ShortPostings.{single_bytes};
 ghost use Rattle.ix_run_text.specs.CodeFaults.{IsCodeFault, IsTextFault};
-ghost use Rattle.ix_run_text.specs.declared.run_text_error.RunTextError.TheVariants.{Read as ReadRefused};
+ghost use Rattle.ix_run_text.specs.declared.run_text_error.RunTextError.TheVariants.{Memory, Read as ReadRefused};
 
 use crate::RunTextError;
 use ix_vbyte::{ShortPosting, VbError, decode, short_number, short_posting};
@@ -180,6 +180,7 @@ impl<R: Read> Input<R> {
             Passes (passed self.old) (passed self.new) (code_of found.0)) }
         ensures fault { IfErr result (λ error.
             IfSome (known_left R.remaining self.old) (λ bytes. IsCodeFault limit bytes error)) }
+        ensures sparing { IfErr result (λ error. error ≢ Memory) }
     {
         let short = self.short_number(limit);
         if short.0 > 0 {
@@ -201,6 +202,7 @@ impl<R: Read> Input<R> {
             Passes (passed self.old) (passed self.new) (code_of found.0)) }
         ensures fault { IfErr result (λ error.
             IfSome (known_left R.remaining self.old) (λ bytes. IsCodeFault limit bytes error)) }
+        ensures sparing { IfErr result (λ error. error ≢ Memory) }
     {
         match decode(&self.buffer[self.start..self.end]) {
             Ok((number, count)) if count <= limit => {
@@ -223,6 +225,7 @@ impl<R: Read> Input<R> {
             Passes (passed self.old) (passed self.new) (code_of found.0)) }
         ensures fault { IfErr result (λ error.
             IfSome (known_left R.remaining self.old) (λ bytes. IsCodeFault limit bytes error)) }
+        ensures sparing { IfErr result (λ error. error ≢ Memory) }
     {
         let mut seen = [0; 6];
         for place in 0..6 {

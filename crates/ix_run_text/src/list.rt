@@ -1,5 +1,5 @@
 //! Reading a list of postings in a run text, posting by posting.
-ghost use Rattle.std.specs.Prelude.{◌≡◌, ◌<◌, ◌≤◌, ◌+◌, ◌-◌, ◌^◌, ◌++◌, List, [], ◌∷◌, ℕ, length, Contains, Some, IfOk, IfErr, OnOk, MatchResult};
+ghost use Rattle.std.specs.Prelude.{◌≡◌, ◌≢◌, ◌<◌, ◌≤◌, ◌+◌, ◌-◌, ◌^◌, ◌++◌, List, [], ◌∷◌, ℕ, length, Contains, Some, IfOk, IfErr, OnOk, MatchResult, vec_capacity, vec_len};
 ghost use Rattle.std.specs.Io.KnownBytes.{Consumes};
 ghost use Rattle.ix_text.specs.Parts.{DocumentRow, Posting};
 ghost use Rattle.ix_text.specs.TokenMarks.{HoldsNumbers, room};
@@ -11,6 +11,7 @@ ghost use Rattle.ix_vbyte.specs.Postings.{codes_of, posting_bytes};
 ghost use Rattle.ix_run_text.specs.Inputs.{Passes, known_left, passed};
 ghost use Rattle.ix_run_text.specs.ReadPostings.{HaveRoom, IsFree, PostingFits, StandNext, numbers_at};
 ghost use Rattle.ix_run_text.specs.RunTextErrors.{IsRefusal};
+ghost use Rattle.ix_run_text.specs.declared.run_text_error.RunTextError.TheVariants.{Memory};
 
 use crate::RunTextError;
 use crate::input::Input;
@@ -60,6 +61,8 @@ pub(crate) fn read_posting<R: Read>(
         ≡ Some (posting_bytes (posting.0 + 1 - next) posting ++ rest)
         → MatchResult result (λ read. (read.0 ≡ posting.0) × (positions.new.items ≡ posting.1)
         × (known_left R.remaining input.new ≡ Some rest)) IsRefusal }
+    ensures full { IfErr result (λ error. error ≡ Memory
+        → vec_capacity positions.old ≤ vec_len positions.new) }
 {
     if let Some(posting) = input.short_posting(limit) {
         let document = tell_single(
@@ -111,6 +114,8 @@ fn read_any_posting<R: Read>(
         ≡ Some (posting_bytes (posting.0 + 1 - next) posting ++ rest)
         → MatchResult result (λ read. (read.0 ≡ posting.0) × (positions.new.items ≡ posting.1)
         × (known_left R.remaining input.new ≡ Some rest)) IsRefusal }
+    ensures full { IfErr result (λ error. error ≡ Memory
+        → vec_capacity positions.old ≤ vec_len positions.new) }
 {
     let (gap, gap_bytes) = read_positive(input, limit)?;
     let Some((document, span)) = document_behind(tokens, next, gap) else {
@@ -154,6 +159,8 @@ fn tell_single(
         → PostingFits rows next posting → IsFree rows numbers posting → posting.0 + 1 - next ≡ gap
         → posting.1 ≡ (position_gap - 1) ∷ []
         → IfErr result IsRefusal }
+    ensures full { IfErr result (λ error. error ≡ Memory
+        → vec_capacity positions.old ≤ vec_len positions.new) }
 {
     let document = mark_single(gap, position_gap, next, tokens, marks)?;
     positions.clear();
@@ -179,6 +186,7 @@ pub(crate) fn read_positive<R: Read>(
         → known_left R.remaining input.old ≡ Some (code_of number ++ rest)
         → MatchResult result (λ found. (found.0 ≡ number)
         × (known_left R.remaining input.new ≡ Some rest)) IsRefusal }
+    ensures sparing { IfErr result (λ error. error ≢ Memory) }
 {
     let short = input.short_gap(limit);
     if short > 0 {
@@ -203,6 +211,7 @@ fn read_number<R: Read>(input: &mut Input<R>, limit: usize) -> Result<(u32, usiz
         → known_left R.remaining input.old ≡ Some (code_of number ++ rest)
         → MatchResult result (λ found. (found.0 ≡ number)
         × (known_left R.remaining input.new ≡ Some rest)) IsRefusal }
+    ensures sparing { IfErr result (λ error. error ≢ Memory) }
 {
     let (number, bytes) = input.code(limit)?;
     if number == 0 {
@@ -241,6 +250,8 @@ fn read_positions<R: Read>(
         (known_left R.remaining input.old) numbers all rest
         → MatchResult result (λ _. (positions.new.items ≡ all)
         × (known_left R.remaining input.new ≡ Some rest)) IsRefusal }
+    ensures full { IfErr result (λ error. error ≡ Memory
+        → vec_capacity positions.old ≤ vec_len positions.new) }
 {
     positions.clear();
     let mut next = 0;
@@ -285,6 +296,7 @@ fn read_position<R: Read>(
         → known_left R.remaining input.old ≡ Some (code_of (position + 1 - next) ++ rest)
         → MatchResult result (λ read. (read.0 ≡ position)
         × (known_left R.remaining input.new ≡ Some rest)) IsRefusal }
+    ensures sparing { IfErr result (λ error. error ≢ Memory) }
 {
     let (first, count) = span;
     let short = input.short_number(limit);

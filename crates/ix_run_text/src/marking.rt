@@ -1,5 +1,5 @@
 //! Taking the postings of a list whose bytes are all at hand: each is checked, and its tokens are marked, as it comes.
-ghost use Rattle.std.specs.Prelude.{◌≡◌, ◌<◌, ◌≤◌, ◌+◌, ◌-◌, ◌^◌, ◌++◌, [], ◌∷◌, List, ℕ, Some, IfOk, IfErr, MatchOption, MatchResult, Contains, drop, length};
+ghost use Rattle.std.specs.Prelude.{◌≡◌, ◌≢◌, ◌<◌, ◌≤◌, ◌+◌, ◌-◌, ◌^◌, ◌++◌, [], ◌∷◌, List, ℕ, Some, IfOk, IfErr, MatchOption, MatchResult, Contains, drop, length};
 ghost use Rattle.ix_text.specs.Parts.{DocumentRow, Posting};
 ghost use Rattle.ix_text.specs.TokenMarks.{HoldsNumbers, room};
 ghost use Rattle.ix_text.specs.TokenNumbers.{AreDistinct, numbers_of_posting};
@@ -9,6 +9,7 @@ ghost use Rattle.ix_vbyte.specs.Postings.{posting_bytes};
 ghost use Rattle.ix_vbyte.specs.ShortPostings.{BeginsWithShort};
 ghost use Rattle.ix_run_text.specs.ReadPostings.{HaveRoom, IsFree, PostingFits, StandNext};
 ghost use Rattle.ix_run_text.specs.RunTextErrors.{IsRefusal};
+ghost use Rattle.ix_run_text.specs.declared.run_text_error.RunTextError.TheVariants.{Memory};
 ghost use Rattle.ix_run_text.specs.MarkedLists.{ListStands, MarksList, MarksPositions, MarksPosting, BeginsWithPosition};
 
 use crate::RunTextError;
@@ -145,6 +146,7 @@ pub(crate) fn mark_single(
         → PostingFits rows next posting → IsFree rows numbers posting → posting.0 + 1 - next ≡ gap
         → posting.1 ≡ (position_gap - 1) ∷ []
         → IfErr result IsRefusal }
+    ensures sparing { IfErr result (λ error. error ≢ Memory) }
 {
     let Some((document, span)) = document_behind(tokens, next, gap) else {
         return Err(RunTextError::DocRange);

@@ -67,7 +67,7 @@ pub struct RunReader<R> {
 }
 
 impl<R: Read + Drop> RunReader<R> {
-    ghost use Rattle.std.specs.Prelude.{◌≡◌, ◌≢◌, ◌+◌, ◌<◌, ◌++◌, [], ◌∷◌, List, ℕ, Some, None, Ok, Err, IsSome, IfErr, IfOk, IfSome, OnErr, OnOk, MatchBool, MatchOption, MatchResult, string_bytes};
+    ghost use Rattle.std.specs.Prelude.{◌≡◌, ◌≢◌, ◌+◌, ◌<◌, ◌≤◌, ◌++◌, [], ◌∷◌, List, ℕ, Some, None, Ok, Err, IsSome, IfErr, IfOk, IfSome, OnErr, OnOk, MatchBool, MatchOption, MatchResult, string_bytes, vec_capacity, vec_len};
     ghost use Rattle.std.specs.Io.KnownBytes.{Consumes};
     ghost use Rattle.ix_text.specs.Parts.{DictionaryEntry, Posting};
     ghost use Rattle.ix_text.specs.Collections.{Collection};
@@ -77,7 +77,7 @@ impl<R: Read + Drop> RunReader<R> {
     ghost use Rattle.ix_run_text.specs.RunTextErrors.{IsRefusal};
     ghost use Rattle.ix_run_text.specs.Reading.{BeginsFirst, Faces, GivesFirst, HasFailed, HasRead, IsDrained, MayYield, Skips, TookPosting, heading_from, postings_left, term_of};
     ghost use Rattle.ix_run_text.specs.declared.run_reader.Place.TheVariants.{AtTerm, Ended, Failed};
-    ghost use Rattle.ix_run_text.specs.declared.run_text_error.RunTextError.TheVariants.{Failed as Refused};
+    ghost use Rattle.ix_run_text.specs.declared.run_text_error.RunTextError.TheVariants.{Failed as Refused, Memory};
     ghost use Rattle.ix_run_text.specs.Sources.{AreWhole, BeginsTerm, EndsPostings, EndsTerms, GivesPosting, IsUnread, KeepsFaults};
     ghost use Rattle.ix_run_text.specs.Faults.{MayFault};
 
@@ -167,6 +167,8 @@ impl<R: Read + Drop> RunReader<R> {
             → MatchResult result (λ document. (rest : List Posting)
             × (postings ≡ (document, positions.new.items) ∷ rest)
             × Faces R.remaining self.new rest entries) IsRefusal }
+        ensures full { IfErr result (λ error. error ≡ Memory
+            → vec_capacity positions.old ≤ vec_len positions.new) }
     {
         let (document, taken) = read_posting(
             &mut self.input,
@@ -273,6 +275,10 @@ impl<R: Read + Drop> RunReader<R> {
         // What it took.
         ensures taken { IfOk result (λ found. MatchOption found (self.new ≡ self.old) (λ document.
             TookPosting self.old self.new (document, positions.new.items))) }
+
+        // Want of memory: as many positions as there was room for were taken.
+        ensures full { IfErr result (λ error. error ≡ Memory
+            → vec_capacity positions.old ≤ vec_len positions.new) }
     {
         if matches!(self.place, Place::Failed) {
             return Err(RunTextError::Failed);

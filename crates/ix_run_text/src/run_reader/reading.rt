@@ -13,7 +13,7 @@ impl<R: Read + Drop> Source for RunReader<R> {
     ghost use Rattle.ix_run_text.specs.RunTextErrors.{IsRefusal};
     ghost use Rattle.ix_run_text.specs.Sources.{BeginsTerm, EndsTerms, EndsPostings, GivesList, GivesPosting, KeepsFaults};
     ghost use Rattle.ix_run_text.specs.Faults.{IsListFault, MayFault};
-    ghost use Rattle.ix_run_text.specs.declared.run_text_error.RunTextError.TheVariants.{Failed};
+    ghost use Rattle.ix_run_text.specs.declared.run_text_error.RunTextError.TheVariants.{Failed, Memory};
 
     type Error = RunTextError;
 
@@ -119,6 +119,10 @@ impl<R: Read + Drop> Source for RunReader<R> {
         // What a refusal leaves.
         ensures refused { OnErr result (HasFailed self.new) }
         ensures failed { HasFailed self.old → result ≡ Err Failed }
+
+        // It is refused memory only where as many positions as there was room for were taken.
+        ensures full { IfErr result (λ error. error ≡ Memory
+            → vec_capacity positions.old ≤ vec_len positions.new) }
     {
         self.next_of_list(positions)
     }

@@ -39,6 +39,7 @@ loop-preserved g c =
           (λ numbers position rest held above below free short e. is.accepted numbers position rest held above below free (within _ short) e));
       left = omega (arith, loop.invariant.left);
       size = omega (arith, c.in_ok-push.ensures.len, loop.invariant.size, c.push.new.self.ok.0, loop.positions.ok.0);
+      capacity = omega (arith, loop.invariant.capacity, c.in_ok-push.ensures.capacity);
     }
 
 pub returns-clause-accepted : goal.returns-clause-accepted

@@ -1,5 +1,5 @@
--- The positions so far were taken, and their tokens marked.
-use Rattle.std.proofs.Common.{◌≡◌, ◌-◌, ◌≤◌, length}
+-- The positions so far were taken, and their tokens marked; the room for them did not shrink.
+use Rattle.std.proofs.Common.{◌≡◌, ◌-◌, ◌≤◌, length, vec_capacity}
 use Rattle.ix_vbyte.specs.Gaps.{gaps_of}
 use Rattle.ix_vbyte.specs.Postings.{codes_of}
 use Rattle.ix_run_text.specs.Inputs.{Passes, known_left, passed}
@@ -14,4 +14,5 @@ invariant-loop g l = record {
   first : AreFirst l.span.0 l.span.1 l.count l.limit l.initial.marks (known_left g.R.Read.remaining l.initial.input) (known_left g.R.Read.remaining l.input) l.next l.positions.items;
   left : l.left ≤ l.limit;
   size : length l.positions.items ≡ l.counter;
+  capacity : vec_capacity l.initial.positions ≤ vec_capacity l.positions;
 }
