@@ -1,3 +1,4 @@
+pub mod Ahead
 pub mod CodeFaults
 pub mod Faults
 pub mod Heads
