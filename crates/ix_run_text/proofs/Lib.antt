@@ -4,10 +4,11 @@ pub mod FitPostings
 pub mod FreshLists
 pub mod Fronts
 pub mod HeadLemmas
+pub mod HeadsAhead
 pub mod HeldLists
 pub mod InputLemmas
-pub mod HeadsAhead
 pub mod ListRooms
+pub mod ListSteps
 pub mod LookLemmas
 pub mod LookedLists
 pub mod LookedPostings
@@ -15,7 +16,6 @@ pub mod LookedTerms
 pub mod LookedWholes
 pub mod LooksAhead
 pub mod LooksOn
-pub mod ListSteps
 pub mod MarkLemmas
 pub mod MarkedLists
 pub mod MarkedReaders

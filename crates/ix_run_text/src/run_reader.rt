@@ -34,6 +34,9 @@ enum Place {
 ///
 /// The errors come in the order of the bytes, as `next_term` and `next_posting` list them. After an error each later
 /// call is refused as `Failed`; an error of `next_posting` leaves the term at hand.
+///
+/// Where a list is taken whole, the entries that are buffered whole behind it are looked at too, and their tokens marked, in
+/// one go. They are given in their turn. Of a list that was found to have a fault no posting is given, but its error at once.
 #[derive(Drop)]
 pub struct RunReader<R> {
     alloc: Global,
