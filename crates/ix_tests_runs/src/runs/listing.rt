@@ -390,3 +390,60 @@ fn refused_lists_leave_nothing(rt: HostRuntime) -> Result<(), Fail> {
         "PositionRange [7] Failed Failed ",
     )
 }
+
+/// What is told of the second term of an unread source once the list of its first was taken: of three postings, and of a
+/// further term.
+fn told_behind_a_list<S: Source<Error = RunTextError>>(
+    alloc: Global,
+    source: &mut S,
+) -> Result<String, Fail>
+where
+    requires { IsUnread S.gives source.old }
+{
+    let mut list = Vec::new(alloc);
+    begin_term(source)?;
+    let Ok(_) = source.take_list(0, &mut list) else {
+        return Err("no list")?;
+    };
+    begin_term(source)?;
+    let mut told = String::new(alloc);
+    tell_posting(alloc, source, &mut told)?;
+    tell_posting(alloc, source, &mut told)?;
+    tell_posting(alloc, source, &mut told)?;
+    tell_term(alloc, source, &mut told)?;
+    Ok(told)
+}
+
+/// `told_behind_a_list` of a run text.
+fn told_of_text_behind_a_list<R: Read + Drop>(alloc: Global, reader: R) -> Result<String, Fail> {
+    told_behind_a_list(alloc, &mut RunReader::open(alloc, reader)?)
+}
+
+/// Reads postings of a term behind the front and a list of two postings that is taken: from the whole text, where that term
+/// is looked at together with the list, and from its bytes one at a time, where it is not.
+fn expect_behind_a_list(alloc: Global, term: &str, whole: &str, slow: &str) -> Result<(), Fail> {
+    let mut text = bytes_of(alloc, FRONT)?;
+    text.extend_from_slice(&bytes_of(alloc, r"\x86\x81\x81\x81\x81\x81\x81")?)?;
+    text.extend_from_slice(&bytes_of(alloc, term)?)?;
+    let told = told_of_text_behind_a_list(alloc, text.as_slice())?;
+    expect(term, &told, whole)?;
+    let pieces = Pieces::new(text.as_slice(), Sizes::Single(text.len() + 1));
+    let told = told_of_text_behind_a_list(alloc, pieces)?;
+    expect(term, &told, slow)
+}
+
+#[test]
+fn postings_behind_a_list(rt: HostRuntime) -> Result<(), Fail> {
+    expect_behind_a_list(
+        rt.alloc(),
+        r"\x81z\x81\x83\x81\x81\x82\x80",
+        "posting end end end ",
+        "posting end end end ",
+    )?;
+    expect_behind_a_list(
+        rt.alloc(),
+        r"\x81z\x82\x86\x81\x81\x82\x81\x81\x81\x80",
+        "Doubled Failed Failed Failed ",
+        "posting Doubled Failed Failed ",
+    )
+}
