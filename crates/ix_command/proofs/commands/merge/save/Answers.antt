@@ -15,5 +15,8 @@ returns-in-Ok-close-clause-saved g c =
           (g.met.F.FileTarget.untold c.args.files.now c.args.path.now) c.in-Ok.writer c.merge.new.out writes.whole c.in-Ok.ensures writes.written c.in-Ok-close.ensures;
     }
 
+pub returns-in-Err-clause-refused : goal.returns-in-Err-clause-refused
+returns-in-Err-clause-refused g c = refuses_unsaved _ _ _ c.unsaved.ensures.unsaved
+
 pub returns-in-Err-close-clause-refused : goal.returns-in-Err-close-clause-refused
 returns-in-Err-close-clause-refused g c = refuses_unsaved _ _ _ c.unsaved-in-Err-close.ensures.unsaved
