@@ -1,13 +1,15 @@
 -- What a source tells that is a run text, as it is read, or an opened index: what its part tells.
-use Rattle.std.specs.Prelude.{◌≡◌, ℕ, ◌+◌, ◌≤◌, ⊤, List, ◌++◌, length, Option, None, option_map}
+use Rattle.std.specs.Prelude.{◌≡◌, ◌≢◌, ℕ, ◌+◌, ◌≤◌, ⊤, List, ◌++◌, length, Option, None, option_map}
 use Rattle.ix_file.specs.Postings.{list_bytes_from, shifted}
 use Rattle.ix_text.specs.Parts.{DictionaryEntry, Posting}
 use Rattle.ix_run.specs.Faults.{MayFault}
 use Rattle.ix_run.specs.Heads.{Heading}
-use Rattle.ix_run.specs.Reading.{HasRead, IsDrained, IsEnded, MayYield, term_of}
+use Rattle.ix_run.specs.Reading.{HasFailed, HasRead, IsDrained, IsEnded, IsHeldWhole, MayYield, StandsStill, term_of}
 use Rattle.ix_run.specs.RunReaders.{heading_read}
 use Rattle.ix_run.specs.RunSources.{FirstExceeds, HasGiven, HasLeft, IsAtEnd, IsAtEndOfTerm}
 use Rattle.ix_run.specs.Sources.{AreWhole, IsLawfulFront, closed}
+use Rattle.ix_run.specs.ListError.{ListError}
+use Rattle.ix_run.specs.ListError.TheVariants as list
 use Rattle.ix_run.specs.RunTextError.{RunTextError}
 use Rattle.ix_run.specs.RunTextError.TheVariants.{Memory}
 use Rattle.ix_merge.specs.declared.any_source.AnySource.{AnySource}
@@ -47,6 +49,23 @@ SourceIsEnded (Index index) = IsAtEnd index
 abbrev pub SourceMayFault : {R : Type 0} → (R → Option (List ℕ)) → AnySource R → RunTextError → Type 0
 SourceMayFault remaining (Run run) error = MayFault remaining run error
 SourceMayFault remaining (Index index) error = (¬ (IsAtEnd index)) × (error ≡ Memory)
+
+-- it is a run text of which a call was refused
+abbrev pub SourceHasFailed : {R : Type 0} → AnySource R → Type 0
+SourceHasFailed (Run run) = HasFailed run
+SourceHasFailed (Index index) = ⊥
+
+-- What the refusal of a term or of a posting leaves: of an index the source as it was, of a run text one whose calls are refused.
+abbrev pub IsLeftRefused : {R : Type 0} → AnySource R → AnySource R → Type 0
+IsLeftRefused (Run run) left = SourceHasFailed left
+IsLeftRefused (Index index) left = left ≡ Index index
+
+-- What the refusal of a list leaves: of an index the source as it was; of a run text one whose calls are refused, but for want of
+-- memory, which leaves it as it was where the list is buffered whole and nothing was taken of it.
+abbrev pub IsLeftWithoutList : {R : Type 0} → AnySource R → AnySource R → ListError RunTextError → Type 0
+IsLeftWithoutList (Run run) (Run left) error = (error ≢ list.Memory → HasFailed left) × (IsHeldWhole run → error ≡ list.Memory → StandsStill run left)
+IsLeftWithoutList (Run run) (Index left) error = ⊥
+IsLeftWithoutList (Index index) left error = left ≡ Index index
 
 -- it is a run text
 abbrev pub IsOfRunText : {R : Type 0} → AnySource R → Type 0

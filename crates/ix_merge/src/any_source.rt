@@ -6,8 +6,8 @@ use std::io::Read;
 
 /// A run text as it is read, or an opened index.
 ///
-/// It does what its part does. An index is refused for `RunTextError::Memory` alone, and its lists go on as they are
-/// coded.
+/// It does what its part does. An index is refused for `RunTextError::Memory` alone, which leaves it as it was, and its
+/// lists go on as they are coded.
 #[derive(Drop)]
 pub enum AnySource<'a, R> {
     /// A run text.
@@ -17,13 +17,13 @@ pub enum AnySource<'a, R> {
 }
 
 impl<'a, R: Read + Drop> Source for AnySource<'a, R> {
-    ghost use Rattle.std.specs.Prelude.{◌≡◌, ◌+◌, ◌<◌, ◌≤◌, List, ℕ, Some, None, Ok, false, IsSome, IfOk, IfErr, OnErr, OnOk, MatchBool, MatchOption, vec_capacity, vec_len};
+    ghost use Rattle.std.specs.Prelude.{◌≡◌, ◌+◌, ◌<◌, ◌≤◌, List, ℕ, Some, None, Ok, Err, false, IsSome, IfOk, IfErr, OnErr, OnOk, MatchBool, MatchOption, vec_capacity, vec_len};
     ghost use Rattle.ix_text.specs.Parts.{DictionaryEntry};
     ghost use Rattle.ix_run.specs.Faults.{IsListFault};
-    ghost use Rattle.ix_run.specs.RunTextError.TheVariants.{Memory};
+    ghost use Rattle.ix_run.specs.RunTextError.TheVariants.{Failed, Memory};
     ghost use Rattle.ix_run.specs.Sources.{BeginsTerm, EndsPostings, EndsTerms, GivesList, GivesPosting, KeepsFaults};
-    ghost use Rattle.ix_merge.specs.AnySources.{IsOfRunText, LacksRoom, heading_of_source, list_room, term_of_source};
-    ghost use Rattle.ix_merge.specs.AnySources.{SourceHasGiven, SourceIsDrained, SourceIsEnded, SourceMayFault, SourceMayYield};
+    ghost use Rattle.ix_merge.specs.AnySources.{IsLeftRefused, IsLeftWithoutList, IsOfRunText, LacksRoom, heading_of_source, list_room, term_of_source};
+    ghost use Rattle.ix_merge.specs.AnySources.{SourceHasFailed, SourceHasGiven, SourceIsDrained, SourceIsEnded, SourceMayFault, SourceMayYield};
     ghost use Rattle.ix_merge.specs.AnySources.{source_drained_without_term, source_given_lawfully};
     ghost use Rattle.ix_merge.specs.AnySources.{source_given_of_term, source_yielded_lawfully};
 
@@ -64,6 +64,10 @@ impl<'a, R: Read + Drop> Source for AnySource<'a, R> {
         ensures no_more_faults { OnOk result
             (KeepsFaults (SourceMayFault R.remaining) self.old self.new) }
 
+        // What a refusal leaves.
+        ensures refused { OnErr result (IsLeftRefused self.old self.new) }
+        ensures failed { SourceHasFailed self.old → result ≡ Err Failed }
+
         // An index is never refused.
         ensures granted { OnErr result (IsOfRunText self.old) }
     {
@@ -99,6 +103,10 @@ impl<'a, R: Read + Drop> Source for AnySource<'a, R> {
         ensures no_more_faults { OnOk result
             (KeepsFaults (SourceMayFault R.remaining) self.old self.new) }
 
+        // What a refusal leaves.
+        ensures refused { OnErr result (IsLeftRefused self.old self.new) }
+        ensures failed { SourceHasFailed self.old → result ≡ Err Failed }
+
         // It is refused memory only where the positions find no room.
         ensures full { IfErr result (λ error. error ≡ Memory
             → LacksRoom self.old (vec_capacity positions.old) (vec_len positions.new)) }
@@ -129,6 +137,10 @@ impl<'a, R: Read + Drop> Source for AnySource<'a, R> {
         ensures fault { IfErr result (IsListFault (SourceMayFault R.remaining self.old)) }
         ensures no_more_faults { OnOk result
             (KeepsFaults (SourceMayFault R.remaining) self.old self.new) }
+
+        // What a refusal leaves.
+        ensures kept { IfErr result (IsLeftWithoutList self.old self.new) }
+        ensures failed { SourceHasFailed self.old → result ≡ Err (ListError.Source Failed) }
 
         // It is refused memory only where the list finds no room.
         ensures full { IfErr result (λ error. error ≡ ListError.Memory

@@ -40,4 +40,5 @@ pub mod StopTermLemmas
 pub mod TellLemmas
 pub mod TermLemmas
 pub mod TextLaws
+pub mod ToldPostings
 pub mod WholeLists

@@ -145,7 +145,8 @@ pub(crate) fn tell_posting(
     positions: &mut Vec<u32>,
 ) -> Result<(u32, usize), RunTextError>
     requires below { next ≤ 2 ^ 28 }
-    requires ready { (rows : List DocumentRow) × (HasTokens tokens.now rows × (length rows ≤ 2 ^ 28)) }
+    requires ready { (rows : List DocumentRow)
+        × (HasTokens tokens.now rows × (length rows ≤ 2 ^ 28)) }
     ensures size { IfOk result (λ found. found.1 ≤ length bytes.now) }
     ensures told { IfOk result (λ found. (rows : List DocumentRow) → HasTokens tokens.now rows
         → TellsPosting rows next bytes.now found.0 found.1 positions.new.items) }

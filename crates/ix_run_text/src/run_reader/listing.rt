@@ -9,13 +9,14 @@ use crate::{ListError, Listed, RunTextError};
 use std::io::Read;
 
 impl<R: Read + Drop> RunReader<R> {
-    ghost use Rattle.std.specs.Prelude.{◌≡◌, ◌≤◌, ◌<◌, ◌+◌, ◌↔◌, List, Some, None, IsSome, IsTrue, MatchOption, IfErr, IfOk, OnErr, OnOk, vec_capacity, vec_len};
+    ghost use Rattle.std.specs.Prelude.{◌≡◌, ◌≢◌, ◌≤◌, ◌<◌, ◌+◌, ◌↔◌, List, Some, None, Err, IsSome, IsTrue, MatchOption, IfErr, IfOk, OnErr, OnOk, vec_capacity, vec_len};
     ghost use Rattle.ix_text.specs.Parts.{DictionaryEntry};
-    ghost use Rattle.ix_run_text.specs.Reading.{HasRead, IsDrained, IsHeldWhole, MayYield, term_of};
+    ghost use Rattle.ix_run_text.specs.Reading.{HasFailed, HasRead, IsDrained, IsHeldWhole, MayYield, term_of};
     ghost use Rattle.ix_run_text.specs.RunReaders.{heading_read};
     ghost use Rattle.ix_run_text.specs.Sources.{GivesList, KeepsFaults};
     ghost use Rattle.ix_run_text.specs.Faults.{IsListFault, MayFault};
     ghost use Rattle.ix_run_text.specs.declared.ahead.Looked.TheVariants.{Faulty, Lawful};
+    ghost use Rattle.ix_run_text.specs.declared.run_text_error.RunTextError.TheVariants.{Failed};
 
     /// `take_list`, with room for the positions of one posting.
     pub(super) fn take_postings(
@@ -38,6 +39,8 @@ impl<R: Read + Drop> RunReader<R> {
         ensures fault { IfErr result (IsListFault (MayFault R.remaining self.old)) }
         ensures no_more_faults { OnOk result
             (KeepsFaults (MayFault R.remaining) self.old self.new) }
+        ensures stopped { IfErr result (λ error. error ≢ ListError.Memory → HasFailed self.new) }
+        ensures failed { HasFailed self.old → result ≡ Err (ListError.Source Failed) }
         ensures kept { IsHeldWhole self.old → IfErr result (λ error. error ≡ ListError.Memory
             → self.new ≡ self.old) }
         ensures full { IfErr result (λ error. error ≡ ListError.Memory
@@ -79,6 +82,7 @@ impl<R: Read + Drop> RunReader<R> {
         ensures heading { heading_read self.new ≡ heading_read self.old }
         ensures current { term_of self.new ≡ term_of self.old }
         ensures fault { MayFault R.remaining self.old result }
+        ensures stopped { HasFailed self.new }
     {
         self.fail();
         fault.error
@@ -109,6 +113,7 @@ impl<R: Read + Drop> RunReader<R> {
         ensures fault { IfErr result (IsListFault (MayFault R.remaining self.old)) }
         ensures no_more_faults { OnOk result
             (KeepsFaults (MayFault R.remaining) self.old self.new) }
+        ensures stopped { IfErr result (λ error. error ≢ ListError.Memory → HasFailed self.new) }
         ensures kept { IfErr result (λ error. error ≡ ListError.Memory → self.new ≡ self.old) }
         ensures full { IfErr result (λ error. error ≡ ListError.Memory
             → vec_capacity out.old < vec_len out.old + (self.old.bytes + 4)) }
@@ -158,6 +163,7 @@ impl<R: Read + Drop> RunReader<R> {
         ensures fault { IfErr result (IsListFault (MayFault R.remaining self.old)) }
         ensures no_more_faults { OnOk result
             (KeepsFaults (MayFault R.remaining) self.old self.new) }
+        ensures stopped { IfErr result (λ error. error ≢ ListError.Memory → HasFailed self.new) }
         ensures kept { IfErr result (λ error. error ≡ ListError.Memory → self.new ≡ self.old) }
         ensures full { IfErr result (λ error. error ≡ ListError.Memory
             → vec_capacity out.old < vec_len out.old + (self.old.bytes + 4)) }
@@ -218,15 +224,15 @@ impl<R: Read + Drop> RunReader<R> {
         ensures fault { IfErr result (IsListFault (MayFault R.remaining self.old)) }
         ensures no_more_faults { OnOk result
             (KeepsFaults (MayFault R.remaining) self.old self.new) }
+        ensures stopped { IfErr result (λ error. error ≢ ListError.Memory → HasFailed self.new) }
+        ensures failed { HasFailed self.old → result ≡ Err (ListError.Source Failed) }
         ensures full { IfErr result (λ error. error ≡ ListError.Memory
             → vec_capacity out.old < vec_len out.old + (self.old.bytes + 4)) }
     {
-        let first = self.head.first;
-        let start = out.len();
+        let (first, start) = (self.head.first, out.len());
         let mut listed = Listed { documents: 0, next };
         'postings: loop {
-            let before = self.next;
-            let bytes = self.bytes;
+            let (before, bytes) = (self.next, self.bytes);
             match self.next_of_list(positions) {
                 Ok(None) => return Ok(listed),
                 Ok(Some(document)) => {

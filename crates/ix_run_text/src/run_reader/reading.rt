@@ -6,7 +6,7 @@ use std::io::Read;
 use std::mem::replace;
 
 impl<R: Read + Drop> Source for RunReader<R> {
-    ghost use Rattle.std.specs.Prelude.{◌≡◌, ◌<◌, ◌≤◌, ◌+◌, [], List, ℕ, Some, None, Ok, Err, false, IsSome, IfErr, IfOk, IfSome, OnErr, OnOk, MatchBool, MatchOption, MatchResult, vec_capacity, vec_len};
+    ghost use Rattle.std.specs.Prelude.{◌≡◌, ◌≢◌, ◌<◌, ◌≤◌, ◌+◌, [], List, ℕ, Some, None, Ok, Err, false, IsSome, IfErr, IfOk, IfSome, OnErr, OnOk, MatchBool, MatchOption, MatchResult, vec_capacity, vec_len};
     ghost use Rattle.ix_text.specs.Parts.{DictionaryEntry, Posting};
     ghost use Rattle.ix_run_text.specs.Reading.{BeginsFirst, Faces, GivesFirst, HasFailed, HasRead, IsDrained, IsEnded, IsHeldWhole, MayYield, StandsStill, postings_left, term_of};
     ghost use Rattle.ix_run_text.specs.RunReaders.{heading_read};
@@ -133,9 +133,9 @@ impl<R: Read + Drop> Source for RunReader<R> {
     /// at once.
     ///
     /// `ListError::Memory`, only where what is left of the list and four bytes more find no room, since its first gap may be
-    /// coded longer; `ListError::Source` with the errors of `next_posting`. A refusal leaves the term at hand, and `out` as
-    /// it was. Where the list is buffered whole and nothing was taken of it, `ListError::Memory` leaves the reader as it was
-    /// too; else some postings of the term may have been passed.
+    /// coded longer; `ListError::Source` with the errors of `next_posting`, and after it each later call is refused as
+    /// `Failed`. A refusal leaves the term at hand, and `out` as it was. Where the list is buffered whole and nothing was
+    /// taken of it, `ListError::Memory` leaves the reader as it was too; else some postings of the term may have been passed.
     fn take_list(&mut self, next: u32, out: &mut Vec<u8>) -> Result<Listed, ListError<RunTextError>>
         requires at_hand { IsSome (term_of self.old) }
         requires begun { (finished : List DictionaryEntry)
@@ -153,6 +153,8 @@ impl<R: Read + Drop> Source for RunReader<R> {
             (KeepsFaults (MayFault R.remaining) self.old self.new) }
 
         // What a refusal leaves.
+        ensures stopped { IfErr result (λ error. error ≢ ListError.Memory → HasFailed self.new) }
+        ensures failed { HasFailed self.old → result ≡ Err (ListError.Source Failed) }
         ensures kept { IsHeldWhole self.old → IfErr result (λ error. error ≡ ListError.Memory
             → StandsStill self.old self.new) }
 

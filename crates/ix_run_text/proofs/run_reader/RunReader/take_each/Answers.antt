@@ -14,6 +14,7 @@ pub postings-init : goal.postings-init
 postings-init g c = record {
   taken = takes_none (MayYield g.R.Read.remaining) HasRead heading_read term_of c.args.self.now c.args.next c.args.out.now.items;
   no_more_faults = λ error may. may;
+  failed = λ failed. failed;
   capacity = omega arith;
   room = grows_by_none c.args.self.now.head.first (length c.args.out.now.items) c.args.self.now.bytes c.args.next c.args.self.now.next;
 }
@@ -137,6 +138,7 @@ postings-preserved g c =
           c.next_of_list.new.self (document, c.next_of_list.new.positions.items) gives c.push_taken.new.out.items
           c.next_of_list.ensures.heading c.next_of_list.ensures.current grown;
       no_more_faults = λ error may. c.postings.invariant.no_more_faults error (c.in-Ok-Some.ensures.no_more_faults error may);
+      failed = λ failed. (let refused = c.next_of_list.ensures.failed (c.postings.invariant.failed failed) in let given = c.in-Ok-Some.is in absurd (cc));
       capacity = (let before = c.postings.invariant.capacity in omega (arith, before, c.push_taken.ensures.capacity));
       room =
           grows_by_one first (length c.args.out.now.items) c.args.self.now.bytes c.postings.listed.documents near c.postings.self.next (length c.postings.out.items) c.postings.self.bytes
