@@ -22,9 +22,8 @@ LANES = $(shell awk '/MemAvailable/ { lanes = int($$2 / 5000000) } \
 .PHONY: all test cookbook check-program check-faults check-examples lib check-lib install uninstall clean toolchain
 
 all: toolchain
-	@echo "proving and building crates/ix (the first time takes some minutes; build/prove.log tells how it goes) .."
 	@mkdir -p build
-	@test -e build/ix || share/prove.sh ix > build/prove.log 2>&1 || (cat build/prove.log >&2; exit 1)
+	@share/prove.py ix
 	@cd crates/ix && rt run -- --help > ../../build/prove.log 2>&1 || (cat ../../build/prove.log >&2; exit 1)
 	@cp crates/ix/out/ix build/ix
 	@echo "built build/ix; asking: build/ix ask examples/mail.txt 'contract AND NOT hotel'"

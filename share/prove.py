@@ -1,0 +1,182 @@
+#!/usr/bin/env python3
+"""Proves a crate and the crates that it uses, those that do not use one another side by side.
+
+usage: share/prove.py CRATE     (needs the command rt; RT_JOBS=N: at most N checks at once)
+
+One `rt` at a time works in a checkout, so each lane has a copy of the sources below build/lanes. What a lane proves, `rt`
+finds again from every checkout of this machine. A lane takes one processor and 4 GB. A crate is not looked at again until
+its sources, or those of a crate that it uses, change.
+"""
+import hashlib
+import os
+import re
+import shutil
+import subprocess
+import sys
+import threading
+import time
+from pathlib import Path
+
+TOP = Path(__file__).resolve().parent.parent
+LANES = TOP / "build" / "lanes"
+PARTS = ("src", "specs", "proofs")
+LANE_BYTES = 4_000_000_000
+# Minutes of one processor for a thousand lines, rounded up; rt's own guide gives 1 to 3.
+MINUTES = 1.5
+
+
+def uses() -> dict[str, list[str]]:
+    """The crates of crates.txt, each with those of this repository that it names."""
+    lines = [line.split(":") for line in (TOP / "crates.txt").read_text().splitlines() if re.match("[a-z]", line)]
+    named = {head.split()[0]: tail.split() for head, tail in lines}
+    return {crate: [it for it in below if it in named] for crate, below in named.items()}
+
+
+def needed(crate: str, below: dict[str, list[str]]) -> list[str]:
+    """The crate and all that it stands on, the lowest first."""
+    order: list[str] = []
+    for it in below[crate]:
+        order += [other for other in needed(it, below) if other not in order]
+    return [*order, crate]
+
+
+def sources(crate: str) -> list[Path]:
+    return sorted(it for part in PARTS for it in (TOP / "crates" / crate / part).rglob("*") if it.is_file())
+
+
+def weight(crate: str) -> int:
+    """How many lines a check of the crate reads of it."""
+    return sum(it.read_bytes().count(b"\n") for it in sources(crate))
+
+
+def sum_of(crate: str, below: dict[str, list[str]]) -> str:
+    """A sum of the crate's sources and of those of all that it uses."""
+    total = hashlib.sha256()
+    for it in needed(crate, below):
+        for file in sources(it):
+            total.update(f"{file.relative_to(TOP)} {file.stat().st_size} ".encode() + file.read_bytes())
+    return total.hexdigest()
+
+
+def lanes_here() -> int:
+    """How many checks run side by side: what RT_JOBS says, or what this machine bears."""
+    if os.environ.get("RT_JOBS", "").isdigit():
+        return max(1, int(os.environ["RT_JOBS"]))
+    found = re.search(r"MemAvailable:\s+(\d+)", Path("/proc/meminfo").read_text())
+    held = int(found[1]) * 1024 if found else LANE_BYTES
+    return max(1, min(len(os.sched_getaffinity(0)), held // LANE_BYTES))
+
+
+def fill(lane: Path, crates: list[str]) -> None:
+    """Copies the sources into the lane; what earlier checks kept there stays."""
+    for crate in crates:
+        for part in PARTS:
+            shutil.rmtree(lane / "crates" / crate / part, ignore_errors=True)
+            if (TOP / "crates" / crate / part).is_dir():
+                shutil.copytree(TOP / "crates" / crate / part, lane / "crates" / crate / part)
+    lines = [line for line in (TOP / "crates.txt").read_text().splitlines() if re.split(r"[ :]", line)[0] in crates]
+    (lane / "crates.txt").write_text("\n".join(lines) + "\n")
+    shutil.copy(TOP / "HANDLES", lane / "HANDLES")
+
+
+class Proving:
+    """What is proved, what is being proved, and how far each check is."""
+
+    def __init__(self, order: list[str], below: dict[str, list[str]]) -> None:
+        self.order, self.below, self.turn = order, below, threading.Condition()
+        self.failed, self.begun = "", time.monotonic()
+        self.sums = {it: sum_of(it, below) for it in order}
+        self.done = {it for it in order if self.mark(it).is_file() and self.mark(it).read_text() == self.sums[it]}
+        self.left = [it for it in order if it not in self.done]
+        # How far the checks are that run now.
+        self.far: dict[str, str] = {}
+        behind = {it: weight(it) for it in order}
+        for crate in reversed(order):
+            above = [behind[it] for it in order if crate in below[it]]
+            behind[crate] += max(above, default=0)
+        self.left.sort(key=lambda it: -behind[it])
+
+    def mark(self, crate: str) -> Path:
+        """The file that holds the sum of the sources that were proved last."""
+        return LANES / f"{crate}.proved"
+
+    def take(self) -> str | None:
+        """The next crate of which all that it uses is proved; none: nothing is left to begin."""
+        with self.turn:
+            while self.left and not self.failed:
+                ready = [it for it in self.left if self.done.issuperset(self.below[it])]
+                if ready:
+                    self.left.remove(ready[0])
+                    self.far[ready[0]] = ""
+                    return ready[0]
+                self.turn.wait()
+            return None
+
+    def end(self, crate: str, proved: bool) -> None:
+        with self.turn:
+            del self.far[crate]
+            if proved:
+                self.mark(crate).write_text(self.sums[crate])
+                self.done.add(crate)
+            else:
+                self.failed = self.failed or crate
+            self.turn.notify_all()
+        self.show(f"{crate} {'proved' if proved else 'NOT PROVED'}")
+
+    def show(self, news: str) -> None:
+        minutes = (time.monotonic() - self.begun) / 60
+        now = ", ".join(f"{crate} {far}".strip() for crate, far in self.far.items())
+        print(f"{minutes:5.1f} min  {len(self.done)} of {len(self.order)} crates: {news}{f'; now {now}' if now else ''}", flush=True)
+
+    def call(self, crate: str, verb: str, home: Path) -> bool:
+        """Whether `rt check` or `rt lib` accepts the crate; notes how many of its functions are checked."""
+        with open(LANES / f"{crate}.log", "a") as log:
+            run = subprocess.Popen(
+                ["rt", verb, "--jobs", "1"], cwd=home, stdout=subprocess.PIPE, stderr=subprocess.STDOUT, text=True
+            )
+            assert run.stdout
+            for line in run.stdout:
+                log.write(line)
+                if far := re.match(r"checked \S+, (\d+ of \d+)", line):
+                    self.far[crate] = far[1]
+            return run.wait() == 0
+
+    def work(self, lane: Path) -> None:
+        while crate := self.take():
+            home = lane / "crates" / crate
+            (LANES / f"{crate}.log").unlink(missing_ok=True)
+            is_used = any(crate in self.below[it] for it in self.order)
+            self.end(crate, self.call(crate, "check", home) and (not is_used or self.call(crate, "lib", home)))
+
+
+def main(crate: str) -> int:
+    below = uses()
+    order = needed(crate, below)
+    LANES.mkdir(parents=True, exist_ok=True)
+    proving = Proving(order, below)
+    count = min(lanes_here(), len(proving.left))
+    lines = sum(map(weight, proving.left))
+    print(f"proving {len(proving.left)} of {len(order)} crates, {lines} lines, {count} at once: about "
+          f"{lines / 1000 * MINUTES / max(count, 1) + 1:.0f} minutes", flush=True)
+    for number in range(count):
+        fill(LANES / str(number), order)
+    lanes = [threading.Thread(target=proving.work, args=(LANES / str(it),), daemon=True) for it in range(count)]
+    for lane in lanes:
+        lane.start()
+    told = time.monotonic()
+    while any(it.is_alive() for it in lanes):
+        time.sleep(0.2)
+        if time.monotonic() - told >= 60:
+            told = time.monotonic()
+            proving.show("working")
+    if proving.failed:
+        print(f"{proving.failed} is not proved; the last lines of build/lanes/{proving.failed}.log:", file=sys.stderr)
+        print("".join((LANES / f"{proving.failed}.log").read_text().splitlines(True)[-20:]), file=sys.stderr)
+        return 1
+    return 0
+
+
+if __name__ == "__main__":
+    if len(sys.argv) != 2:
+        sys.exit(__doc__)
+    sys.exit(main(sys.argv[1]))
