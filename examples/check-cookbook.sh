@@ -1,5 +1,5 @@
 #!/bin/sh
-# Runs each recipe of docs/cookbook.md on files that it makes, and compares what is printed. Usage: check-cookbook.sh [IX]
+# Runs each recipe of docs/guide/cookbook.md on files that it makes, and compares what is printed. Usage: check-cookbook.sh [IX]
 set -eu
 examples=$(cd "$(dirname "$0")" && pwd)
 ix=${1:-$(dirname "$examples")/build/ix}
