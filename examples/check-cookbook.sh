@@ -87,9 +87,9 @@ prints "documents that come and go" "$(printf '2\tlondon\n1@example.org\n2@examp
     "$("$ix" live day.script)"
 
 status=0
-"$ix" ask mail.tsv 'rome' > names || status=$?
+"$ix" ask mail.tsv -- 'rome' > names || status=$?
 prints "nothing found is status 1" 1 "$status"
 status=0
-"$ix" ask mail.tsv 'a b' > names 2> refusal || status=$?
+"$ix" ask mail.tsv -- 'a b' > names 2> refusal || status=$?
 prints "refused is status 2" "2 ix: query 2: Unexpected(2)" "$status $(cat refusal)"
 exit $failed
