@@ -3,9 +3,9 @@
 # make install PREFIX=/usr/local   puts the program, its man page, completions and notices below PREFIX (and DESTDIR)
 # make uninstall PREFIX=/usr/local takes these away again
 # make clean  takes away what was built, and the proofs that were kept
-# make cookbook   runs each recipe of docs/cookbook.md with build/ix
+# make cookbook   runs each recipe of docs/guide/cookbook.md with build/ix
 # make check-program   runs build/ix whole, as a process, on worked examples, pipes, full devices and refused files
-# make check-faults    refuses each request for memory, each read and each write of build/ix in turn, and forges its files (docs/faults.md)
+# make check-faults    refuses each request for memory, each read and each write of build/ix in turn, and forges its files (docs/proofs/faults.md)
 # make lib    proves crates/ix_c and builds the library for C, Python and Rust: build/libix.a, build/libix.so, header, ix.pc
 # make check-lib  checks that library from C, Python and Rust, and against an oracle
 # make check-examples  runs the cookbook, the builds in pieces, what is installed, the notices and the pictures

@@ -40,7 +40,7 @@ part cookbook "$top/examples/check-cookbook.sh" "$ix"
 part cluster "$python" "$top/examples/cluster/check.py" "$ix"
 part cost cost
 part share "$top/share/check.py" "$ix"
-part pictures "$top/docs/pictures/draw.py" --check "$ix"
+part pictures "$top/docs/design/pictures/draw.py" --check "$ix"
 if [ -n "$failed" ]; then
     echo "failed:$failed" >&2
     exit 1

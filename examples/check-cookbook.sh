@@ -1,5 +1,5 @@
 #!/bin/sh
-# Runs each recipe of docs/cookbook.md on files that it makes, and compares what is printed. Usage: check-cookbook.sh [IX]
+# Runs each recipe of docs/guide/cookbook.md on files that it makes, and compares what is printed. Usage: check-cookbook.sh [IX]
 set -eu
 examples=$(cd "$(dirname "$0")" && pwd)
 ix=${1:-$(dirname "$examples")/build/ix}
@@ -87,9 +87,9 @@ prints "documents that come and go" "$(printf '2\tlondon\n1@example.org\n2@examp
     "$("$ix" live day.script)"
 
 status=0
-"$ix" ask mail.tsv 'rome' > names || status=$?
+"$ix" ask mail.tsv -- 'rome' > names || status=$?
 prints "nothing found is status 1" 1 "$status"
 status=0
-"$ix" ask mail.tsv 'a b' > names 2> refusal || status=$?
+"$ix" ask mail.tsv -- 'a b' > names 2> refusal || status=$?
 prints "refused is status 2" "2 ix: query 2: Unexpected(2)" "$status $(cat refusal)"
 exit $failed

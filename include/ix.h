@@ -1,7 +1,7 @@
 /*
 ** ix: exact search in collections of named texts, for C and for every language that calls C.
 **
-** What a call computes is proved: docs/library.md says which promises hold, and what rests on the caller.
+** What a call computes is proved: docs/guide/library.md says which promises hold, and what rests on the caller.
 **
 ** TEXTS
 **   A collection text is UTF-8, one document a line: its name (1 to 255 bytes), a TAB, its text, LF.

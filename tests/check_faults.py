@@ -1,5 +1,5 @@
 #!/usr/bin/env python3
-"""Refuses what a machine can refuse to the proved program, and forges its files: docs/faults.md says what, and what came of it.
+"""Refuses what a machine can refuse to the proved program, and forges its files: docs/proofs/faults.md says what.
 
 usage: check_faults.py [IX] [--jobs N] [--only PART[,PART..]] [--random N] [--step N]
 

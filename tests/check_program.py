@@ -4,7 +4,7 @@
 usage: check_program.py [IX]        default: build/ix beside this folder
 
 The crates' own tests call `ix_command::command_over` over files in memory. Here the operating system is real: files, pipes, a closed
-pipe, a full device, a folder where a file is wanted. Expected bytes are those of docs/specification.md. All files are made
+pipe, a full device, a folder where a file is wanted. Expected bytes are those of docs/format and docs/guide. All files are made
 in a folder of the system's own choice, which is gone at the end. Status 0: all is as expected.
 """
 import itertools

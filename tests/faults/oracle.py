@@ -1,4 +1,4 @@
-"""Reads index texts and run texts by docs/specification.md alone. A refusal is the exception Refused, with the words that
+"""Reads index texts and run texts by docs/format alone. A refusal is the exception Refused, with the words that
 `ix` prints."""
 from writing import GREATEST, MOST, NAMES, Collection, grams_of
 

@@ -1,4 +1,4 @@
-"""The samples of the specification's tests: one document, five documents, and one document under a stop word."""
+"""The samples of the tests of the formats: one document, five documents, and one document under a stop word."""
 from writing import index_text, inverted, run_text
 
 ONE = inverted([(b"d", [b"a", b"a"])])

@@ -1,4 +1,4 @@
-"""Writes index texts and run texts by docs/specification.md alone, as a second program beside `ix`.
+"""Writes index texts and run texts by docs/format alone, as a second program beside `ix`.
 
 A collection is a stop set (ascending terms), rows (name, number of tokens) and terms ascending with their postings:
 term -> [(document, [position, ..]), ..]. Terms and names are bytes.

@@ -45,7 +45,7 @@ def draw(program, folder):
 def main(words):
     checked = words[:1] == ["--check"]
     words = words[checked:]
-    program = Path(words[0] if words else HERE.parents[1] / "build/ix").resolve()
+    program = Path(words[0] if words else HERE.parents[2] / "build/ix").resolve()
     if not program.is_file():
         print(f"there is no program {program}: make it with make", file=sys.stderr)
         return 2
@@ -56,7 +56,7 @@ def main(words):
     with tempfile.TemporaryDirectory() as folder:
         for name in draw(program, folder):
             same = (HERE / name).exists() and (HERE / name).read_bytes() == Path(folder, name).read_bytes()
-            print(f"ok: {name}" if same else f"FAILED: docs/pictures/{name} is not what docs/pictures/draw.py draws")
+            print(f"ok: {name}" if same else f"FAILED: docs/design/pictures/{name} is not what docs/design/pictures/draw.py draws")
             status = status if same else 1
     return status
 
