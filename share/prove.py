@@ -4,8 +4,8 @@
 usage: share/prove.py CRATE     (needs the command rt; RT_JOBS=N: at most N checks at once)
 
 One `rt` at a time works in a checkout, so each lane has a copy of the sources below build/lanes. What a lane proves, `rt`
-finds again from every checkout of this machine. A lane takes one processor and 4 GB. A crate is not looked at again until
-its sources, or those of a crate that it uses, change.
+finds again from every checkout of this machine. A lane takes 4 GB; the processors that no other crate waits for go to the
+crates that are being proved. A crate is not looked at again until its sources, or those of a crate that it uses, change.
 """
 import hashlib
 import os
@@ -82,8 +82,9 @@ def fill(lane: Path, crates: list[str]) -> None:
 class Proving:
     """What is proved, what is being proved, and how far each check is."""
 
-    def __init__(self, order: list[str], below: dict[str, list[str]]) -> None:
+    def __init__(self, order: list[str], below: dict[str, list[str]], lanes: int) -> None:
         self.order, self.below, self.turn = order, below, threading.Condition()
+        self.lanes = self.free = lanes
         self.failed, self.begun = "", time.monotonic()
         self.sums = {it: sum_of(it, below) for it in order}
         self.done = {it for it in order if self.mark(it).is_file() and self.mark(it).read_text() == self.sums[it]}
@@ -100,21 +101,24 @@ class Proving:
         """The file that holds the sum of the sources that were proved last."""
         return LANES / f"{crate}.proved"
 
-    def take(self) -> str | None:
-        """The next crate of which all that it uses is proved; none: nothing is left to begin."""
+    def take(self) -> tuple[str, int] | None:
+        """The next crate of which all that it uses is proved, and by how many jobs; none: nothing is left to begin."""
         with self.turn:
             while self.left and not self.failed:
                 ready = [it for it in self.left if self.done.issuperset(self.below[it])]
-                if ready:
+                if ready and self.free:
                     self.left.remove(ready[0])
                     self.far[ready[0]] = ""
-                    return ready[0]
+                    jobs = max(1, self.free // len(ready))
+                    self.free -= jobs
+                    return ready[0], jobs
                 self.turn.wait()
             return None
 
-    def end(self, crate: str, proved: bool) -> None:
+    def end(self, crate: str, jobs: int, proved: bool) -> None:
         with self.turn:
             del self.far[crate]
+            self.free += jobs
             if proved:
                 self.mark(crate).write_text(self.sums[crate])
                 self.done.add(crate)
@@ -128,11 +132,11 @@ class Proving:
         now = ", ".join(f"{crate} {far}".strip() for crate, far in self.far.items())
         print(f"{minutes:5.1f} min  {len(self.done)} of {len(self.order)} crates: {news}{f'; now {now}' if now else ''}", flush=True)
 
-    def call(self, crate: str, verb: str, home: Path) -> bool:
+    def call(self, crate: str, verb: str, home: Path, jobs: int) -> bool:
         """Whether `rt check` or `rt lib` accepts the crate; notes how many of its functions are checked."""
         with open(LANES / f"{crate}.log", "a") as log:
             run = subprocess.Popen(
-                ["rt", verb, "--jobs", "1"], cwd=home, stdout=subprocess.PIPE, stderr=subprocess.STDOUT, text=True
+                ["rt", verb, "--jobs", str(jobs)], cwd=home, stdout=subprocess.PIPE, stderr=subprocess.STDOUT, text=True
             )
             assert run.stdout
             for line in run.stdout:
@@ -142,19 +146,20 @@ class Proving:
             return run.wait() == 0
 
     def work(self, lane: Path) -> None:
-        while crate := self.take():
+        while taken := self.take():
+            crate, jobs = taken
             home = lane / "crates" / crate
             (LANES / f"{crate}.log").unlink(missing_ok=True)
-            is_used = any(crate in self.below[it] for it in self.order)
-            self.end(crate, self.call(crate, "check", home) and (not is_used or self.call(crate, "lib", home)))
+            verbs = ["check", "lib"] if any(crate in self.below[it] for it in self.order) else ["check"]
+            self.end(crate, jobs, all(self.call(crate, verb, home, jobs) for verb in verbs))
 
 
 def main(crate: str) -> int:
     below = uses()
     order = needed(crate, below)
     LANES.mkdir(parents=True, exist_ok=True)
-    proving = Proving(order, below)
-    count = min(lanes_here(), len(proving.left))
+    count = lanes_here()
+    proving = Proving(order, below, count)
     lines = sum(map(weight, proving.left))
     print(f"proving {len(proving.left)} of {len(order)} crates, {lines} lines, {count} at once: about "
           f"{lines / 1000 * MINUTES / max(count, 1) + 1:.0f} minutes", flush=True)
