@@ -85,9 +85,6 @@ module _ (runs : List (List ℕ)) where
     pub as_many : length readers ≡ count
     pub each : (place : ℕ) (run : List ℕ) (reader : Reader) → slice_get runs place ≡ Some run → slice_get readers place ≡ Some reader → IsReading run reader
 
-  pub reading_none : AreReadingSoFar [] 0
-  reading_none = record { as_many = refl; each = λ place run reader at none. cc }
-
   pub reading_more : (readers : List Reader) (count : ℕ) (reader : Reader) (run : List ℕ) → slice_get runs count ≡ Some run → IsReading run reader
       → AreReadingSoFar readers count → AreReadingSoFar (readers ++ reader ∷ []) (count + 1)
   reading_more readers count reader run at is so_far = record {

@@ -84,20 +84,6 @@ pub record AreCut (cut : Cut) (texts : List NamedText) (bounds : List ℕ) (left
   pub not_empty : 0 < length texts → 0 < length last
   pub one : texts ≡ [] → closed ≡ []
 
-pub nothing_cut : (cut : Cut) (bounds : List ℕ) → bounds ≡ 0 ∷ [] → AreCut cut [] bounds (cut_number cut)
-nothing_cut cut bounds are = record {
-  closed = [];
-  last = [];
-  bounds_are = are;
-  whole = refl;
-  full = All-nil (IsFull cut);
-  closed_no_sooner = All-nil (IsFullNoSooner cut);
-  no_sooner = none_sooner cut;
-  left_is = omega arith;
-  not_empty = λ some. some;
-  one = λ _. refl;
-}
-
 push_not_nil : {X : Type 0} (xs : List X) (x : X) → xs ++ x ∷ [] ≡ [] → ⊥
 push_not_nil xs x is = let size = length-append xs (x ∷ []) in let none = ap length is in omega (arith, size, none)
 

@@ -1,4 +1,3 @@
-pub mod BalancedRows
 pub mod BlockLemmas
 pub mod BlockMaking
 pub mod BlockPieces

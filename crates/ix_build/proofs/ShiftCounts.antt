@@ -136,9 +136,6 @@ module _ {M P : Type 0} (askings : M → List Asked) (gives : M → ℕ → P �
     pub steps_of_new : (i : ℕ) (s : Work) → slice_get shifts i ≡ Some s → s.new_desk.steps ≡ s.work.stint.steps
     steps_of_new i s e = ap (λ (d : DeskView P). d.steps) s.work.stint.desk_is ∙ ap (λ (d : DeskView P). d.steps ++ s.work.stint.steps) (fresh i s e)
 
-    pub number_of_new : (i : ℕ) (s : Work) → slice_get shifts i ≡ Some s → s.new_desk.number ≡ i
-    number_of_new i s e = ap (λ (d : DeskView P). d.number) s.work.stint.desk_is ∙ ap (λ (d : DeskView P). d.number) (fresh i s e)
-
     pub all_own : All (λ d. d.board ≡ board) (map (λ s. s.new_desk) shifts)
     all_own = All-map (λ (d : DeskView P). d.board ≡ board) (λ (s : Work). s.new_desk) shifts (all_from_get (λ (s : Work). s.new_desk.board ≡ board) shifts board_of_new)
 

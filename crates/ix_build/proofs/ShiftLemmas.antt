@@ -20,17 +20,6 @@ module _ {M P : Type 0} (askings : M → List Asked) (gives : M → ℕ → P �
   abbrev All' : List M → List (DeskView P) → List M → List (DeskView P) → Option Refusal → Bool → Type 0
   All' ms ds ns es lowest stopped = HaveWorked askings gives follows ms ds ns es lowest stopped
 
-  pub nobody_worked : All' [] [] [] [] None false
-  nobody_worked = record {
-    shifts = [];
-    makers_are = refl;
-    desks_are = refl;
-    new_makers_are = refl;
-    new_desks_are = refl;
-    lowest_is = none_refused_of_none;
-    none_stopped = λ _. All-nil (λ (s : Work). s.stopped ≡ false);
-  }
-
   pushed : {B : Type 0} (f : Work → B) (shifts : List Work) (s : Work) (bs : List B) → map f shifts ≡ bs → map f (shifts ++ s ∷ []) ≡ bs ++ f s ∷ []
   pushed {B} f shifts s bs is = map_push f shifts s ∙ ap (λ (l : List B). l ++ f s ∷ []) is
 

@@ -25,9 +25,6 @@ pub record AreCutSoFar (bytes : List ℕ) (sizes : List ℕ) (texts : List (List
   pub before : whole texts ++ rest ≡ bytes
   pub sized : map length texts ≡ take count sizes
 
-pub cut_none : (bytes sizes : List ℕ) → AreCutSoFar bytes sizes [] bytes 0
-cut_none bytes sizes = record { before = refl; sized = refl }
-
 module _ (bytes sizes : List ℕ) (texts : List (List ℕ)) (rest : List ℕ) (count : ℕ) (so_far : AreCutSoFar bytes sizes texts rest count) where
   -- what was cut off and the rest are all
   sizes_with_rest : sum_of (take count sizes) + length rest ≡ length bytes
@@ -55,12 +52,6 @@ module _ (bytes sizes : List ℕ) (texts : List (List ℕ)) (rest : List ℕ) (c
 
     pub too_little : 0 < length rest → sum_of sizes ≢ length bytes
     too_little left = λ same. omega (arith, sizes_with_rest, ap sum_of all, left, same)
-
-    pub cut_all : rest ≡ [] → AreCutFrom bytes sizes texts
-    cut_all none = record {
-      whole = sym (append-nil (whole texts)) ∙ ap (λ xs. whole texts ++ xs) (sym none) ∙ so_far.before;
-      sized = so_far.sized ∙ all;
-    }
 
 -- one more text behind a reference
 pub cut_off : (bytes sizes : List ℕ) (texts : List (Bor (List ℕ))) (rest : List ℕ) (count : ℕ) → AreCutSoFar bytes sizes (map (λ (text : Bor (List ℕ)). text.now) texts) rest count

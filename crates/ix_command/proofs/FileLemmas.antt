@@ -102,8 +102,3 @@ told_up Tells P (Err told) error is holds = holds told is
 pub err_weaker : {T : Type 0} (result : Result T Refusal) (P Q : Refusal → Type 0) → ((told : Refusal) → P told → Q told) → IfErr result P → IfErr result Q
 err_weaker (Ok x) P Q weaker holds = tt
 err_weaker (Err told) P Q weaker holds = weaker told holds
-
--- two facts of what went well make a third
-pub ok_of_both : {T E : Type 0} {P Q R : Type 0} (result : Result T E) → (P → Q → R) → OnOk result P → OnOk result Q → OnOk result R
-ok_of_both (Ok x) make one other = make one other
-ok_of_both (Err e) make one other = tt

@@ -17,12 +17,6 @@ use Rattle.ix_index_text.specs.declared.put_error.PutError.{PutError}
 use Rattle.ix_index_text.specs.declared.sections.WriterSections.{WriterSections}
 use Rattle.ix_index_text.proofs.DictionaryLemmas.{dictionary_none}
 
--- one element more of a section
-flat_map-more : {X : Type 0} (coded : X → List ℕ) (xs : List X) (i : ℕ) (d : X) → i < length xs → flat_map coded (take (i + 1) xs) ≡ flat_map coded (take i xs) ++ coded (get_or xs i d)
-flat_map-more coded xs i d within =
-    ap (λ ys. flat_map coded ys) (take_more xs i d within) ∙ flat_map-append coded (take i xs) (get_or xs i d ∷ [])
-    ∙ ap (λ bytes. flat_map coded (take i xs) ++ bytes) (append-nil (coded (get_or xs i d)))
-
 map-more : {X Y : Type 0} (f : X → Y) (xs : List X) (i : ℕ) (d : X) → i < length xs → map f (take (i + 1) xs) ≡ map f (take i xs) ++ f (get_or xs i d) ∷ []
 map-more f xs i d within = ap (λ ys. map f ys) (take_more xs i d within) ∙ map-append f (take i xs) (get_or xs i d ∷ [])
 

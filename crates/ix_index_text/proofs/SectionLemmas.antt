@@ -51,16 +51,6 @@ on_ok_then : {T E P Q : Type 0} (result : Result T E) → (P → Q) → OnOk res
 on_ok_then (Ok value) f p = f p
 on_ok_then (Err error) f p = tt
 
-pub entry_appended : {T E : Type 0} (result : Result T E) (gram : Gram) (list : GramList) (old middle later new : List ℕ) → middle ≡ old ++ counted (text_of gram) → later ≡ middle ++ code_of list.count
-    → OnOk result (new ≡ later ++ list.gaps.items) → OnOk result (new ≡ old ++ listed_bytes gram list)
-entry_appended result gram list old middle later new first second third =
-    let whole : later ≡ old ++ (counted (text_of gram) ++ code_of list.count) =
-    second ∙ ap (λ (xs : List ℕ). xs ++ code_of list.count) first ∙ append_assoc old (counted (text_of gram)) (code_of list.count) in
-    on_ok_then result
-    (λ (e : new ≡ later ++ list.gaps.items).
-    e ∙ ap (λ (xs : List ℕ). xs ++ list.gaps.items) whole ∙ append_assoc old (counted (text_of gram) ++ code_of list.count) list.gaps.items)
-    third
-
 -- ---- the walk over the lists
 
 -- the lists before what is left are appended
@@ -68,9 +58,6 @@ pub record AreAppended (before : List ℕ) (all rest : List (Gram × GramList)) 
   pub done : List (Gram × GramList)
   pub parts : all ≡ done ++ rest
   pub grown : now ≡ before ++ all_listed_bytes done
-
-pub appended-none : (before : List ℕ) (all rest : List (Gram × GramList)) → rest ≡ all → AreAppended before all rest before
-appended-none before all rest same = record { done = []; parts = sym same; grown = sym (append-nil before) }
 
 pub appended-more : (before : List ℕ) (all rest next : List (Gram × GramList)) (now new : List ℕ) (gram : Gram) (list : GramList) → AreAppended before all rest now → rest ≡ (gram, list) ∷ next → new ≡ now ++ listed_bytes gram list
     → AreAppended before all next new
@@ -82,10 +69,6 @@ appended-more before all rest next now new gram list so_far is appended = record
       ∙ ap (λ (xs : List ℕ). before ++ xs)
       (ap (λ (xs : List ℕ). all_listed_bytes so_far.done ++ xs) (sym (append-nil (listed_bytes gram list))) ∙ sym (flat_map-append (λ (l : Gram × GramList). listed_bytes l.0 l.1) so_far.done ((gram, list) ∷ [])));
 }
-
-pub appended-all : (before : List ℕ) (all rest : List (Gram × GramList)) (now : List ℕ) → AreAppended before all rest now → rest ≡ [] → now ≡ before ++ all_listed_bytes all
-appended-all before all rest now so_far none =
-    so_far.grown ∙ ap (λ (ls : List (Gram × GramList)). before ++ all_listed_bytes ls) (sym (so_far.parts ∙ ap (λ (ls : List (Gram × GramList)). so_far.done ++ ls) none ∙ append-nil so_far.done))
 
 -- what stood before still stands at the front
 pub appended-begun : (before : List ℕ) (all rest : List (Gram × GramList)) (now new : List ℕ) → AreAppended before all rest now → take (length now) new ≡ now → take (length before) new ≡ before

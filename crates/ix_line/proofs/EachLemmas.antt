@@ -63,7 +63,3 @@ finds_itself {X} like (x ∷ xs) e =
     go : (y : X) (b : Bool) → not b ≡ true → find (λ z. like z y) xs ≡ Some y → cond b (Some x) (find (λ z. like z y) xs) ≡ Some y
     go y true bad is = absurd (true≢false (sym bad))
     go y false ok is = is
-
-pub some_as : {X : Type 0} (P Q : X → Type 0) (o : Option X) → ((x : X) → P x → Q x) → IsSomeAnd o P → IsSomeAnd o Q
-some_as P Q None f h = h
-some_as P Q (Some x) f h = f x h

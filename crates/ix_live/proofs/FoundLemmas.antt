@@ -125,13 +125,6 @@ part_last stop (one ∷ segments) segment (documents ∷ lists) h =
       all = ap (λ (l : List Document). documents ++ l) r.all ∙ sym (append_assoc documents (joined r.first) r.last);
     }
 
-pub found_none : (removed : List ℕ) (query : Tree) → AreFound [] removed query []
-found_none removed query stop [] h = record {
-  ascending = λ k below. absurd (omega arith);
-  exact = λ n. ((λ in_nil. absurd (none_in_nil n in_nil)), (λ there. absurd (let within = slice_get_within [] n there.0.document there.0.numbered in omega arith)));
-}
-found_none removed query stop (documents ∷ lists) h = absurd h
-
 pub found_more : (segments : List (Option Segment)) (segment : Option Segment) (first : ℕ) (removed : List ℕ) (query : Tree) (before after : List ℕ) → first ≡ length (rows_in segments)
     → AreFound segments removed query before → FindsIn segment first removed query before after → AreFound (segments ++ segment ∷ []) removed query after
 found_more segments segment first removed query before after from found finds stop lists are =

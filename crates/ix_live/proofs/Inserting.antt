@@ -71,7 +71,3 @@ module _ (xs : List ℕ) (i y : ℕ) (within : i ≤ length xs) where
 pub searched_apart : (xs : List ℕ) (x i : ℕ) → IsBinarySearchResult (λ y. nat_cmp y x) xs (Err i) → IsStrictlyIncreasing xs
     → (i ≤ length xs) × ((k : ℕ) → k < i → get_or xs k 0 < x) × ((k : ℕ) → i ≤ k → k < length xs → x < get_or xs k 0)
 searched_apart xs x i told up = searched xs x (Err i) told (not_falling xs up)
-
--- where the search found it, nothing is to be done
-pub there_already : (xs : List ℕ) (x : ℕ) → Contains xs x → (m : ℕ) → Contains xs m ↔ (Contains xs m ⊎ (x ≡ m))
-there_already xs x h m = ((λ was. inl was), (λ either. elim either [ inl was ↦ was | inr same ↦ subst (λ (n : ℕ). Contains xs n) same h ]))

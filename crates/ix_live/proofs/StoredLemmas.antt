@@ -154,9 +154,6 @@ module _ (stop : List (List ℕ)) (segments : List (Option Segment)) (entries : 
   pub too_many : (documents : List Document) (size : ℕ) → size ≡ length documents → 2 ^ 28 < count + size → 2 ^ 28 < length (documents_added operations) + length documents
   too_many documents size is h = omega (arith, is, h, count_stored)
 
-  pub entries_counted : length operations ≡ length entries
-  entries_counted = sym (length-map operations entry_of) ∙ ap length stored.cut
-
 -- the first errors are those of each addition
 pub refused_by_building : (workers count tokens : ℕ) (documents : List Document) (error : LiveError) → IsOfBuilding workers error → RefusesDocuments workers count tokens documents error
 refused_by_building workers count tokens documents (Build error) h = h

@@ -21,16 +21,6 @@ pub record BitsAdded (old new : List ℕ) (word rest start : ℕ) : Type 0 where
   pub exact : (n : ℕ) → Contains new n ↔ (Contains old n ⊎ ((n < start + low) × IsBitFrom word start n))
   pub left : (i : ℕ) → (bit_at rest i ≡ 1) ↔ ((bit_at word i ≡ 1) × (low ≤ i))
 
-pub bits_none : (old : List ℕ) (word start : ℕ) → CanAddBits old word start → BitsAdded old old word word start
-bits_none old word start can = record {
-  low = 0;
-  few = omega arith;
-  ascending = can.ascending;
-  behind = let b = can.behind in omega arith;
-  exact = λ n. (λ has. inl has, λ h. elim h [ inl has ↦ has | inr (below, (above, bit)) ↦ absurd (omega arith) ]);
-  left = λ i. (λ is. (is, omega arith), λ h. h.0);
-}
-
 -- a number without the bit at a place
 abbrev pub without_bit : ℕ → ℕ → ℕ
 without_bit rest place = bit_and rest (bit_not w64 (1 * 2 ^ place % 2 ^ 64))
@@ -182,24 +172,7 @@ words_can words found i word count fits is small within before = record {
   ];
 }
 
-pub words_all : (words found : List ℕ) (i count : ℕ) → count ≤ i * 64 → ((n : ℕ) → mark_of words n ≡ 1 → n < count) → WordsRead words found i → AreAll (λ n. mark_of words n ≡ 1) found
-words_all words found i count all within before = record {
-  ascending = before.ascending;
-  exact = λ n. (λ has. ((before.exact n).0 has).1, λ marked. (before.exact n).1 (let less = within n marked in omega arith, marked));
-}
-
 -- ---- one more mark
-
-pub no_mark : (count n : ℕ) → ¬ (mark_of (replicate count 0) n ≡ 1)
-no_mark count n marked = elim (cases_lt (n / 64) count) [
-  | inl within ↦ let none : mark_of (replicate count 0) n ≡ 0 = ap (λ word. bit_at word (n % 64)) (get_or-replicate count (n / 64) 0 0 within) ∙ bit_at-zero (n % 64) in absurd (omega arith)
-  | inr past ↦ let none : mark_of (replicate count 0) n ≡ 0 = ap (λ word. bit_at word (n % 64)) (past_zero count (n / 64) past) ∙ bit_at-zero (n % 64) in absurd (omega arith)
-]
-  where
-    past_zero : (count i : ℕ) → count ≤ i → ◌≡◌ {A = ℕ} (get_or (replicate count 0) i 0) 0
-    past_zero zero i past = refl
-    past_zero (suc c) zero past = absurd (omega arith)
-    past_zero (suc c) (suc i) past = past_zero c i (omega arith)
 
 pub mark_more : (words : List ℕ) (number word n : ℕ) → number / 64 < length words → word ≡ get_or words (number / 64) 0 → (mark_of (set words (number / 64) (bit_or word (1 * 2 ^ (number % 64) % 2 ^ 64))) n ≡ 1) ↔ ((mark_of words n ≡ 1) ⊎ (n ≡ number))
 mark_more words number word n within is = elim (cases_eq n number) [

@@ -222,18 +222,6 @@ phrase_found parts entries first place others places long placed collection of n
 
 -- ---- the terms of a phrase, placed one after another
 
-pub placed_none : (parts : Parts) (entries : List (Option (List ℕ))) → ArePlaced parts entries 0 [] []
-placed_none parts entries = record { sound = λ k list place at. absurd (cc); complete = λ place term below. absurd (omega arith) }
-
-pub placed_hole : (parts : Parts) (entries : List (Option (List ℕ))) (i : ℕ) (lists : List (List Posting)) (places : List ℕ) → slice_get entries i ≡ Some None → ArePlaced parts entries i lists places → ArePlaced parts entries (i + 1) lists places
-placed_hole parts entries i lists places hole before = record {
-  sound = before.sound;
-  complete = λ place term below at. elim (cases_lt place i) [
-    | inl less ↦ before.complete place term less at
-    | inr more ↦ let same : place ≡ i = omega arith in let e = ap (slice_get entries) same in absurd (cc)
-  ];
-}
-
 pub placed_term : (parts : Parts) (entries : List (Option (List ℕ))) (i : ℕ) (lists : List (List Posting)) (places : List ℕ) (term : List ℕ) (list : List Posting) → length places ≡ length lists → slice_get entries i ≡ Some (Some term) → AreOfTerm parts term list → ArePlaced parts entries i lists places
     → ArePlaced parts entries (i + 1) (lists ++ list ∷ []) (places ++ i ∷ [])
 placed_term parts entries i lists places term list long here is before = record {
@@ -299,8 +287,3 @@ placed_holes parts entries lists (p ∷ places) there none long every placed = a
 pub nil_of_length : {X : Type 0} (xs : List X) → length xs ≡ 0 → xs ≡ []
 nil_of_length [] e = refl
 nil_of_length (x ∷ xs) e = absurd (omega arith)
-
-pub one_only : {X : Type 0} (xs : List X) (x : X) → 1 ≤ length xs → length xs < 2 → x ≡ get_or xs 0 x → xs ≡ x ∷ []
-one_only [] x some few is = absurd (omega arith)
-one_only (y ∷ []) x some few is = ap (λ z. z ∷ []) (sym is)
-one_only (y ∷ z ∷ xs) x some few is = absurd (omega arith)

@@ -68,12 +68,6 @@ pub record Gathered (parts : Parts) (trees : List Tree) (i : ℕ) (present absen
       → (HaveAll HasNumber present n × ¬ (HasOne HasNumber absent n)) ↔ EachBefore (Satisfies document.tokens) trees i
   pub bounded : (collection : Collection) → ArePartsOf collection parts → (k : ℕ) (leaf : Leaf) → slice_get present k ≡ Some leaf → (n : ℕ) → Have (HasNumber leaf) n → HasDocument collection n
 
-pub gathered_none : (parts : Parts) (trees : List Tree) → Gathered parts trees 0 [] []
-gathered_none parts trees = record {
-  same = λ collection of n document at. (λ _ k d below. absurd (omega arith), λ _. (λ k leaf none. absurd (cc), λ (k, leaf, none, has). absurd (cc)));
-  bounded = λ collection of k leaf none. absurd (cc);
-}
-
 pub gathered_present : (parts : Parts) (trees : List Tree) (i : ℕ) (present absent : List Leaf) (tree : Tree) (leaf : Leaf) → i < length trees → tree ≡ get_or trees i tree → AreFound parts tree (Have (HasNumber leaf)) → Gathered parts trees i present absent → Gathered parts trees (i + 1) (present ++ leaf ∷ []) absent
 gathered_present parts trees i present absent tree leaf within is found before = record {
   same = λ collection of n document at.
@@ -182,9 +176,6 @@ others_found parts tree leaf there found meet collection of n = (
 -- what holds of the numbers that one of the parts before a place finds
 abbrev pub OneBefore : Parts → List Tree → ℕ → (ℕ → Type 0) → Type 0
 OneBefore parts trees i holds = (collection : Collection) → ArePartsOf collection parts → (n : ℕ) → holds n ↔ ((k : ℕ) × (tree : Tree) × (k < i) × (slice_get trees k ≡ Some tree) × SatisfiesAt collection tree n)
-
-pub one_none : (parts : Parts) (trees : List Tree) (holds : ℕ → Type 0) → ((n : ℕ) → ¬ (holds n)) → OneBefore parts trees 0 holds
-one_none parts trees holds none collection of n = (λ has. absurd (none n has), λ (k, tree, below, at, is). absurd (omega arith))
 
 pub one_marked_more : (parts : Parts) (trees : List Tree) (i count : ℕ) (holds more : ℕ → Type 0) (tree : Tree) (leaf : Leaf) → i < length trees → tree ≡ get_or trees i tree → count ≡ length parts.rows → AreFound parts tree (Have (HasNumber leaf)) → ((n : ℕ) → more n ↔ (holds n ⊎ (Have (HasNumber leaf) n × (n < count)))) → OneBefore parts trees i holds → OneBefore parts trees (i + 1) more
 one_marked_more parts trees i count holds more tree leaf within is long found told before collection of n = (

@@ -117,23 +117,6 @@ module _ {N : Type 0} (has : N → Pairs) where
     pub kept : (k : ℕ) (old new : N) → k < i → slice_get olds k ≡ Some old → slice_get news k ≡ Some new → IsSameFrom (has old) (has new) number
     pub left : (k : ℕ) → i ≤ k → slice_get news k ≡ slice_get olds k
 
-  pub lacked_none : (olds : List N) (number : ℕ) → LackedBefore olds olds number 0
-  lacked_none olds number = record { lacked = λ k old below. absurd (omega arith); kept = λ k old new below. absurd (omega arith); left = λ k above. refl }
-
-  -- what the one at the place answers tells whether it has the number
-  pub reached_has : (old new : Pairs) (number found : ℕ) → Reaches old new number (Some found) → (found ≡ number) ↔ Have old number
-  reached_has old new number found reached = (
-    λ same. let (place, now) = reached.found.holds in (place, let P : ℕ → Type 0 = λ n. old n place in subst P same ((reached.kept found place).0 now).0),
-    λ has. let (place, was) = has in
-        let now = (reached.kept number place).1 (was, omega arith) in
-        let low = reached.found.first number place now in
-        let (there, is) = reached.found.holds in
-        let high = ((reached.kept found there).0 is).1 in omega arith,
-  )
-
-  pub reached_lacks : (old new : Pairs) (number : ℕ) → Reaches old new number None → ¬ (Have old number)
-  reached_lacks old new number reached (place, was) = reached.found number place ((reached.kept number place).1 (was, omega arith))
-
   -- the streams as they are when one more was asked
   pub same_more : (olds news : List N) (number i : ℕ) (list new : N) (answer : Option ℕ) → LackedBefore olds news number i → i < length news → slice_get news i ≡ Some list → Reaches (has list) (has new) number answer
       → (k : ℕ) (old other : N) → k < i + 1 → slice_get olds k ≡ Some old → slice_get (set news i new) k ≡ Some other → IsSameFrom (has old) (has other) number
@@ -147,33 +130,6 @@ module _ {N : Type 0} (has : N → Pairs) where
         (subst (λ (o : N). IsSameFrom (has o) (has new) number) (sym old_is) (same_above (has list) (has new) number number reached.kept (omega arith)))
   ]
 
-  pub lacked_more : (olds news : List N) (number i : ℕ) (list new : N) (answer : Option ℕ) → LackedBefore olds news number i → i < length news → slice_get news i ≡ Some list → Reaches (has list) (has new) number answer → ¬ (Have (has list) number) → LackedBefore olds (set news i new) number (i + 1)
-  lacked_more olds news number i list new answer before within at reached lacks = record {
-    lacked = λ k old below was. elim (cases_lt k i) [
-      | inl less ↦ before.lacked k old less was
-      | inr more ↦
-          let here : k ≡ i = omega arith in
-          let old_is : old ≡ list = some_same (sym was ∙ ap (slice_get olds) here ∙ sym (before.left i (omega arith)) ∙ at) in
-          subst (λ (o : N). ¬ (Have (has o) number)) (sym old_is) lacks
-    ];
-    kept = same_more olds news number i list new answer before within at reached;
-    left = λ k above. get_set_other news i k new (omega arith) ∙ before.left k (omega arith);
-  }
-
-  pub same_all : (olds news : List N) (number i : ℕ) (list new : N) (answer : Option ℕ) → LackedBefore olds news number i → i < length news → slice_get news i ≡ Some list → Reaches (has list) (has new) number answer → AreSameFrom has olds (set news i new) number
-  same_all olds news number i list new answer before within at reached k old other was now = elim (cases_lt k (i + 1)) [
-    | inl less ↦ same_more olds news number i list new answer before within at reached k old other less was now
-    | inr more ↦
-        let same : old ≡ other = some_same (sym was ∙ sym (before.left k (omega arith)) ∙ sym (get_set_other news i k new (omega arith)) ∙ now) in
-        subst (λ (o : N). IsSameFrom (has old) (has o) number) same (λ n place. (λ now. now, λ was far. was))
-  ]
-
-  pub same_at_end : (olds news : List N) (number i : ℕ) → length olds ≤ i → LackedBefore olds news number i → AreSameFrom has olds news number
-  same_at_end olds news number i all before k old new was now = before.kept k old new (let within = slice_get_within olds k old was in omega arith) was now
-
-  pub has_none : (olds news : List N) (number i : ℕ) → length olds ≤ i → LackedBefore olds news number i → ¬ (HasOne has olds number)
-  has_none olds news number i all before (k, list, was, has) = before.lacked k list (let within = slice_get_within olds k list was in omega arith) was has
-
   -- ---- numbers in common
 
   -- the streams were narrowed down: from `least` on they are as they were, and no number that they have in common is lower
@@ -183,15 +139,6 @@ module _ {N : Type 0} (has : N → Pairs) where
     pub others_same : AreSameFrom has olds lists least
     pub next : (n : ℕ) → HaveBoth has first_old olds n → low ≤ n → least ≤ n
     pub long : length lists ≡ length olds
-
-  pub narrowed_not : (first : N) (lists : List N) (low : ℕ) → Narrowed first first lists lists low low
-  narrowed_not first lists low = record {
-    above = omega arith;
-    first_same = λ n place. (λ now. now, λ was far. was);
-    others_same = λ k old new was now. subst (λ (o : N). IsSameFrom (has old) (has o) low) (some_same (sym was ∙ now)) (λ n place. (λ now. now, λ was far. was));
-    next = λ n has above. above;
-    long = refl;
-  }
 
   -- what the whole had, the narrowed streams have
   still : (first_old first : N) (olds lists : List N) (low least n : ℕ) → Narrowed first_old first olds lists low least → HaveBoth has first_old olds n → least ≤ n → HaveBoth has first lists n

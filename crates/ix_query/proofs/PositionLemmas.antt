@@ -54,26 +54,6 @@ no_phrase f xs parts last all none (start, h) =
 abbrev pub BeginsBefore : List Entry → List (Option (List ℕ)) → ℕ → Type 0
 BeginsBefore tokens parts place = (i : ℕ) (term : List ℕ) → i < place → slice_get parts i ≡ Some (Some term) → StandsAt tokens i term
 
-pub begins_more : (tokens : List Entry) (parts : List (Option (List ℕ))) (place : ℕ) (part : Option (List ℕ)) → slice_get parts place ≡ Some part → ((term : List ℕ) → part ≡ Some term → StandsAt tokens place term) → BeginsBefore tokens parts place → BeginsBefore tokens parts (place + 1)
-begins_more tokens parts place part is here before i term below at = elim (cases_lt i place) [
-  | inl less ↦ before i term less at
-  | inr more ↦
-      let same : i ≡ place = omega arith in
-      let e : part ≡ Some term = let f : slice_get parts place ≡ Some (Some term) = ap (slice_get parts) (sym same) ∙ at in cc in
-      let P : ℕ → Type 0 = λ j. StandsAt tokens j term in subst P (sym same) (here term e)
-]
-
-pub begins_all : (tokens : List Entry) (parts : List (Option (List ℕ))) (place : ℕ) → length parts ≤ place → BeginsBefore tokens parts place → HasPhraseAt tokens 0 parts
-begins_all tokens parts place all before i term at =
-    let within : i < length parts = slice_get_within parts i (Some term) at in
-    let e : i ≡ 0 + i = omega arith in
-    let P : ℕ → Type 0 = λ j. StandsAt tokens j term in subst P e (before i term (omega arith) at)
-
-pub begins_not : (tokens : List Entry) (parts : List (Option (List ℕ))) (place : ℕ) (term : List ℕ) → slice_get parts place ≡ Some (Some term) → ¬ (StandsAt tokens place term) → HasPhraseAt tokens 0 parts → ⊥
-begins_not tokens parts place term is lacks h =
-    let e : 0 + place ≡ place = omega arith in
-    let P : ℕ → Type 0 = λ j. StandsAt tokens j term in lacks (subst P e (h place term is))
-
 -- ---- terms that are near
 
 -- the last position before i at which the term stands

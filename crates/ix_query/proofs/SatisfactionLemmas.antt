@@ -60,12 +60,3 @@ satisfies-Not tokens part = along _ _ (ap (Satisfies tokens) (sym (rolls-Not par
 pub negated : (answer : Bool) {P : Type 0} → (answer ≡ true) ↔ P → (not answer ≡ true) ↔ ¬ P
 negated true told = (λ wrong. absurd (cc), λ lacks. absurd (lacks (told.0 refl)))
 negated false told = (λ _ p. let wrong = told.1 p in absurd (cc), λ _. refl)
-
-pub one_found : {X : Type 0} (P : X → Type 0) (xs : List X) (i : ℕ) (x : X) → i < length xs → x ≡ get_or xs i x → P x → Any P xs
-one_found P xs i x within is here = (i, x, within, sym is, here)
-
-pub each_but : {X : Type 0} (P : X → Type 0) (xs : List X) (i : ℕ) (x : X) → i < length xs → x ≡ get_or xs i x → ¬ (P x) → All P xs → ⊥
-each_but P xs i x within is lacks all = lacks (subst P (sym is) (all i x within))
-
-pub none_of : {X : Type 0} (P : X → Type 0) (xs : List X) (i : ℕ) → length xs ≤ i → EachBefore (λ x. ¬ (P x)) xs i → Any P xs → ⊥
-none_of P xs i past none (k, x, within, is, p) = none k x (omega arith) within (subst P (sym is) p)

@@ -70,14 +70,6 @@ pub record IsScanBefore (collection : Collection) (query : Tree) (i : ℕ) (numb
   pub sound : (number : ℕ) → Contains numbers number → SatisfiesAt collection query number
   pub complete : (number : ℕ) → number < i → SatisfiesAt collection query number → Contains numbers number
 
-pub scan_begins : (collection : Collection) (query : Tree) → IsScanBefore collection query 0 []
-scan_begins collection query = record {
-  ascending = λ k below. absurd (omega arith);
-  low = λ n h. absurd (none_in_nil n h);
-  sound = λ n h. absurd (none_in_nil n h);
-  complete = λ n below h. absurd (omega arith);
-}
-
 increasing_push : (xs : List ℕ) (y : ℕ) → IsStrictlyIncreasing xs → ((n : ℕ) → Contains xs n → n < y) → IsStrictlyIncreasing (xs ++ y ∷ [])
 increasing_push xs y up low k below =
     let size : length (xs ++ y ∷ []) ≡ length xs + 1 = length-append xs (y ∷ []) in

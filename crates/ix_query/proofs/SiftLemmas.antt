@@ -9,9 +9,6 @@ pub record Sifted (old now : Pairs) (low least : ℕ) : Type 0 where
   pub same : IsSameFrom old now least
   pub next : (n place : ℕ) → old n place → low ≤ n → least ≤ n
 
-pub sifted_not : (old : Pairs) (low : ℕ) → Sifted old old low low
-sifted_not old low = record { above = omega arith; same = λ n place. (λ now. now, λ was far. was); next = λ n place was above. above }
-
 -- what a candidate is: what is left begins there, and nothing was lost before it
 pub record IsCandidate (now new : Pairs) (least number : ℕ) : Type 0 where
   pub above : least ≤ number

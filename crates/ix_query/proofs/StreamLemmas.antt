@@ -70,9 +70,6 @@ reaches_number bottom low old new answer up passed is = record {
 pub at_hand : (low n : ℕ) (ns : List ℕ) → low ≤ n → n ∷ ns ≡ from_number low (n ∷ ns)
 at_hand low n ns h = sym (from_here low n ns h)
 
-pub passed_hand : (low n : ℕ) (ns : List ℕ) → n < low → from_number low ns ≡ from_number low (n ∷ ns)
-passed_hand low n ns h = sym (from_below low n ns h)
-
 -- ---- postings from a document on
 
 from_below_document : (low : ℕ) (posting : Posting) (postings : List Posting) → posting.0 < low → from_document low (posting ∷ postings) ≡ from_document low postings
@@ -219,16 +216,6 @@ pub record IsCollected (old now : Pairs) (found : List ℕ) (low : ℕ) : Type 0
   pub same : IsSameFrom old now low
   pub small : low < 2 ^ 32
 
-pub collected_none : (old : Pairs) → IsCollected old old [] 0
-collected_none old = record {
-  ascending = tt;
-  next = omega arith;
-  sound = λ n has. absurd (contains_none n has);
-  complete = λ n has below. absurd (omega arith);
-  same = λ n place. (λ now. now, λ was far. was);
-  small = omega arith;
-}
-
 pub collected_more : (old now new : Pairs) (found : List ℕ) (low number : ℕ) → IsCollected old now found low → Reaches now new low (Some number) → IsCollected old new (found ++ number ∷ []) (number + 1)
 collected_more old now new found low number before reached =
     let first = reached.found in
@@ -257,24 +244,6 @@ collected_more old now new found low number before reached =
       );
       small = omega arith;
     }
-
-pub collected_all : (old now new : Pairs) (found : List ℕ) (low : ℕ) → IsCollected old now found low → Reaches now new low None → AreAll (Have old) found
-collected_all old now new found low before reached = record {
-  ascending = before.ascending;
-  exact = λ n. (
-    before.sound n,
-    λ (p, was). elim (cases_lt n low) [
-      | inl less ↦ before.complete n (p, was) less
-      | inr more ↦ absurd (reached.found n p ((reached.kept n p).1 ((before.same n p).1 was more, more)))
-    ],
-  );
-}
-
--- a stream that has nothing answers nothing
-pub nothing_reached : (old now new : Pairs) (found : List ℕ) (low number : ℕ) → ((n place : ℕ) → ¬ (old n place)) → IsCollected old now found low → ¬ (Reaches now new low (Some number))
-nothing_reached old now new found low number none before reached =
-    let (place, has) = reached.found.holds in
-    none number place ((before.same number place).0 ((reached.kept number place).0 has).0)
 
 -- the document that is first in a list of postings is that of its first posting, and has the positions of that
 pub first_posting_is : (document n : ℕ) (positions : List ℕ) (rest : List Posting) → ArePostings 0 (2 ^ 32 - 1) ((document, positions) ∷ rest) → IsFirst (HasPosition ((document, positions) ∷ rest)) n
@@ -316,15 +285,6 @@ pub record IsMarkedUp (old now : Pairs) (before holds : ℕ → Type 0) (count l
   pub same : IsSameFrom old now low
   pub small : low < 2 ^ 32
 
-pub marked_not : (old : Pairs) (before : ℕ → Type 0) (count : ℕ) → IsMarkedUp old old before before count 0
-marked_not old before count = record {
-  sound = λ n has. inl has;
-  kept = λ n has. has;
-  complete = λ n has below low. absurd (omega arith);
-  same = λ n place. (λ now. now, λ was far. was);
-  small = omega arith;
-}
-
 pub marked_up : (old now new : Pairs) (before holds more : ℕ → Type 0) (count low number : ℕ) → IsMarkedUp old now before holds count low → Reaches now new low (Some number) → ((n : ℕ) → more n ↔ (holds n ⊎ ((n ≡ number) × (number < count)))) → IsMarkedUp old new before more count (number + 1)
 marked_up old now new before holds more count low number up reached one =
     let first = reached.found in
@@ -350,15 +310,3 @@ marked_up old now new before holds more count low number up reached one =
       );
       small = omega arith;
     }
-
-pub marked_all : (old now new : Pairs) (before holds : ℕ → Type 0) (count low : ℕ) → IsMarkedUp old now before holds count low → Reaches now new low None → (n : ℕ) → holds n ↔ (before n ⊎ (Have old n × (n < count)))
-marked_all old now new before holds count low up reached n = (
-  up.sound n,
-  λ h. elim h [
-    | inl was ↦ up.kept n was
-    | inr ((p, was), below) ↦ elim (cases_lt n low) [
-      | inl lower ↦ up.complete n (p, was) below lower
-      | inr higher ↦ absurd (reached.found n p ((reached.kept n p).1 ((up.same n p).1 was higher, higher)))
-    ]
-  ],
-)

@@ -23,10 +23,5 @@ module _ (stop : List (List ℕ)) (text : List ℕ) where
   pub unique : (one other : Tree) → Reads stop text one → Reads stop text other → one ≡ other
   unique one other r s = let p = only one r in let q = only other s in cc
 
-  -- what follows for a call that gives the text's query or its first fault
-  pub found_by : (result : Result Tree QueryError) → Gives (λ q. q) result (query_of stop text) → IfOk result (Reads stop text)
-  found_by (Ok query) e = found query e
-  found_by (Err e) h = tt
-
   pub only_by : (result : Result Tree QueryError) → Gives (λ q. q) result (query_of stop text) → (query : Tree) → Reads stop text query → Gives (λ q. q) result (Ok query)
   only_by result h query r = subst (λ x. Gives (λ q. q) result x) (only query r) h

@@ -11,7 +11,3 @@ fails_bind e r f h = ap (λ x. x >>= f) h
 
 pub fails_at : {A : Type 0} (e : QueryError) (r s : Result A QueryError) → r ≡ s → Fails e r → Fails e s
 fails_at e r s same h = rw (← same) h
-
--- memory may run out at any place
-pub memory_fails : {A : Type 0} (e : QueryError) (r : Result A QueryError) → e ≡ Memory → Fails e r
-memory_fails e r is = rw is tt

@@ -19,22 +19,6 @@ line_filled (Remove number) = refl
 pub some_byte : (line : Text) → 0 < length line → line ≢ []
 some_byte line some empty = let none = ap length empty in absurd (omega arith)
 
--- a parser's error but want of memory is the error of the text
-pub is_fault : (error : QueryError) (reading : Result Tree QueryError) → error ≢ query_error.Memory → Fails error reading → reading ≡ Err error
-is_fault query_error.Empty reading other fails = fails
-is_fault (query_error.Unexpected offset) reading other fails = fails
-is_fault query_error.End reading other fails = fails
-is_fault query_error.OpenQuote reading other fails = fails
-is_fault query_error.BadNear reading other fails = fails
-is_fault query_error.NoWord reading other fails = fails
-is_fault query_error.OnlyStopWords reading other fails = fails
-is_fault query_error.BareStar reading other fails = fails
-is_fault query_error.StarInPhrase reading other fails = fails
-is_fault query_error.NearWord reading other fails = fails
-is_fault query_error.LongTerm reading other fails = fails
-is_fault query_error.Deep reading other fails = fails
-is_fault query_error.Memory reading other fails = absurd (other refl)
-
 -- ---- numbers of documents
 
 -- what is read of the digits of a number is that number

@@ -126,10 +126,6 @@ module _ (holds : Text → Text → Type 0) (stop : List Text) where
   publish_runs : (before after : Progress) → after ≡ published before → Runs holds stop (Publish ∷ []) before after []
   publish_runs before after is = (after, [], [], (is, refl), (refl, refl), refl)
 
-  -- no steps are carried out
-  pub carries_nothing : (before : Progress) (known : Option Text) → CarriesOut holds stop [] before before known known false
-  carries_nothing before known = record { answers = []; ran = (refl, refl); printed = appends_nothing known; found_is = refl }
-
   -- a stretch, and then another
   pub carries_then : (steps more : List Step) (before between after : Progress) (old middle new : Option Text) (found other : Bool)
       → CarriesOut holds stop steps before between old middle found → CarriesOut holds stop more between after middle new other
@@ -220,10 +216,6 @@ module _ (holds : Text → Text → Type 0) (stop : List Text) where
       printed = printed_nothing known error;
       reason = why;
     }
-
-    -- memory was refused before anything was done
-    pub lacking_at_once : (steps : List Step) (before : Progress) (known : Option Text) → Stops holds workers stop steps before known known Memory
-    lacking_at_once steps before known = stops_at_once steps before known Memory (lacking refl (inl refl))
 
     -- a group was refused
     pub group_refused : (steps : List Step) (before : Progress) (known : Option Text) (error : RunError) → RefusesGroup holds workers stop steps before error → Stops holds workers stop steps before known known error

@@ -34,10 +34,6 @@ pub IsFirstLine-from_cut : (text line : List ℕ) (next : Option (Bor (List ℕ)
 IsFirstLine-from_cut text line None h = inr h
 IsFirstLine-from_cut text line (Some n) h = inl (n.now, h)
 
--- the byte itself and all that follows it are of the text
-Contains-head : (x : ℕ) (xs : List ℕ) → Contains (x ∷ xs) x
-Contains-head x xs = (0, omega arith, refl)
-
 Contains-tail : (x : ℕ) (xs : List ℕ) (y : ℕ) → Contains xs y → Contains (x ∷ xs) y
 Contains-tail x xs y (k, within, is) = (suc k, omega arith, is)
 

@@ -24,12 +24,6 @@ appends_keeps (Some old) None new first a b = absurd a
 appends_keeps (Some old) (Some middle) None first a b = absurd b
 appends_keeps (Some old) (Some middle) (Some new) first a b = b ∙ a
 
--- a gain of no bytes keeps what is known
-pub keeps_from_nothing : (old new : Option (List ℕ)) → Appends old new [] → Keeps old new
-keeps_from_nothing None new a = tt
-keeps_from_nothing (Some old) None a = absurd a
-keeps_from_nothing (Some old) (Some new) a = a ∙ append-nil old
-
 -- a call that keeps what is known gains nothing
 pub nothing_from_keeps : (old new : Option (List ℕ)) → Keeps old new → Appends old new []
 nothing_from_keeps None new a = tt

@@ -45,9 +45,6 @@ slot_from text a b c d p q r s = rw (p, q, r, s) refl
 abbrev pub AreSlotsBefore : List Slot → List (List ℕ) → ℕ → Type 0
 AreSlotsBefore slots terms end = (place : ℕ) (term : List ℕ) → place < end → slice_get terms place ≡ Some term → admits (slice_index_or slots (slot_number term) Empty) place ≡ true
 
-pub slots_before-none : (slots : List Slot) (terms : List (List ℕ)) → AreSlotsBefore slots terms 0
-slots_before-none slots terms place term below at = absurd (omega arith)
-
 -- the next term joins its slot, which goes on to admit what it did
 pub slots_before-more : (slots : List Slot) (terms : List (List ℕ)) (end : ℕ) (term : List ℕ) (new : Slot) → slice_get terms end ≡ Some term → slot_number term < length slots → admits new end ≡ true → ((other : ℕ) → admits (slice_index_or slots (slot_number term) Empty) other ≡ true → admits new other ≡ true)
     → AreSlotsBefore slots terms end → AreSlotsBefore (set slots (slot_number term) new) terms (end + 1)

@@ -74,10 +74,3 @@ entry_of_term-kept_or_dropped stop term shown kept same tested =
 -- one more place is done
 pub taken_more : {A : Type 0} (shown : A → Entry) (old more : List A) (place : ℕ) (entry : Entry) (left : List Entry) (all : List Entry) → map shown (take (place + 1) more) ≡ map shown (take place old) ++ entry ∷ [] → map shown (take place old) ++ entry ∷ left ≡ all → map shown (take (place + 1) more) ++ left ≡ all
 taken_more shown old more place entry left all here so_far = ap (λ l. l ++ left) here ∙ append_assoc (map shown (take place old)) (entry ∷ []) left ∙ so_far
-
--- one more entry is done, and one word fewer is left
-pub entries-push : {A : Type 0} (shown : A → Entry) (entry : List ℕ → Entry) (done : List A) (x : A) (word : List ℕ) (left : List (List ℕ)) → shown x ≡ entry word → map shown (done ++ x ∷ []) ++ map entry left ≡ map shown done ++ map entry (word ∷ left)
-entries-push shown entry done x word left same =
-    ap (λ l. l ++ map entry left) (map-append shown done (x ∷ []))
-    ∙ append_assoc (map shown done) (shown x ∷ []) (map entry left)
-    ∙ ap (λ y. map shown done ++ y ∷ map entry left) same

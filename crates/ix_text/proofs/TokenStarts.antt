@@ -80,7 +80,3 @@ pub span_from_in_range : (rows : List DocumentRow) (document position : ℕ) (sp
 span_from_in_range rows document position span is range =
     let same : is.row ≡ range.row = cc (is.numbered, range.numbered) in
     omega (arith, is.count, ap count_of same, range.below)
-
--- the first token and the position make the number
-pub number_from_span : (rows : List DocumentRow) (document position : ℕ) (span : ℕ × ℕ) → IsSpan rows document span → span.0 + position ≡ token_number rows document position
-number_from_span rows document position span is = ap (λ n. n + position) is.first

@@ -108,18 +108,6 @@ numbers_of_entries-push rows entries entry =
 abbrev pub numbers_told : List DocumentRow → List DictionaryEntry → List Posting → ℕ → List ℕ → List ℕ
 numbers_told rows entries postings document positions = numbers_of_entries rows entries ++ (numbers_of_postings rows postings ++ numbers_of_posting rows (document, positions))
 
-pub numbers_told-position : (rows : List DocumentRow) (entries : List DictionaryEntry) (postings : List Posting) (document : ℕ) (positions : List ℕ) (position : ℕ)
-    → numbers_told rows entries postings document (positions ++ position ∷ []) ≡ numbers_told rows entries postings document positions ++ token_number rows document position ∷ []
-numbers_told-position rows entries postings document positions position = simp (numbers_of_posting-push rows document positions position, append_assoc)
-
-pub numbers_told-posting : (rows : List DocumentRow) (entries : List DictionaryEntry) (postings : List Posting) (document : ℕ) (positions : List ℕ) (next : ℕ)
-    → numbers_told rows entries (postings ++ (document, positions) ∷ []) next [] ≡ numbers_told rows entries postings document positions
-numbers_told-posting rows entries postings document positions next = simp (numbers_of_postings-push rows postings (document, positions), append-nil)
-
-pub numbers_told-entry : (rows : List DocumentRow) (entries : List DictionaryEntry) (entry : DictionaryEntry) (document next : ℕ)
-    → numbers_told rows (entries ++ entry ∷ []) [] next [] ≡ numbers_told rows entries entry.postings document []
-numbers_told-entry rows entries entry document next = simp (numbers_of_entries-push rows entries entry, append-nil)
-
 -- the entry at hand, with what comes behind the position at hand
 abbrev pub entry_at : List ℕ → List Posting → ℕ → List ℕ → ℕ → List ℕ → List Posting → DictionaryEntry
 entry_at term postings document positions position more later = record { term = term; postings = postings ++ (document, positions ++ position ∷ more) ∷ later }
@@ -135,14 +123,6 @@ numbers_at_hand rows entries term postings document positions position more late
       map-append,
       append_assoc,
     )
-
--- where no token is told twice, it is not among those told
-pub next_number_is_new : (rows : List DocumentRow) (entries : List DictionaryEntry) (term : List ℕ) (postings : List Posting) (document : ℕ) (positions : List ℕ) (position : ℕ) (more : List ℕ) (later : List Posting) (rest : List DictionaryEntry)
-    → AreDistinct (numbers_of_entries rows (entries ++ entry_at term postings document positions position more later ∷ rest))
-    → ¬ (Contains (numbers_told rows entries postings document positions) (token_number rows document position))
-next_number_is_new rows entries term postings document positions position more later rest distinct =
-    distinct_next (numbers_told rows entries postings document positions) (token_number rows document position) (map (token_number rows document) more ++ (numbers_of_postings rows later ++ numbers_of_entries rows rest))
-    (subst AreDistinct (numbers_at_hand rows entries term postings document positions position more later rest) distinct)
 
 -- ---- distinct numbers
 
