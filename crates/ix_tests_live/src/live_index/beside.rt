@@ -1,5 +1,5 @@
 //! Searchers in threads of their own, beside an indexer that publishes.
-use super::searching::{FOX, RED, add};
+use super::{FOX, RED, add};
 use ix_live::{Indexer, NameError, Searcher, live};
 use ix_query::Query;
 use ix_text::StopList;

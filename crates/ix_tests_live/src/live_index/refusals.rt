@@ -1,7 +1,6 @@
 //! Calls that are refused, and the same calls afterwards. Where something is refused to one of them from outside, the
 //! test makes the call again, and comes to the same end.
-use super::searching::{Act, FOX, RED, lines_of};
-use Act::{Add, Ask, Publish, Refuse, Remove};
+use super::{FOX, RED};
 use ix_build::{Cut, Plan, Runs};
 use ix_live::{Indexer, Searcher, live};
 use ix_query::Query;
@@ -17,30 +16,6 @@ const TIMES: u32 = 3;
 
 /// What a test says where a call is refused each time.
 const EACH_TIME: &str = "refused each time";
-
-#[test]
-fn numbers_that_are_not_there(rt: HostRuntime) -> Result<(), Fail> {
-    let acts = [
-        Refuse(0),
-        Publish,
-        Add(RED),
-        Refuse(1),
-        Add(FOX),
-        Refuse(2),
-        Publish,
-        Refuse(u32::MAX),
-        Ask("fox"),
-        Remove(0),
-        Refuse(2),
-        Publish,
-        Ask("NOT red"),
-    ];
-    assert_eq!(rt;
-        lines_of(&rt, rt.alloc(), &acts)?.as_str(),
-        "2\tfox\n1\n2\n1\tNOT red\n2\n"
-    );
-    Ok(())
-}
 
 /// A live index and its searcher, asked for again after each refusal.
 fn live_again<R: Wait>(rt: &R, alloc: Global) -> Result<(Indexer, Vec<Searcher>), Fail> {
