@@ -1,12 +1,9 @@
 -- An error with which a source answers is one with which it might have answered before anything was asked.
-use Rattle.std.proofs.Common.{◌≡◌, ℕ, ◌<◌, List, length, get_or, set, inl, inr, refl, Result, Ok, Err, IfErr, MatchResult, IsErrAnd, sym, subst, ◌∙◌, arith, length-set}
+use Rattle.std.proofs.Common.{◌≡◌, ℕ, ◌<◌, List, length, get_or, set, inl, inr, sym, subst, ◌∙◌, arith, length-set}
 use Rattle.std.proofs.lemmas.Bool.{cases_eq}
 use Rattle.std.proofs.lemmas.List.{get_or_default, get_or-set_same, get_or-set_other}
 use Rattle.std.proofs.lemmas.Option.{slice_get-get_or}
-use Rattle.ix_run.specs.Faults.{IsListFault}
 use Rattle.ix_run.specs.Sources.{Faulting, KeepsFaults}
-use Rattle.ix_run.specs.ListError.{ListError}
-use Rattle.ix_run.specs.ListError.TheVariants as list
 use Rattle.ix_run.specs.Heads.{Heading}
 use Rattle.ix_merge.specs.Headings.{IsCoverFault, IsOfHeadings}
 use Rattle.ix_merge.specs.Merging.{IsOfWriter, IsRefusalAt, IsRefusalOf, KeepFaults}

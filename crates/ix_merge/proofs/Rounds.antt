@@ -1,5 +1,5 @@
 -- What the tree of winners and the order of the sources keep from turn to turn.
-use Rattle.std.proofs.Common.{◌≡◌, ℕ, ◌+◌, ◌*◌, ◌<◌, List, [], ◌∷◌, length, map, get_or, set, All, Bool, Option, Some, None, IsSome, is_some, inl, inr, refl, sym, ap, subst, ◌∙◌, option_map, arith, length-set}
+use Rattle.std.proofs.Common.{◌≡◌, ℕ, ◌*◌, ◌<◌, List, [], ◌∷◌, length, get_or, set, All, Bool, Option, Some, None, IsSome, is_some, inl, inr, refl, sym, ap, subst, ◌∙◌, option_map, arith, length-set}
 use Rattle.std.proofs.lemmas.Bool.{cases_lt}
 use Rattle.std.proofs.lemmas.List.{get_or-map, get_or-set_same, get_or_past, length-map, map-set, set-get_or, set-set}
 use Rattle.ix_text.specs.Parts.{DictionaryEntry}

@@ -1,5 +1,5 @@
 -- Sources with one stop set, or with two.
-use Rattle.std.proofs.Common.{◌≡◌, List, [], ◌∷◌, true, false, map, All, Contains, refl, sym, ap, ◌∙◌, ◌&&◌, arith, Global, String, string_bytes}
+use Rattle.std.proofs.Common.{◌≡◌, List, [], ◌∷◌, true, false, map, All, Contains, refl, sym, ap, ◌∙◌, ◌&&◌, Global, String, string_bytes}
 use Rattle.std.proofs.lemmas.List.Elements.{All-contains, All-cons}
 use Rattle.std.proofs.lemmas.Slice.Eq.{slice_eq-Decides, bytes_eq-Decides}
 use Rattle.std.specs.String.{string_eq}

@@ -1,5 +1,5 @@
 -- A tree of winners: each node holds the place of the least key below it, so that the root holds the least of all.
-use Rattle.std.specs.Prelude.{◌≡◌, ℕ, zero, suc, ◌+◌, ◌*◌, ◌-◌, ◌/◌, ◌<◌, ◌≤◌, ◌⊎◌, Bool, List, length, Option, None, IsSome, MatchOption, ⊤, slice_index_or, slice_set, is_some}
+use Rattle.std.specs.Prelude.{◌≡◌, ℕ, zero, suc, ◌+◌, ◌*◌, ◌/◌, ◌<◌, ◌≤◌, ◌⊎◌, Bool, List, length, Option, None, IsSome, MatchOption, ⊤, slice_index_or, slice_set, is_some}
 use Rattle.std.specs.Bool.{then_some}
 use Rattle.std.specs.Option.{option_and_then}
 use Rattle.ix_merge.specs.Keys.{Key, ComesFirst, key_at}

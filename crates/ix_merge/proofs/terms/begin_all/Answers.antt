@@ -1,4 +1,4 @@
-use Rattle.std.proofs.Common.{◌+◌, get_or, refl, arith}
+use Rattle.std.proofs.Common.{get_or, arith}
 use Rattle.std.proofs.lemmas.List.{get_or_default}
 use Rattle.std.proofs.lemmas.Result.{err_from_is_err_and}
 use Rattle.ix_merge.proofs.Faulting.{keep_more, refusal_at}

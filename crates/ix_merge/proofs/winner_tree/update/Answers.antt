@@ -17,7 +17,7 @@ loop-node-init g c =
       omega arith,
       omega (arith, length-set c.args.tree.now (length c.args.sources.now + place) c.then_some.result, length-set keys place c.requires.before),
       subst (λ (leaf : Option ℕ). IsSettledBut keys (set c.args.tree.now (length c.args.sources.now + place) leaf) (length c.args.sources.now + place)) (sym c.then_some.ensures)
-      (subst (λ n. IsSettledBut keys (set c.args.tree.now (n + place) (then_some c.args.more place)) (n + place)) many others),
+          (subst (λ n. IsSettledBut keys (set c.args.tree.now (n + place) (then_some c.args.more place)) (n + place)) many others),
     )
 
 pub winner-requires-clause-left : goal.winner-requires-clause-left
