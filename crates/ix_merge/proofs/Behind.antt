@@ -17,7 +17,7 @@ use Rattle.ix_merge.specs.Keys.{IsUpTo, end_of, key_of}
 use Rattle.ix_merge.specs.Merged.{Share}
 use Rattle.ix_merge.specs.Merging.{AreApart}
 use Rattle.ix_merge.specs.Rows.{tokens_under}
-use Rattle.ix_merge.specs.Tournaments.{HoldsFirst, key_at}
+use Rattle.ix_merge.specs.Keys.{HoldsFirst, key_at}
 use Rattle.ix_merge.specs.Turns.{MayTurn, bare_entry}
 use Rattle.ix_merge.proofs.Readings.{AreReading, Below, HasToldShares, are_shares, grown, headed_alike, last_pushed, not_below_itself, told_closable}
 use Rattle.ix_merge.proofs.Spans.{few_in_all, lies_before}

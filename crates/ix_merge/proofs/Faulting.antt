@@ -1,15 +1,12 @@
 -- An error with which a source answers is one with which it might have answered before anything was asked.
-use Rattle.std.proofs.Common.{◌≡◌, ℕ, ◌<◌, List, length, get_or, set, inl, inr, refl, Result, Ok, Err, IfErr, MatchResult, IsErrAnd, sym, subst, ◌∙◌, arith, length-set}
+use Rattle.std.proofs.Common.{◌≡◌, ℕ, ◌<◌, List, length, get_or, set, inl, inr, sym, subst, ◌∙◌, arith, length-set}
 use Rattle.std.proofs.lemmas.Bool.{cases_eq}
 use Rattle.std.proofs.lemmas.List.{get_or_default, get_or-set_same, get_or-set_other}
 use Rattle.std.proofs.lemmas.Option.{slice_get-get_or}
-use Rattle.ix_run.specs.Faults.{IsListFault}
 use Rattle.ix_run.specs.Sources.{Faulting, KeepsFaults}
-use Rattle.ix_run.specs.ListError.{ListError}
-use Rattle.ix_run.specs.ListError.TheVariants as list
 use Rattle.ix_run.specs.Heads.{Heading}
 use Rattle.ix_merge.specs.Headings.{IsCoverFault, IsOfHeadings}
-use Rattle.ix_merge.specs.Merging.{IsOfWriter, IsRefusalAt, IsRefusalOf, KeepFaults, told_of_list}
+use Rattle.ix_merge.specs.Merging.{IsOfWriter, IsRefusalAt, IsRefusalOf, KeepFaults}
 use Rattle.ix_merge.specs.Refusals.{MayFaultAt, TellsFault}
 use Rattle.ix_merge.specs.declared.merge_error.MergeError.{MergeError}
 use Rattle.ix_merge.specs.declared.merge_error.MergeError.TheVariants.{Gap, Overlap, StopDiffers, Source, TooLarge, Write, Memory}
@@ -23,21 +20,6 @@ cover_of_headings headings (Source told error) is = absurd is
 cover_of_headings headings TooLarge is = absurd is
 cover_of_headings headings Write is = absurd is
 cover_of_headings headings Memory is = absurd is
-
--- a list that is refused
-pub list_refusal : {E : Type 0} (place : ℕ) (may : E → Type 0) (error : ListError E) → IsListFault may error → IsRefusalAt place may (told_of_list place error)
-list_refusal place may list.Memory fault = tt
-list_refusal place may (list.Source error) fault = (refl, fault)
-
--- a refusal of the writer
-pub writer_refusal_at : {E : Type 0} (place : ℕ) (may : E → Type 0) (error : MergeError E) → IsOfWriter error → IsRefusalAt place may error
-writer_refusal_at place may (Gap n) is = absurd is
-writer_refusal_at place may (Overlap n) is = absurd is
-writer_refusal_at place may StopDiffers is = absurd is
-writer_refusal_at place may (Source told error) is = absurd is
-writer_refusal_at place may TooLarge is = absurd is
-writer_refusal_at place may Write is = tt
-writer_refusal_at place may Memory is = tt
 
 module _ {S E : Type 0} (faults : Faulting S E) where
   -- what a refusal tells of a source
@@ -97,10 +79,3 @@ module _ {S E : Type 0} (faults : Faulting S E) where
     refusal_at TooLarge is = absurd is
     refusal_at Write is = tt
     refusal_at Memory is = tt
-
--- what is told of a call that a source refused, by its place
-pub told_by_place : {T E : Type 0} (given : Result T E) (turned : Result T (MergeError E)) (place : ℕ) (may : E → Type 0) (Q : E → MergeError E → Type 0)
-    → ((e : E) (d : MergeError E) → Q e d → d ≡ Source place e) → IfErr given may → MatchResult given (λ x. turned ≡ Ok x) (λ e. IsErrAnd turned (Q e)) → IfErr turned (IsRefusalAt place may)
-told_by_place (Ok x) turned place may Q same fault is = rw is tt
-told_by_place (Err e) (Ok y) place may Q same fault is = tt
-told_by_place {E = E} (Err e) (Err d) place may Q same fault is = subst (λ (told : MergeError E). IsRefusalAt place may told) (sym (same e d is)) (refl, fault)

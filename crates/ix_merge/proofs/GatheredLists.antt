@@ -20,7 +20,7 @@ use Rattle.ix_file.specs.IndexWriter.{IndexWriter}
 use Rattle.ix_file.proofs.EndingLemmas.{front_of_spelled}
 use Rattle.ix_file.proofs.ListTold.{front_of_list, position_total-listed, settled_after}
 use Rattle.ix_merge.specs.Gathered.{HasGathered, HasNothing}
-use Rattle.ix_merge.specs.declared.entry.EntryAtHand.{EntryAtHand}
+use Rattle.ix_merge.specs.declared.pending_entry.PendingEntry.{PendingEntry}
 use Rattle.ix_merge.proofs.MergedMore.{postings_append}
 use Rattle.ix_merge.proofs.Readings.{list_bytes_from-append, next_after-append}
 
@@ -70,7 +70,7 @@ list_again base postings more documents next documents' next' bytes bytes' first
 
 -- ---- what was gathered of the entry at hand
 
-module _ {W : Type 0} (contents : W → Option (List ℕ)) (before : Option (List ℕ)) (writer : IndexWriter W WriterSections) (entry : EntryAtHand) (told : Told) where
+module _ {W : Type 0} (contents : W → Option (List ℕ)) (before : Option (List ℕ)) (writer : IndexWriter W WriterSections) (entry : PendingEntry) (told : Told) where
   -- where nothing was gathered, all was told
   pub gathered_none : HasNothing entry → WasTold contents before writer told → HasGathered contents before writer entry told
   gathered_none nothing was = record { base = told; was = was; none = λ n. (nothing.list, refl); some = λ s. let d = nothing.documents in absurd (omega arith) }
@@ -157,7 +157,7 @@ module _ {W : Type 0} (contents : W → Option (List ℕ)) (before : Option (Lis
           omega (arith, count, size, up)
 
       -- then it is gathered, too
-      pub gathered_more : (then : EntryAtHand) → 0 < documents → then.documents ≡ entry.documents + documents → then.next ≡ next → then.list.items ≡ entry.list.items ++ bytes
+      pub gathered_more : (then : PendingEntry) → 0 < documents → then.documents ≡ entry.documents + documents → then.next ≡ next → then.list.items ≡ entry.list.items ++ bytes
           → HasGathered contents before writer then (with_postings told more)
       gathered_more then positive count last coded = record {
         base = has.base;

@@ -101,9 +101,6 @@ pub record GoesOver (all left : List Posting) (last : ℕ) : Type 0 where
   pub ahead : 0 < length left → (0 < length all) × (next_after 0 (documents_of all) ≡ next_after 0 (documents_of left))
   pub over : length left ≡ 0 → EndsAt last all
 
-pub goes_first : (all : List Posting) (last : ℕ) → GoesOver all all last
-goes_first all last = record { ahead = λ some. (some, refl); over = λ none some. absurd (omega arith) }
-
 pub goes_over : (all left next : List Posting) (posting : Posting) (last : ℕ) → GoesOver all left last → left ≡ posting ∷ next → GoesOver all next posting.0
 goes_over all left next posting last goes is =
     let some : 0 < length left = let e = ap length is in omega (arith, e) in

@@ -56,9 +56,6 @@ module _ {S : Type 0} (heading : S → Heading) (current : S → Option (List �
       let R : Option (List ℕ) → Type 0 = λ o. P (option_map f (current one)) (option_map g o) in
       subst R (sym at') (subst Q (sym at) is)
 
-  pub first_if_below : slice_cmp nat_cmp term term' ≡ Less → ComesFirst key key'
-  first_if_below less = keyed ComesFirst (inl less)
-
   pub first_if_above : slice_cmp nat_cmp term term' ≡ Greater → ComesFirst key' key
   first_if_above more = keyed (λ x y. ComesFirst y x) (inl (below_turned term term' more))
 

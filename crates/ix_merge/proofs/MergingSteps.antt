@@ -30,11 +30,11 @@ use Rattle.ix_merge.specs.Rows.{tokens_under}
 use Rattle.ix_file.specs.Postings.{shifted}
 use Rattle.ix_merge.specs.Starting.{HasStarted, HaveStarted}
 use Rattle.ix_merge.specs.Turns.{GivesEntry, HasToldSome, HasTurned, MayTurn, told_then}
-use Rattle.ix_merge.specs.declared.entry.EntryAtHand.{EntryAtHand}
+use Rattle.ix_merge.specs.declared.pending_entry.PendingEntry.{PendingEntry}
 use Rattle.ix_merge.proofs.Behind.{AreBehind, behind_more, may_turn, next_above}
 use Rattle.ix_merge.proofs.GatheredLists.{gathered_bytes, gathered_none}
 use Rattle.ix_merge.proofs.MergedMore.{AreMerged}
-use Rattle.ix_merge.specs.Tournaments.{HoldsFirst}
+use Rattle.ix_merge.specs.Keys.{HoldsFirst}
 use Rattle.ix_merge.proofs.Readings.{AreReading, Below, HasToldShares, IsReading, are_shares, ends_low, grown, merged_all, no_share, reading_more, reading_set, told_closable, told_longer, told_merge, told_more}
 use Rattle.ix_merge.proofs.ShiftedLists.{IsListUnder, list_under}
 
@@ -88,7 +88,7 @@ told_no_shares headings told last next none empty = record {
 -- Since nothing was asked of the sources, and the writer was told no term, they gave shares and it was told these, but
 -- for what was gathered.
 pub record IsMerging {S W : Type 0} (heading : S → Heading) (current : S → Option (List ℕ)) (yields : Yielding S) (gives : Giving S) (contents : W → Option (List ℕ))
-    (begun now : List S) (before : Option (List ℕ)) (told_first : Told) (writer : IndexWriter W WriterSections) (hand : EntryAtHand) : Type 0 where
+    (begun now : List S) (before : Option (List ℕ)) (told_first : Told) (writer : IndexWriter W WriterSections) (hand : PendingEntry) : Type 0 where
   pub shares : List Share
   pub reading : AreReading heading current yields gives begun now shares
   pub told : Told
@@ -99,7 +99,7 @@ pub record IsMerging {S W : Type 0} (heading : S → Heading) (current : S → O
 
 module _ {S W : Type 0} (heading : S → Heading) (current : S → Option (List ℕ)) (yields : Yielding S) (gives : Giving S) (contents : W → Option (List ℕ))
     (lawfully : (source : S) (finished : List DictionaryEntry) (at_hand : Option DictionaryEntry) → gives source finished at_hand → IsLawfulFront (heading source) finished at_hand) where
-  abbrev Merging : List S → List S → Option (List ℕ) → Told → IndexWriter W WriterSections → EntryAtHand → Type 0
+  abbrev Merging : List S → List S → Option (List ℕ) → Told → IndexWriter W WriterSections → PendingEntry → Type 0
   Merging begun now before told_first writer hand = IsMerging heading current yields gives contents begun now before told_first writer hand
 
   -- a refusal before the first term
@@ -124,7 +124,7 @@ module _ {S W : Type 0} (heading : S → Heading) (current : S → Option (List 
 
   -- ---- between two turns
 
-  pub merging_first : (begun now : List S) (before : Option (List ℕ)) (told : Told) (writer : IndexWriter W WriterSections) (hand : EntryAtHand) → HaveStarted heading current yields gives begun now
+  pub merging_first : (begun now : List S) (before : Option (List ℕ)) (told : Told) (writer : IndexWriter W WriterSections) (hand : PendingEntry) → HaveStarted heading current yields gives begun now
       → WasTold contents before writer told → entries_of told ≡ [] → IsNewEntry hand → Merging begun now before told writer hand
   merging_first begun now before told writer hand started was none new = record {
     shares = map bare_share (map heading begun);
@@ -146,7 +146,7 @@ module _ {S W : Type 0} (heading : S → Heading) (current : S → Option (List 
   }
 
   -- a refusal between two turns, or of the next
-  pub merged_some : (begun now : List S) (before : Option (List ℕ)) (told_first : Told) (writer : IndexWriter W WriterSections) (hand : EntryAtHand) (after : Option (List ℕ))
+  pub merged_some : (begun now : List S) (before : Option (List ℕ)) (told_first : Told) (writer : IndexWriter W WriterSections) (hand : PendingEntry) (after : Option (List ℕ))
       → (merging : Merging begun now before told_first writer hand) → AppendsFront before after (settled_front merging.told) → HasMergedSome (map heading begun) before after
   merged_some begun now before told_first writer hand after merging front = record {
     shares = merging.shares;
@@ -158,7 +158,7 @@ module _ {S W : Type 0} (heading : S → Heading) (current : S → Option (List 
 
   -- ---- a turn
 
-  module _ (begun now : List S) (before : Option (List ℕ)) (told_first : Told) (writer : IndexWriter W WriterSections) (hand : EntryAtHand) (merging : Merging begun now before told_first writer hand)
+  module _ (begun now : List S) (before : Option (List ℕ)) (told_first : Told) (writer : IndexWriter W WriterSections) (hand : PendingEntry) (merging : Merging begun now before told_first writer hand)
       (behind : AreBehind heading current (string_bytes hand.term) hand.next now) (few : tokens_under (map heading begun) ≤ 2 ^ 28) (place : ℕ) (source : S) (within : place < length now) (here : get_or now place source ≡ source) where
     abbrev last : List ℕ
     last = string_bytes hand.term
@@ -226,7 +226,7 @@ module _ {S W : Type 0} (heading : S → Heading) (current : S → Option (List 
     merged_some_then after (inr some) = merged_some_more some.0 (contents (sink after)) some.1
 
     -- the turn is done
-    module _ (new : S) (after : IndexWriter W WriterSections) (then : EntryAtHand) (same : heading new ≡ heading source)
+    module _ (new : S) (after : IndexWriter W WriterSections) (then : PendingEntry) (same : heading new ≡ heading source)
         (turned : HasTurned heading current yields gives contents before source new share_here.entries merging.told last next after then) where
       pub merging_more : Merging begun (set now place new) before told_first after then
       merging_more = record {
@@ -287,7 +287,7 @@ module _ {S W : Type 0} (heading : S → Heading) (current : S → Option (List 
 
   -- ---- the end
 
-  pub tells_all : (begun now : List S) (before : Option (List ℕ)) (told_first : Told) (writer : IndexWriter W WriterSections) (hand : EntryAtHand) (merging : Merging begun now before told_first writer hand)
+  pub tells_all : (begun now : List S) (before : Option (List ℕ)) (told_first : Told) (writer : IndexWriter W WriterSections) (hand : PendingEntry) (merging : Merging begun now before told_first writer hand)
       → ((place : ℕ) (source : S) → place < length now → current (get_or now place source) ≡ None) → (after : IndexWriter W WriterSections) → WasTold contents before after merging.told → TellsAll yields heading contents begun before told_first after
   tells_all begun now before told_first writer hand merging ended after was = record {
     now = merging.told;

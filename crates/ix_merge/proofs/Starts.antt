@@ -1,11 +1,10 @@
 -- The first terms of sources are read, one after the other.
-use Rattle.std.proofs.Common.{◌≡◌, inl, inr, ℕ, ◌+◌, ◌^◌, ◌<◌, ◌≤◌, List, [], ◌∷◌, length, map, get_or, set, Option, Some, None, MatchOption, refl, sym, ap, subst, ◌∙◌, option_map, arith, length-set}
+use Rattle.std.proofs.Common.{◌≡◌, inl, inr, ℕ, ◌+◌, ◌<◌, ◌≤◌, List, [], ◌∷◌, length, map, get_or, set, Option, Some, None, MatchOption, refl, sym, ap, subst, ◌∙◌, option_map, arith, length-set}
 use Rattle.std.proofs.lemmas.Bool.{cases_eq}
 use Rattle.std.proofs.lemmas.List.{get_or-map, get_or-set_same, get_or-set_other, get_or_default, length-map, same_lists}
 use Rattle.ix_text.specs.Parts.{DictionaryEntry, Posting}
 use Rattle.ix_run.specs.Heads.{Heading}
-use Rattle.ix_run.specs.Sources.{BeginsTerm, EndsTerms, Giving, IsLawfulFront, Yielding, IsUnread, entry_with}
-use Rattle.ix_merge.specs.Keys.{end_of}
+use Rattle.ix_run.specs.Sources.{BeginsTerm, EndsTerms, Giving, Yielding, IsUnread, entry_with}
 use Rattle.ix_merge.specs.Starting.{HasStarted, HaveStarted}
 use Rattle.ix_merge.specs.Turns.{bare_entry}
 
@@ -86,8 +85,3 @@ module _ {S : Type 0} (heading : S → Heading) (current : S → Option (List �
 
   pub begun_all : (old now : List S) (count : ℕ) → length old ≤ count → HaveBegun old now count → HaveStarted heading current yields gives old now
   begun_all old now count all begun = record { as_many = begun.as_many; each = λ place source within. begun.started place source (omega arith) within }
-
-  -- where one has started its numbers end low
-  pub ends_low : (lawfully : (source : S) (finished : List DictionaryEntry) (at_hand : Option DictionaryEntry) → gives source finished at_hand → IsLawfulFront (heading source) finished at_hand)
-      (old new : S) → HasStarted heading current yields gives old new → end_of (heading new) < 2 ^ 32
-  ends_low lawfully old new started = let within = (lawfully new [] (bare_entry (current new)) started.gives_none).whole.within in omega arith

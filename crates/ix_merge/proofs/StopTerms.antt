@@ -1,5 +1,5 @@
 -- Sources with one stop set, or with two.
-use Rattle.std.proofs.Common.{◌≡◌, List, [], ◌∷◌, true, false, map, All, Contains, refl, sym, ap, ◌∙◌, ◌&&◌, arith, Global, String, string_bytes}
+use Rattle.std.proofs.Common.{◌≡◌, List, [], ◌∷◌, true, false, map, All, Contains, refl, sym, ap, ◌∙◌, ◌&&◌, Global, String, string_bytes}
 use Rattle.std.proofs.lemmas.List.Elements.{All-contains, All-cons}
 use Rattle.std.proofs.lemmas.Slice.Eq.{slice_eq-Decides, bytes_eq-Decides}
 use Rattle.std.specs.String.{string_eq}
@@ -21,9 +21,6 @@ same_terms xs ys same = (slice_eq-Decides bytes_eq-Decides (map string_bytes xs)
 
 pub other_terms : (xs ys : List (String Global)) → pointwise string_eq xs ys ≡ false → map string_bytes xs ≡ map string_bytes ys → ⊥
 other_terms xs ys other same = cc ((slice_eq-Decides bytes_eq-Decides (map string_bytes xs) (map string_bytes ys) (pointwise string_eq xs ys) (same_bytes xs ys)).1 same, other)
-
-pub no_stop_differs : HaveOneStop []
-no_stop_differs one other (k, within, is) among = absurd (omega (arith, within))
 
 -- all have the stop terms of the first
 pub one_stop : (h : Heading) (hs : List Heading) → All (λ g. g.stop ≡ h.stop) hs → HaveOneStop (h ∷ hs)

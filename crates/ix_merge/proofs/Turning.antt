@@ -17,7 +17,7 @@ use Rattle.ix_run.specs.Sources.{GivesList}
 use Rattle.ix_file.specs.Postings.{shifted}
 use Rattle.ix_merge.specs.Gathered.{HasGathered}
 use Rattle.ix_merge.specs.Turns.{Begins, BeginsEntry, GivesEntry, GoesOn, IsAtHand, MayTurn, bare_entry, told_then}
-use Rattle.ix_merge.specs.declared.entry.EntryAtHand.{EntryAtHand}
+use Rattle.ix_merge.specs.declared.pending_entry.PendingEntry.{PendingEntry}
 use Rattle.ix_merge.proofs.GatheredLists.{documents_fit, gathered_more}
 use Rattle.ix_merge.proofs.ShiftedLists.{IsListUnder, length-shifted, list_under, position_count-shifted, raised_list}
 
@@ -137,7 +137,7 @@ module _ {S : Type 0} (heading : S → Heading) (current : S → Option (List �
             }
 
   -- The list of a source was taken, behind what was told and gathered of its term, and is gathered now.
-  pub record HasTaken {W : Type 0} (contents : W → Option (List ℕ)) (before : Option (List ℕ)) (writer : IndexWriter W WriterSections) (mid : S) (then : EntryAtHand) : Type 0 where
+  pub record HasTaken {W : Type 0} (contents : W → Option (List ℕ)) (before : Option (List ℕ)) (writer : IndexWriter W WriterSections) (mid : S) (then : PendingEntry) : Type 0 where
     pub gave : GivesEntry heading current old given told last next
     pub of_term : gave.term ≡ term
     pub was : HasGathered contents before writer then (told_then gave.begun (heading old).first gave.postings)
@@ -146,7 +146,7 @@ module _ {S : Type 0} (heading : S → Heading) (current : S → Option (List �
         → GoesOn current yields gives old new given (entry_with gave.term gave.postings)
     pub on_end : (new : S) → is_drained mid → current new ≡ None → EndsTerms yields gives is_drained mid new → GoesOn current yields gives old new given (entry_with gave.term gave.postings)
 
-  module _ {W : Type 0} (contents : W → Option (List ℕ)) (before : Option (List ℕ)) (writer : IndexWriter W WriterSections) (hand : EntryAtHand) (begins : BeginsEntry contents before writer told last next term hand)
+  module _ {W : Type 0} (contents : W → Option (List ℕ)) (before : Option (List ℕ)) (writer : IndexWriter W WriterSections) (hand : PendingEntry) (begins : BeginsEntry contents before writer told last next term hand)
       (mid : S) (headed : heading mid ≡ heading old) (documents to : ℕ) (taken : List ℕ) (list : GivesList yields gives old mid (heading old).first hand.next documents to hand.list.items taken) where
     abbrev raised_postings : List Posting
     raised_postings = shifted (heading old).first list.postings
@@ -162,7 +162,7 @@ module _ {S : Type 0} (heading : S → Heading) (current : S → Option (List �
     pub taken_fits : hand.documents + documents < 2 ^ 32
     taken_fits = documents_fit contents before writer hand begins.begun begins.was raised_postings documents to (list_bytes_from hand.next raised_postings) may_be_told
 
-    pub has_taken : (then : EntryAtHand) → then.documents ≡ hand.documents + documents → then.next ≡ to → then.list.items ≡ taken → HasTaken contents before writer mid then
+    pub has_taken : (then : PendingEntry) → then.documents ≡ hand.documents + documents → then.next ≡ to → then.list.items ≡ taken → HasTaken contents before writer mid then
     has_taken then count last coded =
         let bytes : List ℕ = list_bytes_from hand.next raised_postings in
         let is = under begins.begun hand.next begins.begins mid headed documents to bytes list_alone in

@@ -6,27 +6,27 @@ use Rattle.ix_file.specs.Told.{Told, with_postings}
 use Rattle.ix_file.specs.Writers.{WasTold}
 use Rattle.ix_file.specs.WriterSections.{WriterSections}
 use Rattle.ix_file.specs.IndexWriter.{IndexWriter}
-use Rattle.ix_merge.specs.declared.entry.EntryAtHand.{EntryAtHand}
+use Rattle.ix_merge.specs.declared.pending_entry.PendingEntry.{PendingEntry}
 
 -- Nothing was gathered.
-pub record HasNothing (entry : EntryAtHand) : Type 0 where
+pub record HasNothing (entry : PendingEntry) : Type 0 where
   pub documents : entry.documents ≡ 0
   pub list : entry.list.items ≡ []
 
 -- There is no entry at hand yet.
-pub record IsNewEntry (entry : EntryAtHand) : Type 0 where
+pub record IsNewEntry (entry : PendingEntry) : Type 0 where
   pub term : string_bytes entry.term ≡ []
   pub nothing : HasNothing entry
 
 -- What was gathered is a list that may be told behind the base, which makes this of it.
-pub record GathersList (base : Told) (entry : EntryAtHand) (told : Told) : Type 0 where
+pub record GathersList (base : Told) (entry : PendingEntry) (told : Told) : Type 0 where
   pub postings : List Posting
   pub may : MayList base postings entry.documents entry.next entry.list.items
   pub told_with : told ≡ with_postings base postings
 
 -- The writer was told this but for what was gathered: all of it where nothing was.
 pub record HasGathered {W : Type 0} (contents : W → Option (List ℕ)) (before : Option (List ℕ))
-    (writer : IndexWriter W WriterSections) (entry : EntryAtHand) (told : Told) : Type 0 where
+    (writer : IndexWriter W WriterSections) (entry : PendingEntry) (told : Told) : Type 0 where
   pub base : Told
   pub was : WasTold contents before writer base
   pub none : entry.documents ≡ 0 → (entry.list.items ≡ []) × (told ≡ base)
@@ -34,14 +34,14 @@ pub record HasGathered {W : Type 0} (contents : W → Option (List ℕ)) (before
 
 -- so for some that the writer was told
 pub record HasGatheredSome {W : Type 0} (contents : W → Option (List ℕ)) (writer : IndexWriter W WriterSections)
-    (entry : EntryAtHand) : Type 0 where
+    (entry : PendingEntry) : Type 0 where
   pub before : Option (List ℕ)
   pub told : Told
   pub has : HasGathered contents before writer entry told
 
 -- and the last entry, if there is one, has a posting
 pub record MayBegin {W : Type 0} (contents : W → Option (List ℕ)) (writer : IndexWriter W WriterSections)
-    (entry : EntryAtHand) : Type 0 where
+    (entry : PendingEntry) : Type 0 where
   pub before : Option (List ℕ)
   pub told : Told
   pub has : HasGathered contents before writer entry told

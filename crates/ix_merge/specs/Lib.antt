@@ -1,6 +1,5 @@
 pub mod AnySources
 pub mod Beginnings
-pub mod Brackets
 pub mod Covers
 pub mod Gathered
 pub mod Headings
@@ -9,12 +8,11 @@ pub mod MergeErrors
 pub mod Merged
 pub mod Merging
 pub mod Pieces
-pub mod Ranks
 pub mod Refusals
 pub mod Rows
 pub mod Starting
-pub mod Tournaments
 pub mod Turns
+pub mod WinnerTrees
 pub use Rattle.ix_file.specs.Endings
 pub use Rattle.ix_file.specs.IndexText
 pub use Rattle.ix_file.specs.Sections

@@ -14,7 +14,7 @@ use Rattle.ix_file.specs.IndexWriter.{IndexWriter}
 use Rattle.ix_run.specs.Heads.{Heading}
 use Rattle.ix_run.specs.Sources.{AreWhole, Giving, Yielding, entry_with}
 use Rattle.ix_merge.specs.Gathered.{HasGathered}
-use Rattle.ix_merge.specs.declared.entry.EntryAtHand.{EntryAtHand}
+use Rattle.ix_merge.specs.declared.pending_entry.PendingEntry.{PendingEntry}
 
 -- the entry of the term at hand, of which nothing was given yet
 abbrev pub bare_entry : Option (List ℕ) → Option DictionaryEntry
@@ -30,7 +30,7 @@ pub record Begins (told : Told) (last : List ℕ) (next : ℕ) (term : List ℕ)
 
 -- The writer was told that the entry of a term begins, where it was not at hand; lists of it may be gathered.
 pub record BeginsEntry {W : Type 0} (contents : W → Option (List ℕ)) (before : Option (List ℕ)) (writer : IndexWriter W WriterSections)
-    (told : Told) (last : List ℕ) (next : ℕ) (term : List ℕ) (entry : EntryAtHand) : Type 0 where
+    (told : Told) (last : List ℕ) (next : ℕ) (term : List ℕ) (entry : PendingEntry) : Type 0 where
   pub begun : Told
   pub begins : Begins told last next term begun entry.next
   pub was : HasGathered contents before writer entry begun
@@ -47,7 +47,7 @@ pub record MayTurn {S : Type 0} (heading : S → Heading) (current : S → Optio
 
 -- so for some that the source may have given and the writer was told, but for what was gathered
 pub record MayTurnSomehow {S W : Type 0} (heading : S → Heading) (current : S → Option (List ℕ)) (gives : Giving S)
-    (contents : W → Option (List ℕ)) (source : S) (entry : EntryAtHand) (writer : IndexWriter W WriterSections) : Type 0 where
+    (contents : W → Option (List ℕ)) (source : S) (entry : PendingEntry) (writer : IndexWriter W WriterSections) : Type 0 where
   pub before : Option (List ℕ)
   pub told : Told
   pub was : HasGathered contents before writer entry told
@@ -79,7 +79,7 @@ pub record GoesOn {S : Type 0} (current : S → Option (List ℕ)) (yields : Yie
 -- A source's term at hand was told or gathered with its documents, and it went on.
 pub record HasTurned {S W : Type 0} (heading : S → Heading) (current : S → Option (List ℕ)) (yields : Yielding S) (gives : Giving S)
     (contents : W → Option (List ℕ)) (before : Option (List ℕ)) (old new : S) (given : List DictionaryEntry)
-    (told : Told) (last : List ℕ) (next : ℕ) (writer : IndexWriter W WriterSections) (entry : EntryAtHand) : Type 0 where
+    (told : Told) (last : List ℕ) (next : ℕ) (writer : IndexWriter W WriterSections) (entry : PendingEntry) : Type 0 where
   pub gave : GivesEntry heading current old given told last next
   pub goes : GoesOn current yields gives old new given (entry_with gave.term gave.postings)
   pub was : HasGathered contents before writer entry (told_then gave.begun (heading old).first gave.postings)

@@ -6,8 +6,8 @@ use std::io::Read;
 
 /// A run text as it is read, or an opened index.
 ///
-/// It does what its part does. An index is refused for `RunTextError::Memory` alone, which leaves it as it was, and its
-/// lists go on as they are coded.
+/// Each call does what that of the part does. The one error of an index is `RunTextError::Memory`, which leaves it
+/// unchanged.
 #[derive(Drop)]
 pub enum AnySource<'a, R> {
     /// A run text.
@@ -64,11 +64,11 @@ impl<'a, R: Read + Drop> Source for AnySource<'a, R> {
         ensures no_more_faults { OnOk result
             (KeepsFaults (SourceMayFault R.remaining) self.old self.new) }
 
-        // What a refusal leaves.
+        // What an error leaves.
         ensures refused { OnErr result (IsLeftRefused self.old self.new) }
         ensures failed { SourceHasFailed self.old → result ≡ Err Failed }
 
-        // An index is never refused.
+        // An index returns no error.
         ensures granted { OnErr result (IsOfRunText self.old) }
     {
         match self {
@@ -87,8 +87,8 @@ impl<'a, R: Read + Drop> Source for AnySource<'a, R> {
         }
     }
 
-    /// `RunTextError::Memory` only where the positions find no room: of an index those of its next posting, of a run text
-    /// those that were read.
+    /// `RunTextError::Memory` only if the positions find no room: of an index those of its next posting, of a run text those
+    /// that were read.
     fn next_posting(&mut self, positions: &mut Vec<u32>) -> Result<Option<u32>, RunTextError>
         requires { IsSome (term_of_source self.old) }
         ensures heading { heading_of_source self.new ≡ heading_of_source self.old }
@@ -103,11 +103,11 @@ impl<'a, R: Read + Drop> Source for AnySource<'a, R> {
         ensures no_more_faults { OnOk result
             (KeepsFaults (SourceMayFault R.remaining) self.old self.new) }
 
-        // What a refusal leaves.
+        // What an error leaves.
         ensures refused { OnErr result (IsLeftRefused self.old self.new) }
         ensures failed { SourceHasFailed self.old → result ≡ Err Failed }
 
-        // It is refused memory only where the positions find no room.
+        // It is out of memory only if the positions find no room.
         ensures full { IfErr result (λ error. error ≡ Memory
             → LacksRoom self.old (vec_capacity positions.old) (vec_len positions.new)) }
     {
@@ -120,8 +120,8 @@ impl<'a, R: Read + Drop> Source for AnySource<'a, R> {
         }
     }
 
-    /// `ListError::Memory` only where the list finds no room: of an index its bytes, of a run text those that are left of it
-    /// and four more.
+    /// `ListError::Memory` only if the list finds no room: of an index its bytes, of a run text those that are left of it and
+    /// four more.
     fn take_list(&mut self, next: u32, out: &mut Vec<u8>) -> Result<Listed, ListError<RunTextError>>
         requires at_hand { IsSome (term_of_source self.old) }
         requires begun { (finished : List DictionaryEntry)
@@ -138,11 +138,11 @@ impl<'a, R: Read + Drop> Source for AnySource<'a, R> {
         ensures no_more_faults { OnOk result
             (KeepsFaults (SourceMayFault R.remaining) self.old self.new) }
 
-        // What a refusal leaves.
+        // What an error leaves.
         ensures kept { IfErr result (IsLeftWithoutList self.old self.new) }
         ensures failed { SourceHasFailed self.old → result ≡ Err (ListError.Source Failed) }
 
-        // It is refused memory only where the list finds no room.
+        // It is out of memory only if the list finds no room.
         ensures full { IfErr result (λ error. error ≡ ListError.Memory
             → vec_capacity out.old < vec_len out.old + list_room self.old next) }
     {

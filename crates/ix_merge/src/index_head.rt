@@ -1,4 +1,4 @@
-//! What an opened index says before its terms, as a source says it.
+//! What an opened index holds before its terms, in the form of a source's head.
 ghost use Rattle.std.specs.Prelude.{◌≡◌, IfOk, map};
 ghost use Rattle.ix_text.specs.PartsLaws.{AreLawful};
 ghost use Rattle.ix_run.specs.Heads.{row_of_doc};
@@ -23,7 +23,7 @@ pub(crate) fn documents(alloc: Global, index: &Index<'_>) -> Result<Vec<RunDoc>,
     Ok(docs)
 }
 
-/// The document of the last posting, or 0 where there is none. Positions are passed over.
+/// The document of the last posting, or 0 if there is none. Skips positions.
 pub(crate) fn last_document(postings: Postings<'_>) -> u32
     ensures { EndsAt result postings.entry }
 {

@@ -7,19 +7,19 @@ use ix_text::Memory;
 use std::alloc::Global;
 use std::marker::Model;
 
-/// The terms and the postings of an opened index, in order; its lists stay where they are.
+/// The terms and the postings of an opened index, in order. Its lists are not copied until they are taken.
 ///
-/// Its one error is `Memory`, where positions find no room. The source then stands where it stood, and `positions`
-/// holds anything.
+/// Its one error is `Memory`: the positions of a posting, or a list, found no room. The source is then as it was before
+/// the call, and `positions` holds anything.
 #[derive(Drop)]
 pub struct IndexSource<'a> {
     index: &'a Index<'a>,
     head: RunHead,
     // the number of the term that comes next
     number: u32,
-    // the term at hand
+    // the current term
     term: Option<&'a str>,
-    // the postings of the term at hand that are left
+    // the postings of the current term that are left
     postings: Postings<'a>,
 }
 
@@ -57,10 +57,12 @@ impl<'a> IndexSource<'a> {
     ghost use Rattle.ix_run.specs.RunSources.{HasGiven, HasLeft, unread};
     ghost use Rattle.ix_run.specs.Sources.{IsUnread};
 
-    /// The source of an index, of which nothing was asked yet: that of a run of the same collection, whose documents
-    /// count from `first` on. That number with the number of the documents is at most 2^28.
+    /// The source of an index, from which nothing was read yet: that of a run of the same collection, whose documents
+    /// count from `first` on. The sum of `first` and the number of documents is at most 2^28.
     ///
-    /// `Memory` where the names and the stop terms find no room.
+    /// # Errors
+    ///
+    /// * `Memory`: out of memory for the names or the stop terms.
     pub fn new(alloc: Global, index: &'a Index<'a>, first: u32) -> Result<IndexSource<'a>, Memory>
         requires { first + length index.now.parts.rows ≤ 2 ^ 28 }
         ensures value { IfOk result (λ source. source ≡ unread (run_value first index.now.parts)) }
@@ -111,7 +113,8 @@ impl<'a> Source for IndexSource<'a> {
         &self.head
     }
 
-    /// Goes on to the next term. False: there is none, now and at each later call. Never refused, and takes no memory.
+    /// Advances to the next term, and returns whether there is one; if not, each later call returns `false` too. Returns no
+    /// error, and takes no memory.
     fn next_term(&mut self) -> Result<bool, Memory>
         ensures heading { self.new.heading ≡ self.old.heading }
         ensures begun { IfOk result (λ more. MatchBool more
@@ -123,7 +126,7 @@ impl<'a> Source for IndexSource<'a> {
         ensures fault { IfErr result (MayLackMemory self.old) }
         ensures no_more_faults { OnOk result (KeepsFaults MayLackMemory self.old self.new) }
 
-        // It is never refused.
+        // It returns no error.
         ensures granted { IsOk result }
     {
         if self.number >= self.index.term_count() {
@@ -141,9 +144,12 @@ impl<'a> Source for IndexSource<'a> {
         self.term.unwrap()
     }
 
-    /// The document of the next posting of the term at hand, whose positions are put into `positions` in place of what
-    /// it held. None: there is no further one, now and at each later call for this term. `Memory` where the positions
-    /// find no room, which leaves the source as it was.
+    /// The document of the next posting of the current term, whose positions replace what `positions` held. `None` if there
+    /// is no further one, now and at each later call for this term.
+    ///
+    /// # Errors
+    ///
+    /// * `Memory`: out of memory for the positions; the source is unchanged.
     fn next_posting(&mut self, positions: &mut Vec<u32>) -> Result<Option<u32>, Memory>
         requires { IsSome self.old.term }
         ensures heading { self.new.heading ≡ self.old.heading }
@@ -156,7 +162,7 @@ impl<'a> Source for IndexSource<'a> {
         ensures fault { IfErr result (MayLackMemory self.old) }
         ensures no_more_faults { OnOk result (KeepsFaults MayLackMemory self.old self.new) }
 
-        // It is refused only where the positions find no room, which leaves the source as it was.
+        // It fails only if the positions find no room, which leaves the source unchanged.
         ensures kept { OnErr result (self.new ≡ self.old) }
         ensures full { OnErr result
             (FirstExceeds (vec_capacity positions.old) self.old.postings) }
@@ -170,10 +176,13 @@ impl<'a> Source for IndexSource<'a> {
         Ok(Some(posting.document))
     }
 
-    /// Appends all postings of the term at hand that are left, coded as one list: their documents counted in the
-    /// whole collection, and the first gap taken from `next`, which is one above the document before them, or 0. Only
-    /// that gap is coded anew. `ListError::Memory` where the list finds no room, which leaves the source and `out` as
-    /// they were.
+    /// Appends all postings of the current term that are left, coded as one list: their documents counted in the whole
+    /// collection, and the first gap taken from `next`, which is one above the document before them, or 0. Only that gap
+    /// is coded anew.
+    ///
+    /// # Errors
+    ///
+    /// * `ListError::Memory`: out of memory for the list; the source and `out` are unchanged.
     fn take_list(&mut self, next: u32, out: &mut Vec<u8>) -> Result<Listed, ListError<Memory>>
         requires at_hand { IsSome self.old.term }
         requires low { next ≤ self.old.heading.first }
@@ -187,7 +196,7 @@ impl<'a> Source for IndexSource<'a> {
         ensures fault { IfErr result (IsListFault (MayLackMemory self.old)) }
         ensures no_more_faults { OnOk result (KeepsFaults MayLackMemory self.old self.new) }
 
-        // It is refused only where the list finds no room, which leaves the source as it was.
+        // It fails only if the list finds no room, which leaves the source unchanged.
         ensures kept { OnErr result (self.new ≡ self.old) }
         ensures error { IfErr result (λ error. error ≡ ListError.Memory) }
         ensures full { OnErr result (vec_capacity out.old < vec_len out.old

@@ -3,20 +3,17 @@
 #![tactic(auto)]
 
 mod any_source;
-mod bracket;
-mod concatenation;
-mod entry;
 mod index_head;
 mod index_source;
-mod leaf_order;
 mod merge_error;
+mod merge_sources;
 mod overview;
-mod rank;
+mod pending_entry;
 mod terms;
-mod tournament;
 mod turn;
+mod winner_tree;
 
 pub use any_source::AnySource;
-pub use concatenation::merge;
 pub use index_source::IndexSource;
 pub use merge_error::MergeError;
+pub use merge_sources::merge;

@@ -14,13 +14,13 @@ pub enum MergeError<E> {
     Overlap(u32),
     /// Two sources have different stop terms.
     StopDiffers,
-    /// The source at this place of the list, from 0, refused a call.
+    /// The source at this place of the list, from 0, returned this error.
     Source(usize, E),
     /// All sources together have more than 2^28 tokens.
     TooLarge,
-    /// A write or the flush was refused.
+    /// A write or the flush failed.
     Write,
-    /// Memory was refused.
+    /// Out of memory.
     Memory,
 }
 

@@ -1,5 +1,5 @@
-//! A source's turn in a merge: its term at hand is told or gathered, with its documents, and its next term is read.
-ghost use Rattle.std.specs.Prelude.{◌≡◌, ◌≢◌, ◌+◌, ℕ, List, Option, Some, IfOk, IfErr, OnOk, OnErr, IsSome, IsTrue, is_some, string_bytes};
+//! A source's turn in a merge: its current list goes to the pending entry, and its next term is read.
+ghost use Rattle.std.specs.Prelude.{◌≡◌, ◌≢◌, ◌+◌, ℕ, List, Option, IfOk, IfErr, OnOk, OnErr, IsSome, is_some, string_bytes};
 ghost use Rattle.ix_text.specs.Parts.{DictionaryEntry};
 ghost use Rattle.ix_file.specs.Told.{Told};
 ghost use Rattle.ix_file.specs.Writers.{sink_name};
@@ -9,27 +9,27 @@ ghost use Rattle.ix_merge.specs.Merging.{IsOfWriter, IsRefusalAt, told_of_list};
 ghost use Rattle.ix_merge.specs.Turns.{HasToldSome, HasTurned, MayTurn, MayTurnSomehow};
 
 use crate::MergeError;
-use crate::entry::EntryAtHand;
+use crate::pending_entry::PendingEntry;
 use ix_file::{IndexWriter, PutError};
 use ix_run::{ListError, Source};
 use std::io::Write;
 
-/// Gathers the term at hand of a source in the entry at hand, with the documents that it has of it, and goes on to the
-/// source's next term. False: there is none. The writer is told what was gathered before where the term is another one,
-/// and all of it where it has 64 KiB or more. `place` is where the source stands among those that are merged. `again`:
-/// the caller knows that the entry at hand is of the source's term.
+/// Appends the source's current list to the pending entry and advances the source; returns whether it has another term.
+/// Writes the pending entry first if its term is another one, and after it what has 64 KiB or more. `place` is the
+/// source's place among those that are merged.
 ///
-/// `Source(place, error)` where the source refuses a call, `Write` where a write is refused, and `Memory` where memory
-/// is.
+/// # Errors
+///
+/// * `Source(place, error)`: the source returned `error`.
+/// * `Write`: a write failed.
+/// * `Memory`: out of memory.
 pub(crate) fn take_turn<S: Source, W: Write>(
     place: usize,
-    again: bool,
     source: &mut S,
-    entry: &mut EntryAtHand,
+    entry: &mut PendingEntry,
     writer: &mut IndexWriter<'_, W>,
 ) -> Result<bool, MergeError<S::Error>>
     requires at_hand { IsSome (S.current source.old) }
-    requires again { IsTrue again → S.current source.old ≡ Some (string_bytes entry.old.term) }
     requires may { MayTurnSomehow S.heading S.current S.gives W.contents source.old
         entry.old writer.old }
     ensures same_writer { sink_name writer.new ≡ sink_name writer.old }
@@ -51,7 +51,7 @@ pub(crate) fn take_turn<S: Source, W: Write>(
     ensures no_more_faults { OnOk result (KeepsFaults S.faults source.old source.new) }
     ensures refused { IfErr result (IsRefusalAt place (S.faults source.old)) }
 {
-    if let Err(error) = entry.begin(again, source.term(), writer) {
+    if let Err(error) = entry.begin(source.term(), writer) {
         return Err(put_error(error));
     }
     let listed = match source.take_list(entry.next, &mut entry.list) {
@@ -68,7 +68,7 @@ pub(crate) fn take_turn<S: Source, W: Write>(
         .map_err(|error| MergeError::Source(place, error))
 }
 
-/// The refusal of a writer that had refused nothing.
+/// The error of a writer that had returned none before.
 pub(crate) fn put_error<E>(error: PutError) -> MergeError<E>
     requires { error ≢ PutError.Failed }
     ensures { IsOfWriter result }
@@ -80,7 +80,7 @@ pub(crate) fn put_error<E>(error: PutError) -> MergeError<E>
     }
 }
 
-/// The refusal of the source at a place.
+/// The error that the source at a place returned for its list.
 fn list_error<E>(place: usize, error: ListError<E>) -> MergeError<E>
     ensures { result ≡ told_of_list place error }
 {

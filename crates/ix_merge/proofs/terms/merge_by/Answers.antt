@@ -1,24 +1,18 @@
--- From turn to turn: the sources gave what was told, and the tournament holds the least of what they have at hand.
-use Rattle.std.proofs.Common.{◌≡◌, ◌+◌, ◌*◌, ◌-◌, ◌^◌, ◌<◌, ◌++◌, ℕ, List, [], length, length-set, take, drop, get_or, set, string_bytes, refl, sym, ap, subst, ◌∙◌, arith}
+-- From turn to turn: the sources gave what was told, and the tree holds the least of what they have at hand.
+use Rattle.std.proofs.Common.{◌≡◌, ◌+◌, ◌*◌, ◌-◌, ◌^◌, ◌<◌, List, length, length-set, get_or, string_bytes, refl, sym, subst, ◌∙◌, arith}
 use Rattle.std.proofs.Math.Seq.{map-set_same}
 use Rattle.std.proofs.lemmas.List.{get_or_default, length-map}
-use Rattle.std.specs.List.Sorted.{IsNonDecreasing}
+use Rattle.std.proofs.lemmas.Result.{err_from_is_err_and}
 use Rattle.ix_file.specs.Writers.{sink}
 use Rattle.ix_run.specs.Heads.{Heading}
-use Rattle.ix_run.specs.Sources.{entry_with}
-use Rattle.ix_merge.specs.Brackets.{KeepsLeaves}
-use Rattle.ix_merge.specs.Keys.{key_of}
+use Rattle.ix_merge.specs.Keys.{HoldsFirst, key_of, keys_of}
 use Rattle.ix_merge.specs.Merging.{AreApart}
-use Rattle.ix_merge.specs.Tournaments.{AreLeaves, AreNext, HoldsFirst, IsContest, ends_of, keys_of}
-use Rattle.std.proofs.lemmas.Result.{err_from_is_err_and}
-use Rattle.ix_merge.proofs.Behind.{next_above}
-use Rattle.ix_merge.proofs.Contests.{first_of_turn, next_none}
-use Rattle.ix_merge.proofs.FirstLeaves.{kept_leaves, put_back}
 use Rattle.ix_merge.proofs.Faulting.{keep_more, refusal_at}
 use Rattle.ix_merge.proofs.MergingSteps.{behind_then, longer, may_take, merged_nothing, merged_some, merged_some_then, merging_first, merging_more, share_here, tells_all}
-use Rattle.ix_merge.proofs.Rounds.{behind_first, gone_on, has_term, ends_alike, none_left, term_there}
+use Rattle.ix_merge.proofs.Rounds.{advanced, behind_first, has_term, none_left}
 use Rattle.ix_merge.proofs.Starts.{started_headed}
 use Rattle.ix_merge.proofs.Turning.{on_err_if}
+use Rattle.ix_merge.proofs.WinnerNodes.{holds_first}
 use Rattle.ix_merge.proofs.terms.merge_by.Goals as goal
 
 pub returns-in_err-begin_all-clause-some : goal.returns-in_err-begin_all-clause-some
@@ -34,43 +28,7 @@ loop-place-init g c =
       headed = started_headed g.S.Source.heading g.S.Source.current g.S.Source.yields g.S.Source.gives c.args.sources.now c.begin_all.new.sources started;
       no_more_faults = c.in_ok-begin_all.ensures.no_more_faults;
       same_writer = refl;
-      contest =
-          let t = c.args.tournament.now in
-          let new = c.requires.new in
-          let sources = c.begin_all.new.sources in
-          let keys = keys_of g.S.Source.heading g.S.Source.current sources in
-          let ends = ends_of g.S.Source.heading sources in
-          let ranks = c.begin_all.new.ranks in
-          let played = c.play_all.new.ranks in
-          let many : length ranks ≡ t.ranks.len = c.begin_all.auto.ranks ∙ c.deref_mut.ensures.len in
-          let back : take t.ranks.len (ranks ++ drop (length ranks) t.ranks.items) ≡ ranks = put_back t.ranks.len ranks (drop (length ranks) t.ranks.items) many in
-          let there : c.deref_mut-2.result.now ≡ ranks = c.deref_mut-2.ensures.value ∙ back in
-          let kept : KeepsLeaves t.inner ranks played = subst (λ (xs : List ℕ). KeepsLeaves t.inner xs played) there c.play_all.ensures.leaves in
-          let leaves : AreLeaves keys played t.inner = kept_leaves keys ranks played t.inner kept c.in_ok-begin_all.ensures.leaves in
-          let again : take t.ranks.len (played ++ drop (length played) (take t.ranks.len (ranks ++ drop (length ranks) t.ranks.items))) ≡ played =
-          put_back t.ranks.len played (drop (length played) (take t.ranks.len (ranks ++ drop (length ranks) t.ranks.items))) (kept.sized ∙ many) in
-          let same : ends ≡ ends_of g.S.Source.heading c.args.sources.now =
-          ends_alike g.S.Source.heading g.S.Source.current c.args.sources.now sources (started_headed g.S.Source.heading g.S.Source.current g.S.Source.yields g.S.Source.gives c.args.sources.now sources started) in
-          let none : take t.over t.nodes.items ≡ [] = ap (λ n. take n t.nodes.items) new.over in
-          let nothing : drop t.next (take t.end t.nodes.items) ≡ [] = ap (λ n. drop n (take t.end t.nodes.items)) new.next ∙ ap (λ n. take n t.nodes.items) new.end in
-          let a = ap (λ (xs : List ℕ). length xs) again in
-          let b = kept.sized in
-          let d = c.deref_mut.ensures.len in
-          let e = ap (λ (xs : List ℕ). length xs) c.deref_mut.ensures.value in
-          let room = new.room in
-          let over = new.over in
-          let next = new.next in
-          let end = new.end in
-          record {
-            are = subst (λ (xs : List ℕ). AreNext keys xs t.inner t.rank (take t.over t.nodes.items) (drop t.next (take t.end t.nodes.items))) (sym again)
-                (rw (none, nothing) (next_none keys played t.inner t.rank leaves c.play_all.ensures.played));
-            again = λ more. absurd (omega arith);
-            room = omega arith;
-            next = omega arith;
-            end = omega arith;
-            over = omega arith;
-            in_order = λ holds. subst IsNonDecreasing (sym same) (new.in_order holds);
-          };
+      played = c.in_ok-begin_all.ensures.tree;
       behind = behind_first g.S.Source.heading g.S.Source.current g.S.Source.yields g.S.Source.gives g.met.S.Source.given_lawfully c.args.sources.now c.begin_all.new.sources (string_bytes c.args.entry.now.term) c.args.entry.now.next started c.requires.none.term;
       merging = λ before told was none.
           merging_first g.S.Source.heading g.S.Source.current g.S.Source.yields g.S.Source.gives g.W.Write.contents g.met.S.Source.given_lawfully c.args.sources.now c.begin_all.new.sources before told c.args.writer.now
@@ -82,9 +40,8 @@ take_turn-requires-clause-may g c =
     let i = c.loop-place.invariant in
     let r = c.requires.told in
     let merging = i.merging r.before r.told r.was r.no_term in
-    let at = c.in-Some.ensures.first (string_bytes c.loop-place.entry.term) i.contest in
     let first : HoldsFirst (keys_of g.S.Source.heading g.S.Source.current c.loop-place.sources) c.in-Some.place =
-    first_of_turn (keys_of g.S.Source.heading g.S.Source.current c.loop-place.sources) (ends_of g.S.Source.heading c.loop-place.sources) (string_bytes c.loop-place.entry.term) c.first.new.self c.in-Some.place at in
+    holds_first (keys_of g.S.Source.heading g.S.Source.current c.loop-place.sources) c.loop-place.tree c.in-Some.place i.played (sym c.root.ensures ∙ c.in-Some.is) in
     let within : c.in-Some.place < length c.loop-place.sources = omega (arith, first.within, length-map c.loop-place.sources (key_of g.S.Source.heading g.S.Source.current)) in
     let source = get_or c.loop-place.sources c.in-Some.place c.index-sources-place.result in
     let here : get_or c.loop-place.sources c.in-Some.place source ≡ source = get_or_default c.loop-place.sources c.in-Some.place source c.index-sources-place.result within in
@@ -103,9 +60,8 @@ pub returns-in_err-more-clause-some : goal.returns-in_err-more-clause-some
 returns-in_err-more-clause-some g c before told was none =
     let i = c.loop-place.invariant in
     let merging = i.merging before told was none in
-    let at = c.in-Some.ensures.first (string_bytes c.loop-place.entry.term) i.contest in
     let first : HoldsFirst (keys_of g.S.Source.heading g.S.Source.current c.loop-place.sources) c.in-Some.place =
-    first_of_turn (keys_of g.S.Source.heading g.S.Source.current c.loop-place.sources) (ends_of g.S.Source.heading c.loop-place.sources) (string_bytes c.loop-place.entry.term) c.first.new.self c.in-Some.place at in
+    holds_first (keys_of g.S.Source.heading g.S.Source.current c.loop-place.sources) c.loop-place.tree c.in-Some.place i.played (sym c.root.ensures ∙ c.in-Some.is) in
     let within : c.in-Some.place < length c.loop-place.sources = omega (arith, first.within, length-map c.loop-place.sources (key_of g.S.Source.heading g.S.Source.current)) in
     let source = get_or c.loop-place.sources c.in-Some.place c.index-sources-place.result in
     let here : get_or c.loop-place.sources c.in-Some.place source ≡ source = get_or_default c.loop-place.sources c.in-Some.place source c.index-sources-place.result within in
@@ -119,9 +75,8 @@ returns-in_err-more-clause-some g c before told was none =
 pub returns-in_err-more-clause-refused : goal.returns-in_err-more-clause-refused
 returns-in_err-more-clause-refused g c =
     let i = c.loop-place.invariant in
-    let at = c.in-Some.ensures.first (string_bytes c.loop-place.entry.term) i.contest in
     let first : HoldsFirst (keys_of g.S.Source.heading g.S.Source.current c.loop-place.sources) c.in-Some.place =
-    first_of_turn (keys_of g.S.Source.heading g.S.Source.current c.loop-place.sources) (ends_of g.S.Source.heading c.loop-place.sources) (string_bytes c.loop-place.entry.term) c.first.new.self c.in-Some.place at in
+    holds_first (keys_of g.S.Source.heading g.S.Source.current c.loop-place.sources) c.loop-place.tree c.in-Some.place i.played (sym c.root.ensures ∙ c.in-Some.is) in
     let within : c.in-Some.place < length c.loop-place.sources = omega (arith, first.within, length-map c.loop-place.sources (key_of g.S.Source.heading g.S.Source.current)) in
     let source = get_or c.loop-place.sources c.in-Some.place c.index-sources-place.result in
     let here : get_or c.loop-place.sources c.in-Some.place source ≡ source = get_or_default c.loop-place.sources c.in-Some.place source c.index-sources-place.result within in
@@ -129,32 +84,21 @@ returns-in_err-more-clause-refused g c =
     rw (p.1, p.2)
     (refusal_at g.S.Source.faults c.args.sources.now c.loop-place.sources c.in-Some.place source i.as_many i.no_more_faults within here c.in_err-more.field-0.0 c.in_err-more.ensures.refused)
 
-pub go_on-requires : goal.go_on-requires
-go_on-requires g c =
+pub update-requires : goal.update-requires
+update-requires g c =
     let i = c.loop-place.invariant in
-    let at = c.in-Some.ensures.first (string_bytes c.loop-place.entry.term) i.contest in
     let first : HoldsFirst (keys_of g.S.Source.heading g.S.Source.current c.loop-place.sources) c.in-Some.place =
-    first_of_turn (keys_of g.S.Source.heading g.S.Source.current c.loop-place.sources) (ends_of g.S.Source.heading c.loop-place.sources) (string_bytes c.loop-place.entry.term) c.first.new.self c.in-Some.place at in
+    holds_first (keys_of g.S.Source.heading g.S.Source.current c.loop-place.sources) c.loop-place.tree c.in-Some.place i.played (sym c.root.ensures ∙ c.in-Some.is) in
     let within : c.in-Some.place < length c.loop-place.sources = omega (arith, first.within, length-map c.loop-place.sources (key_of g.S.Source.heading g.S.Source.current)) in
-    let source = get_or c.loop-place.sources c.in-Some.place c.index-sources-place.result in
-    let here : get_or c.loop-place.sources c.in-Some.place source ≡ source = get_or_default c.loop-place.sources c.in-Some.place source c.index-sources-place.result within in
-    let r = c.requires.told in
-    let merging = i.merging r.before r.told r.was r.no_term in
-    let may =
-    may_take g.S.Source.heading g.S.Source.current g.S.Source.yields g.S.Source.gives g.W.Write.contents g.met.S.Source.given_lawfully c.args.sources.now c.loop-place.sources r.before r.told c.loop-place.writer
-    c.loop-place.entry merging i.behind c.requires.few c.in-Some.place source within here in
-    gone_on g.S.Source.heading g.S.Source.current (string_bytes c.loop-place.entry.term) c.first.new.self c.loop-place.sources c.in-Some.place source within here at c.take_turn.new.source c.take_turn.ensures.heading c.rank_of-rank.result c.rank_of-rank.ensures
-    (c.in_ok-more.ensures.turned r.before merging.told _ merging.was may).gave.term (c.in_ok-more.ensures.turned r.before merging.told _ merging.was may).gave.is
-    (next_above g.S.Source.heading g.S.Source.current g.S.Source.yields g.S.Source.gives g.met.S.Source.given_lawfully c.take_turn.new.source _ (entry_with (c.in_ok-more.ensures.turned r.before merging.told _ merging.was may).gave.term (c.in_ok-more.ensures.turned r.before merging.told _ merging.was may).gave.postings) (c.in_ok-more.ensures.turned r.before merging.told _ merging.was may).goes.gives_more)
+    advanced g.S.Source.heading g.S.Source.current c.loop-place.sources c.loop-place.tree c.in-Some.place c.take_turn.new.source c.in_ok-more.more within i.played c.in_ok-more.ensures.more
 
 pub loop-place-smaller : goal.loop-place-smaller
 loop-place-smaller g c =
     let i = c.loop-place.invariant in
     let r = c.requires.told in
     let merging = i.merging r.before r.told r.was r.no_term in
-    let at = c.in-Some.ensures.first (string_bytes c.loop-place.entry.term) i.contest in
     let first : HoldsFirst (keys_of g.S.Source.heading g.S.Source.current c.loop-place.sources) c.in-Some.place =
-    first_of_turn (keys_of g.S.Source.heading g.S.Source.current c.loop-place.sources) (ends_of g.S.Source.heading c.loop-place.sources) (string_bytes c.loop-place.entry.term) c.first.new.self c.in-Some.place at in
+    holds_first (keys_of g.S.Source.heading g.S.Source.current c.loop-place.sources) c.loop-place.tree c.in-Some.place i.played (sym c.root.ensures ∙ c.in-Some.is) in
     let within : c.in-Some.place < length c.loop-place.sources = omega (arith, first.within, length-map c.loop-place.sources (key_of g.S.Source.heading g.S.Source.current)) in
     let source = get_or c.loop-place.sources c.in-Some.place c.index-sources-place.result in
     let here : get_or c.loop-place.sources c.in-Some.place source ≡ source = get_or_default c.loop-place.sources c.in-Some.place source c.index-sources-place.result within in
@@ -171,9 +115,8 @@ loop-place-smaller g c =
 pub loop-place-preserved : goal.loop-place-preserved
 loop-place-preserved g c =
     let i = c.loop-place.invariant in
-    let at = c.in-Some.ensures.first (string_bytes c.loop-place.entry.term) i.contest in
     let first : HoldsFirst (keys_of g.S.Source.heading g.S.Source.current c.loop-place.sources) c.in-Some.place =
-    first_of_turn (keys_of g.S.Source.heading g.S.Source.current c.loop-place.sources) (ends_of g.S.Source.heading c.loop-place.sources) (string_bytes c.loop-place.entry.term) c.first.new.self c.in-Some.place at in
+    holds_first (keys_of g.S.Source.heading g.S.Source.current c.loop-place.sources) c.loop-place.tree c.in-Some.place i.played (sym c.root.ensures ∙ c.in-Some.is) in
     let within : c.in-Some.place < length c.loop-place.sources = omega (arith, first.within, length-map c.loop-place.sources (key_of g.S.Source.heading g.S.Source.current)) in
     let source = get_or c.loop-place.sources c.in-Some.place c.index-sources-place.result in
     let here : get_or c.loop-place.sources c.in-Some.place source ≡ source = get_or_default c.loop-place.sources c.in-Some.place source c.index-sources-place.result within in
@@ -189,14 +132,7 @@ loop-place-preserved g c =
           keep_more g.S.Source.faults c.args.sources.now c.loop-place.sources c.in-Some.place source i.as_many i.no_more_faults within here
           c.take_turn.new.source c.in_ok-more.ensures.no_more_faults;
       same_writer = c.take_turn.ensures.same_writer ∙ i.same_writer;
-      contest =
-          let turned = c.in_ok-more.ensures.turned r.before merging.told _ merging.was may in
-          let gone =
-          gone_on g.S.Source.heading g.S.Source.current (string_bytes c.loop-place.entry.term) c.first.new.self c.loop-place.sources c.in-Some.place source within here at c.take_turn.new.source c.take_turn.ensures.heading c.rank_of-rank.result c.rank_of-rank.ensures
-          turned.gave.term turned.gave.is
-          (next_above g.S.Source.heading g.S.Source.current g.S.Source.yields g.S.Source.gives g.met.S.Source.given_lawfully c.take_turn.new.source _ (entry_with turned.gave.term turned.gave.postings) turned.goes.gives_more) in
-          subst (λ (last : List ℕ). IsContest (keys_of g.S.Source.heading g.S.Source.current (set c.loop-place.sources c.in-Some.place c.take_turn.new.source)) (ends_of g.S.Source.heading (set c.loop-place.sources c.in-Some.place c.take_turn.new.source)) last c.go_on.new.self)
-          (sym turned.told_of) (c.go_on.ensures gone);
+      played = c.update.ensures;
       behind =
           behind_then g.S.Source.heading g.S.Source.current g.S.Source.yields g.S.Source.gives g.W.Write.contents g.met.S.Source.given_lawfully c.args.sources.now c.loop-place.sources r.before r.told c.loop-place.writer
           c.loop-place.entry merging i.behind c.requires.few c.in-Some.place source within here c.take_turn.new.source c.take_turn.new.writer c.take_turn.new.entry
@@ -222,7 +158,7 @@ returns-in-Ok-clause-merged g c before told was none =
     let i = c.loop-place.invariant in
     let merging = i.merging before told was none in
     tells_all g.S.Source.heading g.S.Source.current g.S.Source.yields g.S.Source.gives g.W.Write.contents g.met.S.Source.given_lawfully c.args.sources.now c.loop-place.sources before told c.loop-place.writer
-    c.loop-place.entry merging (none_left g.S.Source.heading g.S.Source.current c.loop-place.sources (c.in_default.ensures.first (string_bytes c.loop-place.entry.term) i.contest))
+    c.loop-place.entry merging (none_left g.S.Source.heading g.S.Source.current c.loop-place.sources c.loop-place.tree i.played (sym c.root.ensures ∙ c.in_default.is))
     c.send.new.writer (c.in-Ok.ensures.told before merging.told merging.was)
 
 pub returns-in-Err-clause-some : goal.returns-in-Err-clause-some
@@ -235,22 +171,9 @@ returns-in-Err-clause-some g c before told was none =
 pub take_turn-requires-clause-at_hand : goal.take_turn-requires-clause-at_hand
 take_turn-requires-clause-at_hand g c =
     let i = c.loop-place.invariant in
-    let at = c.in-Some.ensures.first (string_bytes c.loop-place.entry.term) i.contest in
     let first : HoldsFirst (keys_of g.S.Source.heading g.S.Source.current c.loop-place.sources) c.in-Some.place =
-    first_of_turn (keys_of g.S.Source.heading g.S.Source.current c.loop-place.sources) (ends_of g.S.Source.heading c.loop-place.sources) (string_bytes c.loop-place.entry.term) c.first.new.self c.in-Some.place at in
+    holds_first (keys_of g.S.Source.heading g.S.Source.current c.loop-place.sources) c.loop-place.tree c.in-Some.place i.played (sym c.root.ensures ∙ c.in-Some.is) in
     let within : c.in-Some.place < length c.loop-place.sources = omega (arith, first.within, length-map c.loop-place.sources (key_of g.S.Source.heading g.S.Source.current)) in
     let source = get_or c.loop-place.sources c.in-Some.place c.index-sources-place.result in
     let here : get_or c.loop-place.sources c.in-Some.place source ≡ source = get_or_default c.loop-place.sources c.in-Some.place source c.index-sources-place.result within in
     has_term g.S.Source.heading g.S.Source.current c.loop-place.sources c.in-Some.place source within here first.there
-
-pub take_turn-requires-clause-again : goal.take_turn-requires-clause-again
-take_turn-requires-clause-again g c holds =
-    let i = c.loop-place.invariant in
-    let at = c.in-Some.ensures.first (string_bytes c.loop-place.entry.term) i.contest in
-    let first : HoldsFirst (keys_of g.S.Source.heading g.S.Source.current c.loop-place.sources) c.in-Some.place =
-    first_of_turn (keys_of g.S.Source.heading g.S.Source.current c.loop-place.sources) (ends_of g.S.Source.heading c.loop-place.sources) (string_bytes c.loop-place.entry.term) c.first.new.self c.in-Some.place at in
-    let within : c.in-Some.place < length c.loop-place.sources = omega (arith, first.within, length-map c.loop-place.sources (key_of g.S.Source.heading g.S.Source.current)) in
-    let source = get_or c.loop-place.sources c.in-Some.place c.index-sources-place.result in
-    let here : get_or c.loop-place.sources c.in-Some.place source ≡ source = get_or_default c.loop-place.sources c.in-Some.place source c.index-sources-place.result within in
-    sym (term_there g.S.Source.heading g.S.Source.current c.loop-place.sources c.in-Some.place source within ∙ ap g.S.Source.current here)
-    ∙ c.is_again-again.ensures.again (keys_of g.S.Source.heading g.S.Source.current c.loop-place.sources) (ends_of g.S.Source.heading c.loop-place.sources) (string_bytes c.loop-place.entry.term) c.in-Some.place at holds

@@ -1,8 +1,9 @@
 use Rattle.std.proofs.Common.{◌≡◌, ℕ, ◌+◌, ◌-◌, ◌*◌, ◌^◌, List, [], Option, map, length, string_bytes}
 use Rattle.ix_file.specs.Told.{Told, entries_of}
 use Rattle.ix_file.specs.Writers.{WasTold, sink_name}
+use Rattle.ix_merge.specs.Keys.{keys_of}
 use Rattle.ix_merge.specs.Merging.{KeepFaults}
-use Rattle.ix_merge.specs.Tournaments.{IsContest, ends_of, keys_of}
+use Rattle.ix_merge.specs.WinnerTrees.{IsWinnerTree}
 use Rattle.ix_merge.proofs.Behind.{AreBehind}
 use Rattle.ix_merge.proofs.MergingSteps.{IsMerging}
 use Rattle.ix_merge.proofs.terms.merge_by.Given as goal
@@ -13,7 +14,7 @@ invariant-loop-place g l = record {
   headed : map g.S.Source.heading l.sources ≡ map g.S.Source.heading l.fn.sources;
   no_more_faults : KeepFaults g.S.Source.faults l.fn.sources l.sources;
   same_writer : sink_name l.writer ≡ sink_name l.fn.writer;
-  contest : IsContest (keys_of g.S.Source.heading g.S.Source.current l.sources) (ends_of g.S.Source.heading l.sources) (string_bytes l.entry.term) l.tournament;
+  played : IsWinnerTree (keys_of g.S.Source.heading g.S.Source.current l.sources) l.tree;
   behind : AreBehind g.S.Source.heading g.S.Source.current (string_bytes l.entry.term) l.entry.next l.sources;
   merging : (before : Option (List ℕ)) (told : Told) → WasTold g.W.Write.contents before l.fn.writer told → entries_of told ≡ []
       → IsMerging g.S.Source.heading g.S.Source.current g.S.Source.yields g.S.Source.gives g.W.Write.contents l.fn.sources l.sources before told l.writer l.entry;

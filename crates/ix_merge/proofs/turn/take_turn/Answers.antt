@@ -2,7 +2,7 @@
 use Rattle.std.proofs.Common.{◌≡◌, ◌+◌, ◌^◌, ◌<◌, List, ℕ, Some, None, true, false, Bool, MatchBool, string_bytes, inr, refl, sym, ap, ◌∙◌, arith}
 use Rattle.ix_run.specs.Sources.{BeginsTerm, EndsTerms, entry_with}
 use Rattle.ix_merge.specs.Turns.{GoesOn}
-use Rattle.ix_merge.specs.declared.entry.EntryAtHand.{EntryAtHand}
+use Rattle.ix_merge.specs.declared.pending_entry.PendingEntry.{PendingEntry}
 use Rattle.ix_merge.proofs.Turning.{HasTaken, from_low, has_taken, on_err_if, on_ok_if, taken_fits}
 use Rattle.ix_merge.proofs.turn.take_turn.Goals as goal
 
@@ -57,7 +57,7 @@ returns-clause-turned g c before told given was may =
       told_to = c.in_default-send_if_full.ensures.same_next ∙ taken.told_to;
     })
   where
-    on : (then : EntryAtHand) (taken : HasTaken g.S.Source.heading g.S.Source.current g.S.Source.yields g.S.Source.gives g.S.Source.is_drained g.met.S.Source.given_lawfully c.args.source.now given told (string_bytes c.args.entry.now.term) c.args.entry.now.next may
+    on : (then : PendingEntry) (taken : HasTaken g.S.Source.heading g.S.Source.current g.S.Source.yields g.S.Source.gives g.S.Source.is_drained g.met.S.Source.given_lawfully c.args.source.now given told (string_bytes c.args.entry.now.term) c.args.entry.now.next may
         c.term.result.now c.term.ensures g.W.Write.contents before c.begin.new.writer c.take_list.new.self then)
         → (more : Bool) → MatchBool more ((term : List ℕ) × (g.S.Source.current c.next_term.new.self ≡ Some term) × BeginsTerm g.S.Source.yields g.S.Source.gives g.S.Source.is_drained c.take_list.new.self c.next_term.new.self term)
         ((g.S.Source.current c.next_term.new.self ≡ None) × g.S.Source.is_ended c.next_term.new.self × EndsTerms g.S.Source.yields g.S.Source.gives g.S.Source.is_drained c.take_list.new.self c.next_term.new.self)
