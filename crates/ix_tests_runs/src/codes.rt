@@ -44,6 +44,11 @@ const REFUSED: [(&[u8], VbError); 7] = [
     (b"\x0f\x7f\x7f\x7f\x7f", VbError::Cut),
 ];
 
+/// The code of a number, and how many bytes it has by its length.
+fn encoded(alloc: Global, n: u32) -> Result<(Vec<u8>, usize), AllocError> {
+    Ok((encode(n).as_bytes().to_vec(alloc)?, code_len(n)))
+}
+
 /// These bytes, and the code of a number behind them.
 fn appended(alloc: Global, bytes: &[u8], n: u32) -> Result<Vec<u8>, AllocError> {
     let mut out = bytes.to_vec(alloc)?;
@@ -59,9 +64,9 @@ fn decoded(bytes: &[u8]) -> Result<(u32, usize), VbError> {
 #[test]
 fn worked_codes_and_refusals(rt: HostRuntime) -> Result<(), Fail> {
     for (number, code) in CODES {
-        assert!(rt; encode(number).as_bytes() == code, "{number}");
+        let (coded, len) = encoded(rt.alloc(), number)?;
+        assert!(rt; coded.as_slice() == code && len == code.len(), "{number}");
         assert_eq!(rt; decoded(code), Ok((number, code.len())));
-        assert_eq!(rt; code_len(number), code.len());
         let behind = appended(rt.alloc(), b"x", number)?;
         assert_eq!(rt; behind.strip_prefix(b"x"), Some(code));
     }

@@ -3,8 +3,8 @@
 use super::stores::runs;
 use super::{Narrow, five_documents, five_documents_index};
 use ix_build::{
-    BuildError, BuiltOver, Cut, FolderStore, Plan, RunFiles, Runs, SystemFiles, Unwatched,
-    build_over, build_with_files,
+    BuildError, BuiltOver, Cut, FolderStore, Plan, RunFiles, RunStore, Runs, SystemFiles,
+    Unwatched, build_over, build_with_files,
 };
 use ix_run::RunReader;
 use ix_text::{Collection, StopList};
@@ -85,6 +85,24 @@ fn a_folder_is_left_empty(rt: HostRuntime) -> Result<(), Fail> {
     Ok(())
 }
 
+/// What comes of building a collection over two stores.
+fn built_over<T: RunStore>(
+    rt: &(impl Abort + Threads + Wait + Sync),
+    alloc: Global,
+    collection: &Collection<'_>,
+    cut: Cut,
+    stores: Vec<T>,
+    out: &mut Vec<u8>,
+) -> Result<Result<(), BuildError>, Fail> {
+    let stop = StopList::empty(alloc);
+    let plan = Plan::new(cut, 2, Runs::Memory).ok_or("no plan")?;
+    assert!(rt; stores.len() == plan.workers());
+    let BuiltOver { stores: _, result } = build_over(
+        rt, alloc, collection, &stop, &plan, stores, out,
+    );
+    Ok(result)
+}
+
 /// Builds the five documents over two stores that keep runs in this folder. What is written is their index text.
 fn builds_over_stores_in<F: RunFiles>(
     rt: &(impl Abort + Threads + Wait + Sync),
@@ -94,23 +112,12 @@ fn builds_over_stores_in<F: RunFiles>(
     cut: Cut,
 ) -> Result<(), Fail> {
     let collection = Collection::read(alloc, five_documents())?;
-    let stop = StopList::empty(alloc);
-    let plan = Plan::new(cut, 2, Runs::Memory).ok_or("no plan")?;
     let mut stores = Vec::new(alloc);
     for _ in 0..2 {
         stores.push(FolderStore::new(alloc, files, folder))?;
     }
-    assert!(rt; stores.len() == plan.workers());
     let mut out = Vec::new(alloc);
-    let BuiltOver { stores: _, result } = build_over(
-        rt,
-        alloc,
-        &collection,
-        &stop,
-        &plan,
-        stores,
-        &mut out,
-    );
+    let result = built_over(rt, alloc, &collection, cut, stores, &mut out)?;
     assert_eq!(rt; result, Ok(()));
     assert_eq!(rt; out.as_slice(), five_documents_index());
     Ok(())

@@ -153,7 +153,21 @@ fn shelves<'a>(alloc: Global, count: usize, case: Case<'a>) -> Result<Vec<Shelf<
     Ok(shelves)
 }
 
-/// The five documents, built in blocks of two over so many stores, into a writer that takes so many bytes: the stores, what
+/// A collection, built in blocks of two, a worker for each store.
+fn built_over<'a>(
+    rt: &(impl Abort + Threads + Wait + Sync),
+    alloc: Global,
+    collection: &Collection<'_>,
+    stores: Vec<Shelf<'a>>,
+    out: &mut Narrow,
+) -> Result<BuiltOver<Shelf<'a>>, Fail> {
+    let stop = StopList::empty(alloc);
+    let plan = Plan::new(Cut::Docs(2), stores.len(), Runs::Memory).ok_or("no plan")?;
+    assert!(rt; stores.len() == plan.workers());
+    Ok(build_over(rt, alloc, collection, &stop, &plan, stores, out))
+}
+
+/// The five documents, built over so many stores, into a writer that takes so many bytes: the stores, what
 /// that comes to, and what was written, which is a front of the index text.
 fn built<'a>(
     rt: &(impl Abort + Threads + Wait + Sync),
@@ -163,21 +177,10 @@ fn built<'a>(
     left: usize,
 ) -> Result<(Vec<Shelf<'a>>, Option<BuildError>, usize), Fail> {
     let collection = Collection::read(alloc, five_documents())?;
-    let stop = StopList::empty(alloc);
-    let plan = Plan::new(Cut::Docs(2), workers, Runs::Memory).ok_or("no plan")?;
     let stores = shelves(alloc, workers, case)?;
-    assert!(rt; stores.len() == plan.workers());
     let bytes = Vec::new(alloc);
     let mut out = Narrow { bytes, left };
-    let BuiltOver { stores, result } = build_over(
-        rt,
-        alloc,
-        &collection,
-        &stop,
-        &plan,
-        stores,
-        &mut out,
-    );
+    let BuiltOver { stores, result } = built_over(rt, alloc, &collection, stores, &mut out)?;
     assert!(rt; five_documents_index().starts_with(&out.bytes));
     assert_eq!(rt; stores.len(), workers);
     Ok((stores, result.err(), out.bytes.len()))

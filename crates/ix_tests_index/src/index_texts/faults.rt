@@ -2,10 +2,10 @@
 //!
 //! A case is a line: the sections in their order, with `|` between them, the numbers of documents and terms, ` = `, and
 //! why the text is refused, or `opened`.
-use super::opening::refusal;
+use super::opening::{name_of, refusal};
 use super::written::{bytes_of, number_of, question_of};
 use crate::plain::{check_same, framed_text};
-use ix_file::{Index, Volume};
+use ix_file::Volume;
 use std::alloc::Global;
 use std::test::Fail;
 use std::thread::Threads;
@@ -29,8 +29,8 @@ fn text_of(alloc: Global, version: u8, case: &str) -> Result<Vec<u8>, Fail> {
 /// What a text is answered, with a second answer where it is answered otherwise when it is checked in threads side by
 /// side.
 fn answer_to(rt: &(impl Threads + Sync), alloc: Global, text: Vec<u8>) -> Result<String, Fail> {
-    let mut answer = refusal(alloc, Index::open(alloc, &text).err())?;
-    let beside = refusal(alloc, Volume::open_beside(rt, alloc, text).err())?;
+    let mut answer = refusal(alloc, &text)?;
+    let beside = name_of(alloc, Volume::open_beside(rt, alloc, text).err())?;
     if answer != beside {
         answer.push_str(" and ")?;
         answer.push_str(&beside)?;

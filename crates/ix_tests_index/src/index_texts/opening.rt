@@ -50,8 +50,12 @@ fn written_again(alloc: Global, index: &Index<'_>) -> Result<Vec<u8>, Fail> {
     Ok(text_of(alloc, version, index.stop().terms(), &rows, &entries)?)
 }
 
-/// Why a text is refused, as it is printed, or `opened`.
-pub(super) fn refusal(alloc: Global, error: Option<OpenError>) -> Result<String, Fail> {
+/// Why the text is refused, as it is printed, or `opened`.
+pub(super) fn refusal(alloc: Global, text: &[u8]) -> Result<String, Fail> {
+    name_of(alloc, Index::open(alloc, text).err())
+}
+
+pub(super) fn name_of(alloc: Global, error: Option<OpenError>) -> Result<String, Fail> {
     match error {
         None => Ok(String::from_str(alloc, "opened")?),
         Some(error) => Ok(error.to_string(alloc)?),
@@ -66,16 +70,21 @@ fn is_written_again(alloc: Global, text: &[u8]) -> Result<bool, Fail> {
     Ok(written_again(alloc, &index)?.as_slice() == text)
 }
 
+/// The text that a volume of an index text gives once it is written again.
+fn lent_and_written(alloc: Global, text: Vec<u8>) -> Result<Vec<u8>, Fail> {
+    let volume = Volume::open(alloc, text)?;
+    written_again(alloc, &volume.index())
+}
+
 #[test]
 fn samples_are_opened(rt: HostRuntime) -> Result<(), Fail> {
     let alloc = rt.alloc();
     for sample in SAMPLES.lines() {
         for version in [b'1', b'2'] {
             let text = plain_text(alloc, version, sample)?;
-            let index = opened(alloc, &text)?;
-            assert!(rt; written_again(alloc, &index)? == text, "{sample}");
-            let volume = Volume::open(alloc, text.clone()?)?;
-            assert!(rt; written_again(alloc, &volume.index())? == text, "{sample}");
+            assert!(rt; is_written_again(alloc, &text)?, "{sample}");
+            let again = lent_and_written(alloc, text.clone()?)?;
+            assert!(rt; again == text, "{sample}");
         }
     }
     Ok(())
@@ -140,9 +149,9 @@ gram $x = none
 gram $z$ = none
 ";
 
-/// The documents that a cursor over a list stops at: by the next posting, and by seeking a document.
-fn walk(alloc: Global, list: Postings<'_>, steps: &str) -> Result<String, Fail> {
-    let mut list = list;
+/// The documents that a cursor over the list of a term stops at: by the next posting, and by seeking a document.
+fn walk(alloc: Global, index: &Index<'_>, term: &str, steps: &str) -> Result<String, Fail> {
+    let mut list = index.find(term).ok_or("no list")?;
     let mut stops = String::new(alloc);
     for step in steps.split(' ') {
         let found = if step == "next" {
@@ -170,8 +179,7 @@ fn terms_and_grams_are_found(rt: HostRuntime) -> Result<(), Fail> {
             ("1 next", "1 3"),
             ("4 next", " none none"),
         ] {
-            let list = index.find("y").ok_or("no list")?;
-            check_same(&rt, &walk(alloc, list, steps)?, stops);
+            check_same(&rt, &walk(alloc, &index, "y", steps)?, stops);
         }
     }
     Ok(())
@@ -185,7 +193,7 @@ fn fronts_are_refused(rt: HostRuntime) -> Result<(), Fail> {
             let text = plain_text(alloc, version, sample)?;
             for len in 0..text.len() {
                 let want = if len < 64 { "Short" } else { "Trailer" };
-                let got = refusal(alloc, Index::open(alloc, &text[..len]).err())?;
+                let got = refusal(alloc, &text[..len])?;
                 assert!(rt; got.as_str() == want, "{len}");
             }
         }
@@ -246,8 +254,7 @@ fn check_changes(rt: &impl Abort, alloc: Global, sample: &str, table: &str) -> R
     let mut lines = String::new(alloc);
     for line in table.lines() {
         let changes = question_of(line)?;
-        let text = changed(alloc, &text, changes)?;
-        let answer = refusal(alloc, Index::open(alloc, &text).err())?;
+        let answer = refusal(alloc, &changed(alloc, &text, changes)?)?;
         push_line(&mut lines, changes, &answer)?;
     }
     check_same(rt, &lines, table);

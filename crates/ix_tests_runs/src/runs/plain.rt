@@ -62,12 +62,13 @@ fn push_posting(
 }
 
 /// The list of the current term, appended, and how many postings it has, or why one was refused.
-fn copy_list<E: Drop, S: Source<Error = E>>(
+fn copy_list<S: Source>(
     alloc: Global,
     source: &mut S,
     list: &mut Vec<u8>,
-) -> Result<Result<u32, E>, Fail>
+) -> Result<Result<u32, S::Error>, Fail>
 where
+    S::Error: Drop,
     requires { IsSome (S.current source.old) }
 {
     let mut positions = Vec::new(alloc);
