@@ -82,6 +82,7 @@ fn samples_are_opened(rt: HostRuntime) -> Result<(), Fail> {
     for sample in SAMPLES.lines() {
         for version in [b'1', b'2'] {
             let text = plain_text(alloc, version, sample)?;
+            assert!(rt; refusal(alloc, &text)?.as_str() == "opened", "{sample}");
             assert!(rt; is_written_again(alloc, &text)?, "{sample}");
             let again = lent_and_written(alloc, text.clone()?)?;
             assert!(rt; again == text, "{sample}");
