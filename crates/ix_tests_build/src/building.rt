@@ -1,12 +1,11 @@
 //! What no clause says of building: that the calls answer, in the worked cases, and that workers run side by side.
 
-mod by_makers;
-mod cuts;
-mod errors;
+mod folders;
+mod makers;
 mod plans;
 mod stores;
-mod working;
 
+use std::io::{self, Write};
 use std::sync::atomic::AtomicU64;
 use std::sync::atomic::Ordering::SeqCst;
 
@@ -43,4 +42,29 @@ fn have_begun(begun: &AtomicU64, wanted: u64) -> bool {
         }
     }
     false
+}
+
+/// A writer that takes one byte at a time, and so many of them.
+#[derive(Drop)]
+struct Narrow {
+    bytes: Vec<u8>,
+    left: usize,
+}
+
+impl Write for Narrow {
+    fn write(&mut self, bytes: &[u8]) -> io::Result<usize> {
+        let Some(byte) = bytes.first() else {
+            return Ok(0);
+        };
+        if self.left == 0 {
+            return Ok(0);
+        }
+        self.left -= 1;
+        self.bytes.push(*byte)?;
+        Ok(1)
+    }
+
+    fn flush(&mut self) -> io::Result<()> {
+        Ok(())
+    }
 }

@@ -113,24 +113,11 @@ pub(super) fn text_of(
     rows: &[DocRow<'_>],
     entries: &[Entry],
 ) -> Result<Vec<u8>, AllocError> {
-    let dictionary = dictionary(alloc, version, entries)?;
-    text_with(alloc, version, stop, rows, entries, dictionary)
-}
-
-/// The same with this dictionary in place of that of the entries.
-pub(super) fn text_with(
-    alloc: Global,
-    version: u8,
-    stop: &[String],
-    rows: &[DocRow<'_>],
-    entries: &[Entry],
-    dictionary: Vec<u8>,
-) -> Result<Vec<u8>, AllocError> {
     let mut sections = Vec::new(alloc);
     sections.push(postings(alloc, entries)?)?;
     sections.push(stops(alloc, stop)?)?;
     sections.push(documents(alloc, rows)?)?;
-    sections.push(dictionary)?;
+    sections.push(dictionary(alloc, version, entries)?)?;
     sections.push(grams(alloc, entries)?)?;
     let counts = [small(rows.len()), small(entries.len())];
     framed_text(alloc, version, &sections, counts)
@@ -278,7 +265,7 @@ fn push_gram(section: &mut Vec<u8>, gram: &str, numbers: &[u32]) -> Result<(), A
 }
 
 /// The coded list of an entry.
-pub(super) fn list(alloc: Global, entry: &Entry) -> Result<Vec<u8>, AllocError> {
+fn list(alloc: Global, entry: &Entry) -> Result<Vec<u8>, AllocError> {
     let mut list = Vec::new(alloc);
     let mut next = 0u32;
     for (document, positions) in &entry.postings {
@@ -334,11 +321,6 @@ pub(super) fn front_of(row: &str) -> Result<&str, Fail> {
 /// Checks that what was got is what was wanted.
 pub(super) fn check_same(rt: &impl Abort, got: &str, want: &str) {
     assert_eq!(rt; got, want);
-}
-
-/// Checks that the numbers that a question was answered are those that were wanted.
-pub(super) fn check_numbers(rt: &impl Abort, question: &str, got: &[u32], want: &[u32]) {
-    assert_eq!(rt; got, want, "{question}");
 }
 
 /// The number, which is small.

@@ -33,25 +33,10 @@ fn sample_text() -> &'static [u8] {
     INDEX
 }
 
-/// The number that these digits write; nothing else stands in the tables.
-fn number_in(digits: &str) -> u32 {
-    let mut number: u32 = 0;
-    for digit in digits.bytes() {
-        number = number
-            .wrapping_mul(10)
-            .wrapping_add(digit.wrapping_sub(b'0') as u32);
-    }
-    number
-}
-
-/// The list of these stop words.
-fn stop_list(alloc: Global, words: &str) -> Result<StopList, Fail> {
-    Ok(StopList::read(alloc, words)?)
-}
-
-/// The run of documents under numbers from a first one on.
-fn run_of(alloc: Global, docs: &[Doc<'_>], stop: &StopList, first: u32) -> Result<Run, Fail> {
-    Ok(invert(alloc, docs, stop, first)?)
+/// The run of documents under numbers from a first one on, with these stop words.
+fn run_of(alloc: Global, docs: &[Doc<'_>], stop: &str, first: u32) -> Result<Run, Fail> {
+    let stop = StopList::read(alloc, stop)?;
+    Ok(invert(alloc, docs, &stop, first)?)
 }
 
 /// The run of a block of documents. `2-4` tells those from place 2 up to place 4, under their places as numbers. `@7`
@@ -60,40 +45,29 @@ fn run_told(alloc: Global, docs: &[Doc<'_>], block: &str) -> Result<Run, Fail> {
     let (numbered, stop) = block.split_once('/').unwrap_or((block, ""));
     let (places, first) = numbered.split_once('@').unwrap_or((numbered, ""));
     let (from, to) = places.split_once('-').ok_or("no places")?;
-    let first = number_in(if first.is_empty() { from } else { first });
-    let docs = docs
-        .get(number_in(from) as usize..number_in(to) as usize)
-        .ok_or("no such documents")?;
-    run_of(alloc, docs, &stop_list(alloc, stop)?, first)
+    let first = if first.is_empty() { from } else { first };
+    let (from, to) = (from.parse::<usize>()?, to.parse::<usize>()?);
+    let docs = docs.get(from..to).ok_or("no such documents")?;
+    run_of(alloc, docs, stop, first.parse::<u32>()?)
 }
 
-/// The runs of these blocks of documents, in the order in which they are told.
-fn runs_told(alloc: Global, docs: &[Doc<'_>], blocks: &str) -> Result<Vec<Run>, Fail> {
-    let mut runs = Vec::new(alloc);
-    for block in blocks.split_whitespace() {
-        runs.push(run_told(alloc, docs, block)?)?;
-    }
-    Ok(runs)
-}
-
-/// The runs of these blocks of a collection text.
+/// The runs of these blocks of a collection text, in the order in which they are told.
 fn runs_of(alloc: Global, text: &str, blocks: &str) -> Result<Vec<Run>, Fail> {
     let collection = Collection::read(alloc, text.as_bytes())?;
-    runs_told(alloc, collection.docs(), blocks)
-}
-
-/// The run text of a run.
-fn text_of(alloc: Global, run: &Run) -> Result<Vec<u8>, Fail> {
-    let mut text = Vec::new(alloc);
-    run.write_to(&mut text)?;
-    Ok(text)
+    let mut runs = Vec::new(alloc);
+    for block in blocks.split_whitespace() {
+        runs.push(run_told(alloc, collection.docs(), block)?)?;
+    }
+    Ok(runs)
 }
 
 /// The run texts of runs.
 fn texts_of(alloc: Global, runs: &[Run]) -> Result<Vec<Vec<u8>>, Fail> {
     let mut texts = Vec::new(alloc);
     for run in runs {
-        texts.push(text_of(alloc, run)?)?;
+        let mut text = Vec::new(alloc);
+        run.write_to(&mut text)?;
+        texts.push(text)?;
     }
     Ok(texts)
 }
@@ -158,41 +132,25 @@ fn merge_texts<R: Read + Drop, W: Write>(
     }
 }
 
-/// What a merge of run texts writes, and what comes of it.
-fn merged_texts(alloc: Global, texts: &[Vec<u8>]) -> Result<(Vec<u8>, String), Fail> {
+/// What a merge of these blocks of a collection text writes, and what comes of it. As run texts they are merged to the
+/// same.
+fn merged(
+    rt: &impl Abort,
+    alloc: Global,
+    text: &str,
+    blocks: &str,
+) -> Result<(Vec<u8>, String), Fail> {
+    let runs = runs_of(alloc, text, blocks)?;
+    let mut out = Vec::new(alloc);
+    let outcome = merge_runs(alloc, &runs, &mut out)?;
+    let texts = texts_of(alloc, &runs)?;
     let mut readers = Vec::new(alloc);
-    for text in texts {
+    for text in &texts {
         readers.push(text.as_slice())?;
     }
-    let mut out = Vec::new(alloc);
-    let outcome = merge_texts(alloc, readers, &mut out)?;
-    Ok((out, outcome))
-}
-
-/// What a merge of the runs writes, and what comes of it. As run texts they are merged to the same.
-fn merged(rt: &impl Abort, alloc: Global, runs: &[Run]) -> Result<(Vec<u8>, String), Fail> {
-    let mut out = Vec::new(alloc);
-    let outcome = merge_runs(alloc, runs, &mut out)?;
-    let (again, other) = merged_texts(alloc, &texts_of(alloc, runs)?)?;
+    let mut again = Vec::new(alloc);
+    let other = merge_texts(alloc, readers, &mut again)?;
     assert!(rt; again == out, "from bytes");
     assert_eq!(rt; other.as_str(), outcome.as_str(), "from bytes");
     Ok((out, outcome))
-}
-
-/// The runs of these blocks of the five documents.
-fn sample_runs(alloc: Global, blocks: &str) -> Result<Vec<Run>, Fail> {
-    runs_of(alloc, SAMPLE, blocks)
-}
-
-/// The index text that is merged from these blocks of a collection text.
-fn index_of(rt: &impl Abort, alloc: Global, text: &str, blocks: &str) -> Result<Vec<u8>, Fail> {
-    let runs = runs_of(alloc, text, blocks)?;
-    let (out, outcome) = merged(rt, alloc, &runs)?;
-    assert_eq!(rt; outcome.as_str(), "Ok");
-    Ok(out)
-}
-
-/// The index text that is merged from these blocks of the five documents.
-fn sample_index(rt: &impl Abort, alloc: Global, blocks: &str) -> Result<Vec<u8>, Fail> {
-    index_of(rt, alloc, SAMPLE, blocks)
 }

@@ -9,6 +9,4 @@ mod codes;
 #[cfg(test)]
 mod runs;
 #[cfg(test)]
-mod tables;
-#[cfg(test)]
 mod words;

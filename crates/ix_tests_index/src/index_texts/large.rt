@@ -1,13 +1,11 @@
 //! A collection of a real size: a hundred thousand postings and one of more positions than that, terms of 255 bytes,
-//! and a gram of ten thousand terms. It is told to sinks of many sizes, opened and walked.
-use super::opening::{entries_in, found, push_number, rows_in, volume, volume_beside};
-use super::sinks::{Pace, SLOW, Sink, UNEVEN, WHOLE};
-use super::telling::tell_under;
+//! and a gram of ten thousand terms. It is opened and walked.
+use super::opening::{entries_in, found, push_number, rows_in};
+use super::sample::words;
 use super::written::push_line;
-use crate::plain::{Entry, check_same, opened};
-use ix_file::{DocRow, Index, PutError};
+use crate::plain::{Entry, check_same, opened, text_of};
+use ix_file::{DocRow, Index, Volume};
 use std::alloc::Global;
-use std::io::Write;
 use std::process::Abort;
 use std::test::Fail;
 
@@ -89,18 +87,6 @@ fn rows_of(alloc: Global, names: &[String]) -> Result<Vec<DocRow<'_>>, Fail> {
     Ok(rows)
 }
 
-/// Tells the collection to a writer over the sink, and gives the writer's answer.
-fn tell_to<W: Write>(
-    rt: &impl Abort,
-    alloc: Global,
-    sink: &mut W,
-    entries: &[Entry],
-) -> Result<Result<(), PutError>, Fail> {
-    let names = names(alloc)?;
-    let rows = rows_of(alloc, &names)?;
-    tell_under(rt, alloc, sink, "to", &rows, entries)
-}
-
 /// The numbers below this one.
 fn numbers_below(alloc: Global, end: u32) -> Result<String, Fail> {
     let mut numbers = String::new(alloc);
@@ -118,15 +104,6 @@ fn printed(alloc: Global, rows: &[DocRow<'_>]) -> Result<String, Fail> {
         lines.push_str(&line)?;
     }
     Ok(lines)
-}
-
-fn told_rows(alloc: Global, index: &Index<'_>) -> Result<String, Fail> {
-    printed(alloc, &rows_in(alloc, index)?)
-}
-
-fn wanted_rows(alloc: Global) -> Result<String, Fail> {
-    let names = names(alloc)?;
-    printed(alloc, &rows_of(alloc, &names)?)
 }
 
 /// What is found: a term, a gram of all terms but the last, and one of it.
@@ -147,80 +124,15 @@ fn wanted(alloc: Global) -> Result<String, Fail> {
 /// The documents of that term.
 const DOCUMENTS_OF_TERM: &str = "0 100 200 300 400 500 600 700 800 900";
 
-/// Checks that an index finds that.
-fn check_found(rt: &impl Abort, alloc: Global, index: &Index<'_>) -> Result<(), Fail> {
+/// Checks that an index tells the collection, and finds what is in it.
+fn check(rt: &impl Abort, alloc: Global, index: &Index<'_>, entries: &[Entry]) -> Result<(), Fail> {
+    let names = names(alloc)?;
+    let rows = printed(alloc, &rows_of(alloc, &names)?)?;
+    check_same(rt, &printed(alloc, &rows_in(alloc, index)?)?, &rows);
+    assert!(rt; entries_in(alloc, index)?.as_slice() == entries);
     let table = wanted(alloc)?;
     check_same(rt, &found(alloc, index, &table)?, &table);
     Ok(())
-}
-
-/// Whether an index tells these entries.
-fn tells(alloc: Global, index: &Index<'_>, entries: &[Entry]) -> Result<bool, Fail> {
-    Ok(entries_in(alloc, index)?.as_slice() == entries)
-}
-
-/// Checks that an index tells the collection, and finds what is in it.
-fn check(rt: &impl Abort, alloc: Global, index: &Index<'_>, entries: &[Entry]) -> Result<(), Fail> {
-    check_same(rt, &told_rows(alloc, index)?, &wanted_rows(alloc)?);
-    assert!(rt; tells(alloc, index, entries)?);
-    check_found(rt, alloc, index)
-}
-
-/// Checks an index of the text.
-fn check_index(rt: &impl Abort, alloc: Global, text: &[u8], entries: &[Entry]) -> Result<(), Fail> {
-    let index = opened(alloc, text)?;
-    check(rt, alloc, &index, entries)
-}
-
-/// Checks what a sink has that had room for so many bytes, and what the writer answered.
-fn check_sink(
-    rt: &impl Abort,
-    sink: &Sink,
-    answer: Result<(), PutError>,
-    text: &[u8],
-    room: usize,
-) {
-    let is_whole = room >= text.len();
-    let wanted = if is_whole {
-        Ok(())
-    } else {
-        Err(PutError::Write)
-    };
-    assert!(rt; answer == wanted, "{room}");
-    assert!(rt; sink.has_front(text, room), "{room}");
-    assert!(rt; sink.was_refused != is_whole, "{room}");
-}
-
-/// Tells the collection to a sink with room for so many bytes.
-fn check_room(
-    rt: &impl Abort,
-    alloc: Global,
-    text: &[u8],
-    entries: &[Entry],
-    room: usize,
-    pace: Pace,
-) -> Result<(), Fail> {
-    let mut sink = Sink::new(alloc, room, true, pace);
-    let answer = tell_to(rt, alloc, &mut sink, entries)?;
-    check_sink(rt, &sink, answer, text, room);
-    Ok(())
-}
-
-/// Tells the collection to sinks with room for a front of the text, for all of it, and for a byte more; and to one
-/// that takes more than a hundred thousand calls for each piece that the writer writes.
-fn check_sinks(rt: &impl Abort, alloc: Global, text: &[u8], entries: &[Entry]) -> Result<(), Fail> {
-    for room in [8, 65_536, 65_537, 588_570, 588_571, 588_572] {
-        check_room(rt, alloc, text, entries, room, WHOLE)?;
-        check_room(rt, alloc, text, entries, room, UNEVEN)?;
-    }
-    check_room(rt, alloc, text, entries, 588_571, SLOW)
-}
-
-/// The text of the collection.
-fn text_of_entries(rt: &impl Abort, alloc: Global, entries: &[Entry]) -> Result<Vec<u8>, Fail> {
-    let mut text = Vec::new(alloc);
-    tell_to(rt, alloc, &mut text, entries)??;
-    Ok(text)
 }
 
 #[test]
@@ -228,12 +140,12 @@ fn a_hundred_thousand_postings(rt: HostRuntime) -> Result<(), Fail> {
     let alloc = rt.alloc();
     assert!(rt; term_of(alloc, 9900)?.len() == 255);
     let entries = entries(alloc)?;
-    let text = text_of_entries(&rt, alloc, &entries)?;
+    let names = names(alloc)?;
+    let stop = words(alloc, "to")?;
+    let text = text_of(alloc, b'2', &stop, &rows_of(alloc, &names)?, &entries)?;
     assert!(rt; text.len() == 588_571);
-    check_index(&rt, alloc, &text, &entries)?;
-    check_sinks(&rt, alloc, &text, &entries)?;
-    let beside = volume_beside(&rt, alloc, text.clone()?)?;
-    check(&rt, alloc, &beside.index(), &entries)?;
-    let alone = volume(alloc, text)?;
-    check(&rt, alloc, &alone.index(), &entries)
+    let index = opened(alloc, &text)?;
+    check(&rt, alloc, &index, &entries)?;
+    let beside = Volume::open_beside(&rt, alloc, text)?;
+    check(&rt, alloc, &beside.index(), &entries)
 }

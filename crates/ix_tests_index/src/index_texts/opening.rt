@@ -1,14 +1,12 @@
 //! Opening index texts: what they stand for, and why others are refused.
 use super::sample::plain_text;
-use super::telling::{coded_text, told};
-use super::vectors::{FIVE_DOCUMENTS, ONE_DOCUMENT, SAMPLES, long_named};
+use super::vectors::{FIVE_DOCUMENTS, ONE_DOCUMENT, SAMPLES};
 use super::written::{bytes_of, number_of, push_line, question_of};
 use crate::plain::{Entry, check_same, opened, text_of};
 use ix_file::{DocRow, Index, OpenError, Postings, Volume};
 use std::alloc::Global;
 use std::process::Abort;
 use std::test::Fail;
-use std::thread::Threads;
 
 /// The rows of the documents of an index.
 pub(super) fn rows_in<'a>(alloc: Global, index: &Index<'a>) -> Result<Vec<DocRow<'a>>, Fail> {
@@ -45,13 +43,11 @@ fn postings_in(alloc: Global, list: Postings<'_>) -> Result<Vec<(u32, Vec<u32>)>
 }
 
 /// The text of what an index stands for, in its version, by a writer that knows nothing of the reader.
-fn written_again(rt: &impl Abort, alloc: Global, index: &Index<'_>) -> Result<Vec<u8>, Fail> {
+fn written_again(alloc: Global, index: &Index<'_>) -> Result<Vec<u8>, Fail> {
     let rows = rows_in(alloc, index)?;
     let entries = entries_in(alloc, index)?;
-    if index.version() == 1 {
-        return Ok(text_of(alloc, b'1', index.stop().terms(), &rows, &entries)?);
-    }
-    told(rt, alloc, index.stop(), &rows, &entries)
+    let version = if index.version() == 1 { b'1' } else { b'2' };
+    Ok(text_of(alloc, version, index.stop().terms(), &rows, &entries)?)
 }
 
 /// Why the text is refused, as it is printed, or `opened`.
@@ -59,91 +55,40 @@ pub(super) fn refusal(alloc: Global, text: &[u8]) -> Result<String, Fail> {
     name_of(alloc, Index::open(alloc, text).err())
 }
 
-/// The same where it is checked in threads side by side.
-pub(super) fn refusal_beside(
-    rt: &(impl Threads + Sync),
-    alloc: Global,
-    text: Vec<u8>,
-) -> Result<String, Fail> {
-    name_of(alloc, Volume::open_beside(rt, alloc, text).err())
-}
-
-fn name_of(alloc: Global, error: Option<OpenError>) -> Result<String, Fail> {
+pub(super) fn name_of(alloc: Global, error: Option<OpenError>) -> Result<String, Fail> {
     match error {
         None => Ok(String::from_str(alloc, "opened")?),
         Some(error) => Ok(error.to_string(alloc)?),
     }
 }
 
-/// The volume of a text.
-pub(super) fn volume(alloc: Global, text: Vec<u8>) -> Result<Volume, Fail> {
-    Ok(Volume::open(alloc, text)?)
+/// Whether the text is refused, or else is that of what it stands for.
+fn is_written_again(alloc: Global, text: &[u8]) -> Result<bool, Fail> {
+    let Ok(index) = Index::open(alloc, text) else {
+        return Ok(true);
+    };
+    Ok(written_again(alloc, &index)?.as_slice() == text)
 }
 
-/// The same where it is checked in threads side by side.
-pub(super) fn volume_beside(
-    rt: &(impl Threads + Sync),
-    alloc: Global,
-    text: Vec<u8>,
-) -> Result<Volume, Fail> {
-    Ok(Volume::open_beside(rt, alloc, text)?)
-}
-
-/// The text that an index text gives once it was opened and written again.
-fn opened_and_written(rt: &impl Abort, alloc: Global, text: &[u8]) -> Result<Vec<u8>, Fail> {
-    let index = opened(alloc, text)?;
-    written_again(rt, alloc, &index)
-}
-
-/// The same of a volume that owns the text.
-fn lent_and_written(rt: &impl Abort, alloc: Global, text: Vec<u8>) -> Result<Vec<u8>, Fail> {
-    let owned = volume(alloc, text)?;
-    written_again(rt, alloc, &owned.index())
-}
-
-/// Checks that an index and a volume of the text stand for it.
-fn check_opened(rt: &impl Abort, alloc: Global, text: Vec<u8>) -> Result<(), Fail> {
-    let again = opened_and_written(rt, alloc, &text)?;
-    assert!(rt; again == text);
-    let lent = lent_and_written(rt, alloc, text)?;
-    assert!(rt; lent == again);
-    Ok(())
+/// The text that a volume of an index text gives once it is written again.
+fn lent_and_written(alloc: Global, text: Vec<u8>) -> Result<Vec<u8>, Fail> {
+    let volume = Volume::open(alloc, text)?;
+    written_again(alloc, &volume.index())
 }
 
 #[test]
 fn samples_are_opened(rt: HostRuntime) -> Result<(), Fail> {
     let alloc = rt.alloc();
     for sample in SAMPLES.lines() {
-        check_opened(&rt, alloc, plain_text(alloc, b'1', sample)?)?;
-        check_opened(&rt, alloc, coded_text(&rt, alloc, sample)?)?;
+        for version in [b'1', b'2'] {
+            let text = plain_text(alloc, version, sample)?;
+            assert!(rt; refusal(alloc, &text)?.as_str() == "opened", "{sample}");
+            assert!(rt; is_written_again(alloc, &text)?, "{sample}");
+            let again = lent_and_written(alloc, text.clone()?)?;
+            assert!(rt; again == text, "{sample}");
+        }
     }
-    let sample = long_named(alloc)?;
-    check_opened(&rt, alloc, plain_text(alloc, b'1', &sample)?)?;
-    check_opened(&rt, alloc, coded_text(&rt, alloc, &sample)?)
-}
-
-/// The documents of a term, or `none` where the index does not have the term.
-pub(super) fn documents_of(alloc: Global, index: &Index<'_>, term: &str) -> Result<String, Fail> {
-    let Some(postings) = index.find(term) else {
-        return Ok(String::from_str(alloc, "none")?);
-    };
-    let mut documents = String::new(alloc);
-    for posting in postings {
-        push_number(alloc, &mut documents, posting.document)?;
-    }
-    Ok(documents)
-}
-
-/// The numbers of the terms that have a gram, or `none` where no term has it.
-pub(super) fn terms_of(alloc: Global, index: &Index<'_>, gram: &str) -> Result<String, Fail> {
-    let Some(found) = index.gram(gram) else {
-        return Ok(String::from_str(alloc, "none")?);
-    };
-    let mut numbers = String::new(alloc);
-    for number in found {
-        push_number(alloc, &mut numbers, number)?;
-    }
-    Ok(numbers)
+    Ok(())
 }
 
 /// Adds a number behind a space, where others stand before it.
@@ -153,6 +98,31 @@ pub(super) fn push_number(alloc: Global, numbers: &mut String, number: u32) -> R
     }
     numbers.push_str(&number.to_string(alloc)?)?;
     Ok(())
+}
+
+/// The documents of a term, or the numbers of the terms that have a gram; or `none`.
+fn sought(alloc: Global, index: &Index<'_>, question: &str) -> Result<String, Fail> {
+    let mut numbers = String::new(alloc);
+    match question.split_once(' ') {
+        Some(("term", term)) => {
+            let Some(postings) = index.find(term) else {
+                return Ok(String::from_str(alloc, "none")?);
+            };
+            for posting in postings {
+                push_number(alloc, &mut numbers, posting.document)?;
+            }
+        }
+        Some(("gram", gram)) => {
+            let Some(found) = index.gram(gram) else {
+                return Ok(String::from_str(alloc, "none")?);
+            };
+            for number in found {
+                push_number(alloc, &mut numbers, number)?;
+            }
+        }
+        _ => return Err("a term or a gram")?,
+    }
+    Ok(numbers)
 }
 
 /// The lines of a table, `term` or `gram` and what is sought, with what an index finds: documents, or terms.
@@ -166,14 +136,6 @@ pub(super) fn found(alloc: Global, index: &Index<'_>, table: &str) -> Result<Str
     Ok(lines)
 }
 
-fn sought(alloc: Global, index: &Index<'_>, question: &str) -> Result<String, Fail> {
-    match question.split_once(' ') {
-        Some(("term", term)) => documents_of(alloc, index, term),
-        Some(("gram", gram)) => terms_of(alloc, index, gram),
-        _ => Err("a term or a gram")?,
-    }
-}
-
 /// Terms and grams that are sought in the five documents.
 const SOUGHT: &str = "\
 term x = 0 3 4
@@ -181,43 +143,16 @@ term y = 0 1 3
 term  = none
 term a = none
 term xx = none
-term z = none
 gram $x$ = 0
 gram $y$ = 1
 gram  = none
 gram $x = none
 gram $z$ = none
-gram x$y = none
 ";
 
-/// The same as the index of a text finds.
-pub(super) fn found_in(alloc: Global, text: &[u8], table: &str) -> Result<String, Fail> {
-    let index = opened(alloc, text)?;
-    found(alloc, &index, table)
-}
-
-#[test]
-fn terms_and_grams_are_found(rt: HostRuntime) -> Result<(), Fail> {
-    let alloc = rt.alloc();
-    let plain = plain_text(alloc, b'1', FIVE_DOCUMENTS)?;
-    check_same(&rt, &found_in(alloc, &plain, SOUGHT)?, SOUGHT);
-    let coded = coded_text(&rt, alloc, FIVE_DOCUMENTS)?;
-    check_same(&rt, &found_in(alloc, &coded, SOUGHT)?, SOUGHT);
-    Ok(())
-}
-
-/// The documents that a cursor over the list of the second term stops at: by the next posting, and by seeking a
-/// document.
-fn stops(alloc: Global, text: &[u8], steps: &str) -> Result<String, Fail> {
-    let index = opened(alloc, text)?;
-    if index.term_count() != 2 {
-        return Err("there are two terms")?;
-    }
-    walk(alloc, index.list(1), steps)
-}
-
-fn walk(alloc: Global, list: Postings<'_>, steps: &str) -> Result<String, Fail> {
-    let mut list = list;
+/// The documents that a cursor over the list of a term stops at: by the next posting, and by seeking a document.
+fn walk(alloc: Global, index: &Index<'_>, term: &str, steps: &str) -> Result<String, Fail> {
+    let mut list = index.find(term).ok_or("no list")?;
     let mut stops = String::new(alloc);
     for step in steps.split(' ') {
         let found = if step == "next" {
@@ -234,20 +169,19 @@ fn walk(alloc: Global, list: Postings<'_>, steps: &str) -> Result<String, Fail> 
 }
 
 #[test]
-fn a_cursor_seeks(rt: HostRuntime) -> Result<(), Fail> {
+fn terms_and_grams_are_found(rt: HostRuntime) -> Result<(), Fail> {
     let alloc = rt.alloc();
-    let text = coded_text(&rt, alloc, FIVE_DOCUMENTS)?;
-    check_same(&rt, &stops(alloc, &text, "2 0")?, "3 none");
-    check_same(&rt, &stops(alloc, &text, "1 next")?, "1 3");
-    Ok(())
-}
-
-/// Checks that each front of a text is refused.
-fn check_fronts(rt: &impl Abort, alloc: Global, text: &[u8]) -> Result<(), Fail> {
-    for len in 0..text.len() {
-        let want = if len < 64 { "Short" } else { "Trailer" };
-        let got = refusal(alloc, &text[..len])?;
-        assert!(rt; got.as_str() == want, "{len}");
+    for version in [b'1', b'2'] {
+        let text = plain_text(alloc, version, FIVE_DOCUMENTS)?;
+        let index = opened(alloc, &text)?;
+        check_same(&rt, &found(alloc, &index, SOUGHT)?, SOUGHT);
+        for (steps, stops) in [
+            ("2 0", "3 none"),
+            ("1 next", "1 3"),
+            ("4 next", " none none"),
+        ] {
+            check_same(&rt, &walk(alloc, &index, "y", steps)?, stops);
+        }
     }
     Ok(())
 }
@@ -256,24 +190,14 @@ fn check_fronts(rt: &impl Abort, alloc: Global, text: &[u8]) -> Result<(), Fail>
 fn fronts_are_refused(rt: HostRuntime) -> Result<(), Fail> {
     let alloc = rt.alloc();
     for sample in SAMPLES.lines().take(4) {
-        check_fronts(&rt, alloc, &plain_text(alloc, b'1', sample)?)?;
-        check_fronts(&rt, alloc, &coded_text(&rt, alloc, sample)?)?;
-    }
-    Ok(())
-}
-
-/// Replaces each byte by each other one: what is accepted is the text of what it stands for.
-fn change_each_byte(rt: &impl Abort, alloc: Global, text: Vec<u8>) -> Result<(), Fail> {
-    let mut text = text;
-    for place in 0..text.len() {
-        let before = text.get(place).copied().unwrap_or(0);
-        for byte in 0..=255 {
-            if byte != before {
-                put(&mut text, place, byte);
-                assert!(rt; is_written_again(rt, alloc, &text)?, "{place} {byte}");
+        for version in [b'1', b'2'] {
+            let text = plain_text(alloc, version, sample)?;
+            for len in 0..text.len() {
+                let want = if len < 64 { "Short" } else { "Trailer" };
+                let got = refusal(alloc, &text[..len])?;
+                assert!(rt; got.as_str() == want, "{len}");
             }
         }
-        put(&mut text, place, before);
     }
     Ok(())
 }
@@ -284,20 +208,27 @@ fn put(text: &mut Vec<u8>, place: usize, byte: u8) {
     }
 }
 
-/// Whether the text is refused, or else is that of what it stands for.
-fn is_written_again(rt: &impl Abort, alloc: Global, text: &[u8]) -> Result<bool, Fail> {
-    let Ok(index) = Index::open(alloc, text) else {
-        return Ok(true);
-    };
-    Ok(written_again(rt, alloc, &index)?.as_slice() == text)
+/// Replaces each byte by each one: what is accepted is the text of what it stands for.
+fn change_each_byte(rt: &impl Abort, alloc: Global, text: Vec<u8>) -> Result<(), Fail> {
+    let mut text = text;
+    for place in 0..text.len() {
+        let before = text.get(place).copied().unwrap_or(0);
+        for byte in 0..=255 {
+            put(&mut text, place, byte);
+            assert!(rt; is_written_again(alloc, &text)?, "{place} {byte}");
+        }
+        put(&mut text, place, before);
+    }
+    Ok(())
 }
 
 #[test]
 fn accepted_changes_are_written_again(rt: HostRuntime) -> Result<(), Fail> {
     let alloc = rt.alloc();
     for sample in SAMPLES.lines().take(4).skip(1) {
-        change_each_byte(&rt, alloc, plain_text(alloc, b'1', sample)?)?;
-        change_each_byte(&rt, alloc, coded_text(&rt, alloc, sample)?)?;
+        for version in [b'1', b'2'] {
+            change_each_byte(&rt, alloc, plain_text(alloc, version, sample)?)?;
+        }
     }
     Ok(())
 }
@@ -318,15 +249,17 @@ fn changed(alloc: Global, text: &[u8], changes: &str) -> Result<Vec<u8>, Fail> {
     Ok(text)
 }
 
-/// The changes of a table with what the text is answered once they are made.
-fn answers(alloc: Global, text: &[u8], table: &str) -> Result<String, Fail> {
+/// Checks that a text of version 1 is answered as the lines of a table say once it is changed.
+fn check_changes(rt: &impl Abort, alloc: Global, sample: &str, table: &str) -> Result<(), Fail> {
+    let text = plain_text(alloc, b'1', sample)?;
     let mut lines = String::new(alloc);
     for line in table.lines() {
         let changes = question_of(line)?;
-        let answer = refusal(alloc, &changed(alloc, text, changes)?)?;
+        let answer = refusal(alloc, &changed(alloc, &text, changes)?)?;
         push_line(&mut lines, changes, &answer)?;
     }
-    Ok(lines)
+    check_same(rt, &lines, table);
+    Ok(())
 }
 
 /// Places in the text of one document, and other bytes there.
@@ -345,16 +278,10 @@ const CHANGES: &str = "\
 17 82 = ListLength
 17 80 = Zero
 18 85 = ListLength
+25 05 = Lengths
+80 '2' = Trailer
+7 '2' = Trailer
 ";
-
-#[test]
-fn changed_bytes_of_one_document(rt: HostRuntime) -> Result<(), Fail> {
-    let alloc = rt.alloc();
-    let text = plain_text(alloc, b'1', ONE_DOCUMENT)?;
-    assert!(rt; text.len() == 81);
-    check_same(&rt, &answers(alloc, &text, CHANGES)?, CHANGES);
-    Ok(())
-}
 
 /// Versions at both ends of the empty text, and lengths that would sum to nothing if they wrapped in 64 bits.
 const FRAMES: &str = "\
@@ -365,31 +292,7 @@ const FRAMES: &str = "\
 ";
 
 #[test]
-fn frames_that_do_not_fit(rt: HostRuntime) -> Result<(), Fail> {
-    let alloc = rt.alloc();
-    let text = plain_text(alloc, b'1', "|")?;
-    assert!(rt; text.len() == 64);
-    check_same(&rt, &answers(alloc, &text, FRAMES)?, FRAMES);
-    Ok(())
-}
-
-/// The text with these bytes in place of those between two places.
-fn spliced(alloc: Global, text: &[u8], places: [usize; 2], bytes: &[u8]) -> Result<Vec<u8>, Fail> {
-    let [start, end] = places;
-    let mut spliced = Vec::from_slice(alloc, text.get(..start).unwrap_or(b""))?;
-    spliced.extend_from_slice(bytes)?;
-    spliced.extend_from_slice(text.get(end..).unwrap_or(b""))?;
-    Ok(spliced)
-}
-
-#[test]
-fn a_byte_too_many_and_one_too_few(rt: HostRuntime) -> Result<(), Fail> {
-    let alloc = rt.alloc();
-    let text = plain_text(alloc, b'1', ONE_DOCUMENT)?;
-    assert!(rt; text.len() == 81);
-    let longer = spliced(alloc, &text, [25, 25], &[0x80])?;
-    check_same(&rt, &refusal(alloc, &longer)?, "Lengths");
-    let shorter = spliced(alloc, &text, [24, 25], b"")?;
-    check_same(&rt, &refusal(alloc, &shorter)?, "Lengths");
-    Ok(())
+fn changed_bytes(rt: HostRuntime) -> Result<(), Fail> {
+    check_changes(&rt, rt.alloc(), ONE_DOCUMENT, CHANGES)?;
+    check_changes(&rt, rt.alloc(), "|", FRAMES)
 }

@@ -1,6 +1,5 @@
-//! Texts that were worked by hand.
+//! Texts that were worked by hand. The writer of the tests writes them, and so does a merge in the tests of merging.
 use super::sample::plain_text;
-use super::telling::coded_text;
 use super::written::{bytes_of, digits};
 use crate::plain::check_same;
 use std::alloc::Global;
@@ -24,8 +23,6 @@ to|d:flights - london
 pub(super) const ONE_DOCUMENT: &str = "|d:a a";
 
 pub(super) const FIVE_DOCUMENTS: &str = "|a:x y|b:y|c:|d:y x y|e:x";
-
-pub(super) const RED: &str = "|d:red redo retired";
 
 /// Samples, each with its text of version 1 as digits in base 16.
 const VERSION_ONE: &str = "\
@@ -98,42 +95,15 @@ to|d:flights - london
 1b00000000000000 0000000000000000 0300000000000000 2a00000000000000 3600000000000000
 01000000 09000000 50494958454e4432";
 
-/// Checks that the text of a sample is what stands behind it.
-fn check_block(rt: &impl Abort, alloc: Global, block: &str, text: &[u8]) -> Result<(), Fail> {
-    let stands = bytes_of(alloc, sample_in(block)?.1)?;
-    check_same(rt, &digits(alloc, text)?, &digits(alloc, &stands)?);
-    Ok(())
-}
-
-/// A sample and what stands behind it.
-fn sample_in(block: &str) -> Result<(&str, &str), Fail> {
-    let Some(both) = block.split_once('\n') else {
-        return Err("a sample has a text")?;
-    };
-    Ok(both)
-}
-
-/// Checks the text that is written plainly.
-fn check_plain(rt: &impl Abort, alloc: Global, version: u8, block: &str) -> Result<(), Fail> {
-    let text = plain_text(alloc, version, sample_in(block)?.0)?;
-    check_block(rt, alloc, block, &text)
-}
-
-/// Checks the text that the writer writes.
-fn check_coded(rt: &impl Abort, alloc: Global, block: &str) -> Result<(), Fail> {
-    let text = coded_text(rt, alloc, sample_in(block)?.0)?;
-    check_block(rt, alloc, block, &text)
-}
-
-#[test]
-fn texts_of_samples(rt: HostRuntime) -> Result<(), Fail> {
-    let alloc = rt.alloc();
-    for block in VERSION_ONE.split("\n\n") {
-        check_plain(&rt, alloc, b'1', block)?;
-    }
-    for block in VERSION_TWO.split("\n\n") {
-        check_plain(&rt, alloc, b'2', block)?;
-        check_coded(&rt, alloc, block)?;
+/// Checks that the texts of samples, as they are written plainly, are what stands behind them.
+fn check_blocks(rt: &impl Abort, alloc: Global, version: u8, blocks: &str) -> Result<(), Fail> {
+    for block in blocks.split("\n\n") {
+        let Some((sample, stands)) = block.split_once('\n') else {
+            return Err("a sample has a text")?;
+        };
+        let text = plain_text(alloc, version, sample)?;
+        let stands = bytes_of(alloc, stands)?;
+        check_same(rt, &digits(alloc, &text)?, &digits(alloc, &stands)?);
     }
     Ok(())
 }
@@ -148,45 +118,12 @@ const LENGTHS: [(&str, usize); 5] = [
 ];
 
 #[test]
-fn plain_lengths_of_version_one(rt: HostRuntime) -> Result<(), Fail> {
+fn texts_of_samples(rt: HostRuntime) -> Result<(), Fail> {
+    check_blocks(&rt, rt.alloc(), b'1', VERSION_ONE)?;
+    check_blocks(&rt, rt.alloc(), b'2', VERSION_TWO)?;
     for (sample, length) in LENGTHS {
         let text = plain_text(rt.alloc(), b'1', sample)?;
         assert!(rt; text.len() == length, "{sample}");
     }
     Ok(())
-}
-
-/// A name of 255 bytes.
-const LONG_NAME: &str =
-    "nnnnnnnnnnnnnnnnnnnnnnnnnnnnnnnnnnnnnnnnnnnnnnnnnnnnnnnnnnnnnnnnnnnnnnnnnnnnnnnnnnnnnnnnnnnnnn\
-    nnnnnnnnnnnnnnnnnnnnnnnnnnnnnnnnnnnnnnnnnnnnnnnnnnnnnnnnnnnnnnnnnnnnnnnnnnnnnnnnnnnnnnnnnnnnnn\
-    nnnnnnnnnnnnnnnnnnnnnnnnnnnnnnnnnnnnnnnnnnnnnnnnnnnnnnnnnnnnnnnnnnn";
-
-/// The sample of a document of that name, with the token `a`.
-pub(super) fn long_named(alloc: Global) -> Result<String, Fail> {
-    Ok(format!(in alloc; "|{LONG_NAME}:a")?)
-}
-
-/// What both texts begin with: the list, the code of 255, the name, and the one token.
-fn long_front(alloc: Global, version: u8) -> Result<Vec<u8>, Fail> {
-    let version = char::from(version);
-    let front = format!(in alloc; "'PIIX000{version}' 81 81 81 01 ff '{LONG_NAME}' 81")?;
-    bytes_of(alloc, &front)
-}
-
-/// Checks that a text of that sample has 335 bytes and begins so.
-fn check_long(rt: &impl Abort, alloc: Global, version: u8, text: &[u8]) -> Result<(), Fail> {
-    let front = long_front(alloc, version)?;
-    assert!(rt; text.len() == 335);
-    assert!(rt; text.starts_with(&front));
-    Ok(())
-}
-
-#[test]
-fn a_name_of_255_bytes(rt: HostRuntime) -> Result<(), Fail> {
-    let alloc = rt.alloc();
-    assert!(rt; LONG_NAME.len() == 255);
-    let sample = long_named(alloc)?;
-    check_long(&rt, alloc, b'1', &plain_text(alloc, b'1', &sample)?)?;
-    check_long(&rt, alloc, b'2', &coded_text(&rt, alloc, &sample)?)
 }

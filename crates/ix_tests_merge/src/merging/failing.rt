@@ -1,7 +1,7 @@
 //! Reads and writes that are refused, short or interrupted.
 ghost use Rattle.std.specs.Prelude.{◌<◌, IfSome};
 
-use super::{BLOCKS, merge_runs, merge_texts, runs_of, sample_runs, sample_text, texts_of};
+use super::{BLOCKS, SAMPLE, merge_runs, merge_texts, runs_of, sample_text, texts_of};
 use ix_run::Run;
 use std::alloc::Global;
 use std::io::{self, ErrorKind, Read, Write};
@@ -29,20 +29,6 @@ impl Read for Slow<'_> {
     }
 }
 
-/// The reader of a run text.
-fn slow_reader<'a>(text: &'a [u8], size: usize, left: usize) -> Slow<'a> {
-    Slow {
-        bytes: text,
-        size,
-        left,
-    }
-}
-
-/// How many reads the reader at a place allows, where the one at `refusing` allows so many.
-fn reads_left(place: usize, refusing: usize, left: usize) -> usize {
-    if place == refusing { left } else { usize::MAX }
-}
-
 /// The readers of run texts, of which the one at a place refuses the read behind so many.
 fn slow_readers<'a>(
     alloc: Global,
@@ -53,8 +39,9 @@ fn slow_readers<'a>(
 ) -> Result<Vec<Slow<'a>>, Fail> {
     let mut readers = Vec::new(alloc);
     for (at, text) in texts.iter().enumerate() {
-        let left = reads_left(at, place, left);
-        readers.push(slow_reader(text.as_slice(), size, left))?;
+        let left = if at == place { left } else { usize::MAX };
+        let bytes = text.as_slice();
+        readers.push(Slow { bytes, size, left })?;
     }
     Ok(readers)
 }
@@ -89,7 +76,7 @@ fn is_read_refused(
 fn reads_refused_at_each_byte(rt: HostRuntime) -> Result<(), Fail> {
     let alloc = rt.alloc();
     let whole = sample_text();
-    let texts = texts_of(alloc, &sample_runs(alloc, BLOCKS)?)?;
+    let texts = texts_of(alloc, &runs_of(alloc, SAMPLE, BLOCKS)?)?;
     for (place, text) in texts.iter().enumerate() {
         let most = text.len() + 1;
         for left in 0..most {
@@ -162,21 +149,13 @@ impl Write for Uneven<Vec<u8>> {
     }
 }
 
-/// Readers of run texts that are short and interrupted.
-fn uneven_readers(alloc: Global, texts: &[Vec<u8>]) -> Result<Vec<Uneven<&[u8]>>, Fail> {
-    let mut readers = Vec::new(alloc);
-    for text in texts {
-        readers.push(Uneven {
-            bytes: text.as_slice(),
-            calls: 0,
-        })?;
-    }
-    Ok(readers)
-}
-
 /// What a merge of run texts writes whose reads and writes are short and interrupted.
 fn merged_unevenly(rt: &impl Abort, alloc: Global, texts: &[Vec<u8>]) -> Result<Vec<u8>, Fail> {
-    let readers = uneven_readers(alloc, texts)?;
+    let mut readers = Vec::new(alloc);
+    for text in texts {
+        let bytes = text.as_slice();
+        readers.push(Uneven { bytes, calls: 0 })?;
+    }
     let mut out = Uneven {
         bytes: Vec::new(alloc),
         calls: 0,
@@ -243,39 +222,6 @@ fn sunk(
     Ok(format!(in alloc; "{outcome}, {flushed}")?)
 }
 
-/// Checks that a merge of large run texts is refused with each read of each of them.
-fn check_reads(
-    rt: &impl Abort,
-    alloc: Global,
-    texts: &[Vec<u8>],
-    whole: &[u8],
-) -> Result<(), Fail> {
-    for (place, text) in texts.iter().enumerate() {
-        for left in 0..text.len() / READ + 1 {
-            let refused = is_read_refused(rt, alloc, texts, READ, place, left, whole)?;
-            assert!(rt; refused, "{place} {left}");
-        }
-    }
-    Ok(())
-}
-
-/// Checks that a merge of runs is refused in a sink without room for the whole: for nothing, or a multiple of `step`.
-fn check_writes(
-    rt: &impl Abort,
-    alloc: Global,
-    runs: &[Run],
-    step: usize,
-    whole: &[u8],
-) -> Result<(), Fail>
-    requires { 0 < step }
-{
-    for room in (0..whole.len()).step_by(step) {
-        let outcome = sunk(rt, alloc, runs, room, true, whole)?;
-        assert_eq!(rt; outcome.as_str(), "Write, not flushed", "{room}");
-    }
-    Ok(())
-}
-
 #[test]
 fn thousands_of_documents(rt: HostRuntime) -> Result<(), Fail> {
     let alloc = rt.alloc();
@@ -284,19 +230,31 @@ fn thousands_of_documents(rt: HostRuntime) -> Result<(), Fail> {
     let mut whole = Vec::new(alloc);
     assert_eq!(rt; merge_runs(alloc, &runs, &mut whole)?.as_str(), "Ok");
     assert!(rt; merged_unevenly(&rt, alloc, &texts)? == whole);
-    check_reads(&rt, alloc, &texts, &whole)?;
-    check_writes(&rt, alloc, &runs, 39_979, &whole)
+    for (place, text) in texts.iter().enumerate() {
+        for left in 0..text.len() / READ {
+            let refused = is_read_refused(&rt, alloc, &texts, READ, place, left, &whole)?;
+            assert!(rt; refused, "{place} {left}");
+        }
+    }
+    for room in [0, 8, 65_536, 65_537, 200_000, whole.len().saturating_sub(1)] {
+        let outcome = sunk(&rt, alloc, &runs, room, true, &whole)?;
+        assert_eq!(rt; outcome.as_str(), "Write, not flushed", "{room}");
+    }
+    Ok(())
 }
 
 #[test]
 fn writes_refused_at_each_byte(rt: HostRuntime) -> Result<(), Fail> {
     let alloc = rt.alloc();
     let whole = sample_text();
-    let runs = sample_runs(alloc, BLOCKS)?;
-    check_writes(&rt, alloc, &runs, 1, whole)?;
-    let outcome = sunk(&rt, alloc, &runs, whole.len(), true, whole)?;
-    assert_eq!(rt; outcome.as_str(), "Ok, flushed");
-    let outcome = sunk(&rt, alloc, &runs, whole.len(), false, whole)?;
-    assert_eq!(rt; outcome.as_str(), "Write, flushed");
+    let runs = runs_of(alloc, SAMPLE, BLOCKS)?;
+    for room in 0..whole.len() {
+        let outcome = sunk(&rt, alloc, &runs, room, true, whole)?;
+        assert_eq!(rt; outcome.as_str(), "Write, not flushed", "{room}");
+    }
+    for (flushes, want) in [(true, "Ok, flushed"), (false, "Write, flushed")] {
+        let outcome = sunk(&rt, alloc, &runs, whole.len(), flushes, whole)?;
+        assert_eq!(rt; outcome.as_str(), want);
+    }
     Ok(())
 }

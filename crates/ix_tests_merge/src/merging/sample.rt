@@ -1,9 +1,7 @@
 //! The five documents, in any order of their runs, and sources that are refused.
 
-use super::{merge_texts, merged, sample_index, sample_runs, sample_text};
-use ix_merge::MergeError;
-use std::alloc::Global;
-use std::process::Abort;
+use super::{SAMPLE, merge_texts, merged, sample_text};
+use ix_file::Index;
 use std::test::Fail;
 
 /// The blocks of the five documents, in each order.
@@ -18,12 +16,16 @@ const ORDERS: &str = "\
 
 #[test]
 fn runs_in_any_order(rt: HostRuntime) -> Result<(), Fail> {
-    let alloc = rt.alloc();
-    let whole = sample_text();
-    assert_eq!(rt; whole.len(), 119);
     for blocks in ORDERS.lines() {
-        let out = sample_index(&rt, alloc, blocks)?;
-        assert_eq!(rt; out.as_slice(), whole, "{blocks}");
+        let (out, outcome) = merged(&rt, rt.alloc(), SAMPLE, blocks)?;
+        assert!(rt;
+            outcome.as_str() == "Ok" && out.as_slice() == sample_text(),
+            "{blocks}"
+        );
+    }
+    for blocks in ["", "5-5@268435456"] {
+        let (out, outcome) = merged(&rt, rt.alloc(), SAMPLE, blocks)?;
+        assert!(rt; outcome.as_str() == "Ok" && out.len() == 64, "{blocks}");
     }
     Ok(())
 }
@@ -46,34 +48,13 @@ const REFUSALS: &str = "\
 
 #[test]
 fn refusals_before_a_byte_is_written(rt: HostRuntime) -> Result<(), Fail> {
-    let alloc = rt.alloc();
     for row in REFUSALS.lines() {
         let (blocks, want) = row.split_once(" -> ").ok_or("no refusal")?;
-        let runs = sample_runs(alloc, blocks)?;
-        let (out, outcome) = merged(&rt, alloc, &runs)?;
+        let (out, outcome) = merged(&rt, rt.alloc(), SAMPLE, blocks)?;
         assert_eq!(rt; outcome.as_str(), want, "{blocks}");
         assert!(rt; out.is_empty(), "{blocks}");
     }
     Ok(())
-}
-
-/// The index text of no documents.
-const NO_DOCUMENTS: &[u8] =
-    b"PIIX0002\0\0\0\0\0\0\0\0\0\0\0\0\0\0\0\0\0\0\0\0\0\0\0\0\0\0\0\0\0\0\0\0\0\0\0\0\0\0\0\0\0\0\0\0\0\0\0\0PIIXEND2";
-
-/// Checks that no documents are merged from these blocks of the five documents.
-fn check_none(rt: &impl Abort, alloc: Global, blocks: &str) -> Result<(), Fail> {
-    let out = sample_index(rt, alloc, blocks)?;
-    assert_eq!(rt; out.len(), 64);
-    assert_eq!(rt; out.as_slice(), NO_DOCUMENTS, "{blocks}");
-    Ok(())
-}
-
-#[test]
-fn no_documents(rt: HostRuntime) -> Result<(), Fail> {
-    let alloc = rt.alloc();
-    check_none(&rt, alloc, "")?;
-    check_none(&rt, alloc, "5-5@268435456")
 }
 
 #[test]
@@ -91,27 +72,42 @@ fn too_many_tokens(rt: HostRuntime) -> Result<(), Fail> {
     Ok(())
 }
 
-/// Checks the number and the name of an error.
-fn check_error(
-    rt: &impl Abort,
-    alloc: Global,
-    error: MergeError<u8>,
-    want: &str,
-) -> Result<(), Fail> {
-    let number = error.number();
-    let told = format!(in alloc; "{number} {error}")?;
-    assert_eq!(rt; told.as_str(), want);
-    Ok(())
-}
+/// Collections of one document, how long their index texts are, and where in these which dictionary stands.
+const DICTIONARIES: [(&str, usize, usize, &[u8]); 4] = [
+    (
+        "d\tred redo retired\n",
+        155,
+        20,
+        b"\x83red\x81\x83\x83\x81o\x81\x83\x82\x85tired\x81\x83",
+    ),
+    (
+        "d\ta ab abc abcd abcde\n",
+        169,
+        26,
+        b"\x81a\x81\x83\x81\x81b\x81\x83\x82\x81c\x81\x83\x83\x81d\x81\x83\x85abcde\x81\x83",
+    ),
+    (
+        "d\tè é\n",
+        97,
+        17,
+        b"\x82\xc3\xa8\x81\x83\x81\x81\xa9\x81\x83",
+    ),
+    (
+        "d\ta b c d e f g h i\n",
+        190,
+        38,
+        b"\x81a\x81\x83\x80\x81b\x81\x83\x80\x81c\x81\x83\x80\x81d\x81\x83\x81e\x81\x83\x80\x81f",
+    ),
+];
 
 #[test]
-fn errors_have_numbers_and_names(rt: HostRuntime) -> Result<(), Fail> {
-    let alloc = rt.alloc();
-    check_error(&rt, alloc, MergeError::Gap(3), "1 Gap(3)")?;
-    check_error(&rt, alloc, MergeError::Overlap(4), "2 Overlap(4)")?;
-    check_error(&rt, alloc, MergeError::StopDiffers, "3 StopDiffers")?;
-    check_error(&rt, alloc, MergeError::Source(5, 6), "4 Source(5, 6)")?;
-    check_error(&rt, alloc, MergeError::TooLarge, "5 TooLarge")?;
-    check_error(&rt, alloc, MergeError::Write, "6 Write")?;
-    check_error(&rt, alloc, MergeError::Memory, "7 Memory")
+fn terms_that_begin_alike(rt: HostRuntime) -> Result<(), Fail> {
+    for (text, len, start, dictionary) in DICTIONARIES {
+        let (out, _) = merged(&rt, rt.alloc(), text, "0-1")?;
+        assert_eq!(rt; out.len(), len);
+        let behind = out.get(start..).ok_or("no dictionary")?;
+        assert!(rt; behind.starts_with(dictionary), "{text}");
+        assert!(rt; Index::open(rt.alloc(), &out).is_ok(), "{text}");
+    }
+    Ok(())
 }

@@ -20,7 +20,7 @@ fn work(board: &Board<Token>, deliveries: &AtomicU64, mut desk: Desk<Token>) -> 
     requires { desk.board ≡ board.now }
     ensures { result.board ≡ desk.board }
 {
-    for _ in 0..=10_000 {
+    for _ in 0..=2_000_000 {
         let place = match desk.held() {
             Some(first) => first,
             None => match desk.claim(board) {
@@ -64,25 +64,22 @@ fn work_out<R: Threads + Sync>(
     Ok((deliveries.load(SeqCst), pieces))
 }
 
-#[test]
-fn no_place_for_many_desks(rt: HostRuntime) -> Result<(), Fail> {
-    let (deliveries, pieces) = work_out(&rt, rt.alloc(), 0, 64)?;
-    assert_eq!(rt; deliveries, 0);
-    assert_eq!(rt; pieces.len(), 0);
-    Ok(())
-}
+/// Places, workers, and how often they are worked out.
+const BOARDS: [(usize, usize, u32); 3] = [(0, 64, 1), (10_000, 64, 100), (2_000_000, 2, 1)];
 
 #[test]
 fn many_desks_in_threads(rt: HostRuntime) -> Result<(), Fail> {
-    for _ in 0..100 {
-        let (deliveries, pieces) = work_out(&rt, rt.alloc(), 10_000, 64)?;
-        assert_eq!(rt; deliveries, 10_000);
-        assert_eq!(rt; pieces.len(), 10_000);
-        for (place, piece) in pieces.iter().enumerate() {
-            assert!(rt;
-                piece.as_ref().is_some_and(|token| token.place == place),
-                "at {place}"
-            );
+    for (count, workers, times) in BOARDS {
+        for _ in 0..times {
+            let (deliveries, pieces) = work_out(&rt, rt.alloc(), count, workers)?;
+            assert_eq!(rt; deliveries, count as u64);
+            assert_eq!(rt; pieces.len(), count);
+            for (place, piece) in pieces.iter().enumerate() {
+                assert!(rt;
+                    piece.as_ref().is_some_and(|token| token.place == place),
+                    "at {place}"
+                );
+            }
         }
     }
     Ok(())

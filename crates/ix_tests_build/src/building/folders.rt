@@ -1,0 +1,176 @@
+//! Collections built with their runs in a folder of the system: which files it holds, and that none is left.
+
+use super::stores::runs;
+use super::{Narrow, five_documents, five_documents_index};
+use ix_build::{
+    BuildError, BuiltOver, Cut, FolderStore, Plan, RunFiles, RunStore, Runs, SystemFiles,
+    Unwatched, build_over, build_with_files,
+};
+use ix_run::RunReader;
+use ix_text::{Collection, StopList};
+use std::alloc::Global;
+use std::io::Write;
+use std::process::Abort;
+use std::sync::Wait;
+use std::test::Fail;
+use std::thread::Threads;
+use std::{env, fs, process};
+
+/// The path of a folder that no other test and no other process has.
+fn new_path(rt: &HostRuntime, name: &str) -> Result<String, Fail> {
+    let above = env::temp_dir(rt)?;
+    let process = process::id(rt.process());
+    Ok(format!(in rt.alloc(); "{}/ix-build-{process}-{name}", above.as_path().display())?)
+}
+
+/// Builds the five documents with runs in this folder, and answers why it is refused.
+fn built_in<F: RunFiles, W: Write>(
+    rt: &(impl Abort + Threads + Wait + Sync),
+    alloc: Global,
+    files: &F,
+    folder: &str,
+    cut: Cut,
+    workers: usize,
+    out: &mut W,
+) -> Result<Option<BuildError>, Fail> {
+    let collection = Collection::read(alloc, five_documents())?;
+    let stop = StopList::empty(alloc);
+    let runs = Runs::Folder(String::from_str(alloc, folder)?);
+    let plan = Plan::new(cut, workers, runs).ok_or("no plan")?;
+    let result = build_with_files(rt, alloc, files, &collection, &stop, &plan, &Unwatched, out);
+    Ok(result.err())
+}
+
+/// Cuts and workers with runs in a folder that is there.
+const PLANS: [(Cut, usize); 4] = [
+    (Cut::Docs(1), 3),
+    (Cut::Docs(2), 64),
+    (Cut::Docs(5), 2),
+    (Cut::Bytes(4), 1),
+];
+
+#[test]
+fn a_folder_is_left_empty(rt: HostRuntime) -> Result<(), Fail> {
+    let files = SystemFiles { rt: &rt };
+    let folder = new_path(&rt, "empty")?;
+    let mut out = Vec::new(rt.alloc());
+    let none = built_in(&rt, rt.alloc(), &files, &folder, Cut::Docs(2), 3, &mut out)?;
+    assert!(rt; none == Some(BuildError::Spill(0)) && out.is_empty());
+    fs::create_dir(&rt, folder.as_str())?;
+    for (cut, workers) in PLANS {
+        let mut out = Vec::new(rt.alloc());
+        let refused = built_in(&rt, rt.alloc(), &files, &folder, cut, workers, &mut out)?;
+        assert!(rt; refused.is_none() && out.as_slice() == five_documents_index());
+    }
+    let bytes = Vec::new(rt.alloc());
+    let mut narrow = Narrow { bytes, left: 0 };
+    let refused = built_in(
+        &rt,
+        rt.alloc(),
+        &files,
+        &folder,
+        Cut::Docs(2),
+        2,
+        &mut narrow,
+    )?;
+    assert_eq!(rt; refused, Some(BuildError::Write));
+    let way = format!(in rt.alloc(); "{folder}/run-0000000001")?;
+    fs::create_dir(&rt, way.as_str())?;
+    let mut out = Vec::new(rt.alloc());
+    let refused = built_in(&rt, rt.alloc(), &files, &folder, Cut::Docs(1), 2, &mut out)?;
+    assert!(rt; refused == Some(BuildError::Spill(1)) && out.is_empty());
+    fs::remove_dir(&rt, way.as_str())?;
+    // Only an empty folder is removed.
+    fs::remove_dir(&rt, folder.as_str())?;
+    Ok(())
+}
+
+/// What comes of building a collection over two stores.
+fn built_over<T: RunStore>(
+    rt: &(impl Abort + Threads + Wait + Sync),
+    alloc: Global,
+    collection: &Collection<'_>,
+    cut: Cut,
+    stores: Vec<T>,
+    out: &mut Vec<u8>,
+) -> Result<Result<(), BuildError>, Fail> {
+    let stop = StopList::empty(alloc);
+    let plan = Plan::new(cut, 2, Runs::Memory).ok_or("no plan")?;
+    assert!(rt; stores.len() == plan.workers());
+    let BuiltOver { stores: _, result } = build_over(
+        rt, alloc, collection, &stop, &plan, stores, out,
+    );
+    Ok(result)
+}
+
+/// Builds the five documents over two stores that keep runs in this folder. What is written is their index text.
+fn builds_over_stores_in<F: RunFiles>(
+    rt: &(impl Abort + Threads + Wait + Sync),
+    alloc: Global,
+    files: &F,
+    folder: &str,
+    cut: Cut,
+) -> Result<(), Fail> {
+    let collection = Collection::read(alloc, five_documents())?;
+    let mut stores = Vec::new(alloc);
+    for _ in 0..2 {
+        stores.push(FolderStore::new(alloc, files, folder))?;
+    }
+    let mut out = Vec::new(alloc);
+    let result = built_over(rt, alloc, &collection, cut, stores, &mut out)?;
+    assert_eq!(rt; result, Ok(()));
+    assert_eq!(rt; out.as_slice(), five_documents_index());
+    Ok(())
+}
+
+/// From which document up to which one the run of a text goes.
+fn span_of(alloc: Global, text: &[u8]) -> Result<String, Fail> {
+    let run = RunReader::open(alloc, text)?;
+    let head = run.into_head();
+    let end = (head.first as usize).saturating_add(head.docs.len());
+    Ok(format!(in alloc; "{}-{end} ", head.first)?)
+}
+
+/// From where to where the runs of the first files of the folder go. The files are removed.
+fn spans_in(rt: &HostRuntime, folder: &str) -> Result<String, Fail> {
+    let mut told = String::new(rt.alloc());
+    for place in 0..9 {
+        let path = format!(in rt.alloc(); "{folder}/run-000000000{place}")?;
+        if let Ok(text) = fs::read(rt, path.as_str()) {
+            told.push_str(&span_of(rt.alloc(), &text)?)?;
+            fs::remove_file(rt, path.as_str())?;
+        }
+    }
+    Ok(told)
+}
+
+/// Cuts of the five documents, and the blocks that they give.
+const CUTS: [(Cut, &str); 8] = [
+    (Cut::Bytes(4), "0-2 2-4 4-5 "),
+    (Cut::Bytes(3), "0-1 1-4 4-5 "),
+    (Cut::Bytes(1), "0-1 1-2 2-4 4-5 "),
+    (Cut::Bytes(9), "0-4 4-5 "),
+    (Cut::Bytes(10), "0-5 "),
+    (Cut::Docs(2), "0-2 2-4 4-5 "),
+    (Cut::Docs(1), "0-1 1-2 2-3 3-4 4-5 "),
+    (Cut::Docs(u32::MAX), "0-5 "),
+];
+
+#[test]
+fn run_files_of_each_cut(rt: HostRuntime) -> Result<(), Fail> {
+    let files = SystemFiles { rt: &rt };
+    let folder = new_path(&rt, "cuts")?;
+    fs::create_dir(&rt, folder.as_str())?;
+    for (cut, want) in CUTS {
+        builds_over_stores_in(&rt, rt.alloc(), &files, &folder, cut)?;
+        if cut == Cut::Bytes(4) {
+            for (place, run) in runs().iter().enumerate() {
+                let path = format!(in rt.alloc(); "{folder}/run-000000000{place}")?;
+                assert_eq!(rt; fs::read(&rt, path.as_str())?.as_slice(), *run);
+            }
+        }
+        assert_eq!(rt; spans_in(&rt, &folder)?.as_str(), want);
+    }
+    fs::remove_dir(&rt, folder.as_str())?;
+    Ok(())
+}

@@ -1,0 +1,311 @@
+//! Work shared among makers of runs: that they work side by side, that their runs stand in order and become one index text,
+//! and which refusal is told.
+ghost use Rattle.std.specs.Prelude.{◌≡◌, vec_len};
+ghost use Rattle.std.specs.Vec.{vec_capacity};
+
+use super::{five_documents, five_documents_index, have_begun};
+use ix_build::{Asked, Built, ByError, MakeError, Maker, Outcome, WorkError, build_by, work_all};
+use ix_run::{Run, invert};
+use ix_text::{Collection, Doc, Memory, StopList};
+use std::alloc::{AllocError, Global};
+use std::process::Abort;
+use std::sync::Wait;
+use std::sync::atomic::AtomicU64;
+use std::sync::atomic::Ordering::SeqCst;
+use std::test::Fail;
+use std::thread::Threads;
+
+/// When a maker of these tests makes a place.
+#[derive(Clone, Copy)]
+enum Rule<'a> {
+    /// At each place but these.
+    Except(&'a [usize]),
+    /// Once so many askings were begun, by any maker.
+    OnceBegun(&'a AtomicU64, u64),
+    /// At this place once so many askings were begun, and at each other place at once.
+    AtOnceBegun(usize, &'a AtomicU64, u64),
+}
+
+/// What makers share: documents, from where to where each block of them goes, and their rule.
+#[derive(Clone, Copy)]
+struct Work<'a> {
+    docs: &'a [Doc<'a>],
+    blocks: &'a [(u32, u32)],
+    rule: Rule<'a>,
+}
+
+/// A maker of the runs of blocks of documents, without stop words.
+#[derive(Drop)]
+struct Inverter<'a> {
+    alloc: Global,
+    work: Work<'a>,
+    asked: Vec<Asked>,
+}
+
+/// The run of a block of documents.
+fn run_of(alloc: Global, docs: &[Doc<'_>], from: u32, to: u32) -> Result<Run, MakeError> {
+    let Some(block) = docs.get(from as usize..to as usize) else {
+        return Err(MakeError::Refused);
+    };
+    match invert(alloc, block, &StopList::empty(alloc), from) {
+        Ok(run) => Ok(run),
+        Err(_) => Err(MakeError::Memory),
+    }
+}
+
+impl<'a> Inverter<'a> {
+    fn may_make(&self, place: usize) -> bool {
+        match self.work.rule {
+            Rule::Except(refused) => !refused.contains(&place),
+            Rule::OnceBegun(begun, wanted) => {
+                begun.fetch_add(1, SeqCst);
+                have_begun(begun, wanted)
+            }
+            Rule::AtOnceBegun(waiting, begun, wanted) => {
+                if place == waiting {
+                    have_begun(begun, wanted)
+                } else {
+                    begun.fetch_add(1, SeqCst);
+                    true
+                }
+            }
+        }
+    }
+
+    fn run_at(&self, place: usize) -> Result<Run, MakeError> {
+        if !self.may_make(place) {
+            return Err(MakeError::Refused);
+        }
+        match self.work.blocks.get(place) {
+            Some((from, to)) => run_of(self.alloc, self.work.docs, *from, *to),
+            None => Err(MakeError::Refused),
+        }
+    }
+}
+
+impl<'a> Maker for Inverter<'a> {
+    ghost use Rattle.std.specs.Prelude.{◌-◌, vec_len};
+    ghost use Rattle.std.specs.Vec.{vec_capacity};
+
+    type Piece = Run;
+
+    ghost askings = { λ maker. maker.asked.items };
+
+    ghost spare = { λ maker. vec_capacity maker.asked - vec_len maker.asked };
+
+    ghost gives = { λ maker place run. Unit {0} };
+
+    ghost follows = { λ old new. Unit {0} };
+
+    ghost follows_itself = { λ maker. tt };
+
+    ghost follows_on = { λ first second third a b. tt };
+
+    fn reserve(&mut self, places: usize) -> Result<(), Memory> {
+        self.asked.reserve(places)
+    }
+
+    fn room(&self) -> usize {
+        self.asked.capacity() - self.asked.len()
+    }
+
+    fn make(&mut self, place: usize) -> Result<Run, MakeError> {
+        match self.run_at(place) {
+            Ok(run) => {
+                self.asked.push_reserved(Asked { place, error: None });
+                Ok(run)
+            }
+            Err(error) => {
+                self.asked.push_reserved(Asked {
+                    place,
+                    error: Some(error),
+                });
+                Err(error)
+            }
+        }
+    }
+
+    fn asked(&self) -> &[Asked] {
+        self.asked.as_slice()
+    }
+}
+
+fn inverters<'a>(
+    alloc: Global,
+    count: usize,
+    work: Work<'a>,
+) -> Result<Vec<Inverter<'a>>, AllocError> {
+    let mut inverters = Vec::new(alloc);
+    for _ in 0..count {
+        inverters.push(Inverter {
+            alloc,
+            work,
+            asked: Vec::new(alloc),
+        })?;
+    }
+    Ok(inverters)
+}
+
+/// The first document of each run, with a blank behind each, or the name of the error.
+fn told_runs(alloc: Global, made: Result<Vec<Run>, WorkError>) -> Result<String, AllocError> {
+    let mut told = String::new(alloc);
+    match made {
+        Ok(runs) => {
+            for run in runs {
+                told.push_str(run.into_head().first.to_string(alloc)?.as_str())?;
+                told.push(' ')?;
+            }
+        }
+        Err(error) => told.push_str(error.to_string(alloc)?.as_str())?,
+    }
+    Ok(told)
+}
+
+/// The places that each maker was asked for, with a blank behind each and a semicolon behind those of a maker.
+fn told_askings(alloc: Global, makers: &[Inverter<'_>]) -> Result<String, AllocError> {
+    let mut told = String::new(alloc);
+    for maker in makers {
+        for asked in &maker.asked {
+            told.push_str(asked.place.to_string(alloc)?.as_str())?;
+            told.push(' ')?;
+        }
+        told.push(';')?;
+    }
+    Ok(told)
+}
+
+/// What so many makers come to that share so many places: the first document of each run or an error, and the askings.
+fn shared(
+    rt: &(impl Abort + Threads + Wait + Sync),
+    alloc: Global,
+    makers: usize,
+    work: Work<'_>,
+    places: usize,
+) -> Result<(String, String), AllocError> {
+    let makers = inverters(alloc, makers, work)?;
+    assert!(rt; 0 < makers.len() && makers.len() <= 64);
+    let Outcome { makers, result } = work_all(rt, alloc, makers, places);
+    Ok((told_runs(alloc, result)?, told_askings(alloc, &makers)?))
+}
+
+/// The same through `build_by`: the error, the askings and what is written.
+fn shared_by(
+    rt: &(impl Abort + Threads + Wait + Sync),
+    alloc: Global,
+    makers: usize,
+    work: Work<'_>,
+    places: usize,
+) -> Result<(Result<(), ByError>, String, Vec<u8>), AllocError> {
+    let makers = inverters(alloc, makers, work)?;
+    assert!(rt; 0 < makers.len() && makers.len() <= 64);
+    let mut out = Vec::new(alloc);
+    let Built { makers, result } = build_by(rt, alloc, makers, places, &mut out);
+    Ok((result, told_askings(alloc, &makers)?, out))
+}
+
+/// A block for each of the five documents, and two blocks of them.
+const ALONE: [(u32, u32); 5] = [(0, 1), (1, 2), (2, 3), (3, 4), (4, 5)];
+
+const HALVES: [(u32, u32); 2] = [(0, 2), (2, 5)];
+
+#[test]
+fn makers_meet(rt: HostRuntime) -> Result<(), Fail> {
+    let collection = Collection::read(rt.alloc(), five_documents())?;
+    let cases: [(&[(u32, u32)], &str, &str); 2] = [
+        (&HALVES, "0 2 ", "0 ;1 ;"),
+        (&ALONE, "0 1 2 3 4 ", "0 ;1 ;2 ;3 ;4 ;"),
+    ];
+    for (blocks, firsts, askings) in cases {
+        let count = blocks.len();
+        let begun = AtomicU64::new(0);
+        let docs = collection.docs();
+        let rule = Rule::OnceBegun(&begun, count as u64);
+        let work = Work { docs, blocks, rule };
+        let found = shared(&rt, rt.alloc(), count, work, count)?;
+        assert!(rt; found.0.as_str() == firsts && found.1.as_str() == askings);
+        begun.store(0, SeqCst);
+        let (result, asked, out) = shared_by(&rt, rt.alloc(), count, work, count)?;
+        assert!(rt; result.is_ok() && asked.as_str() == askings);
+        assert_eq!(rt; out.as_slice(), five_documents_index());
+    }
+    Ok(())
+}
+
+/// Maker 1 waits at its first place until maker 0 has made the three others.
+#[test]
+fn a_free_maker_takes_the_places_of_one_that_waits(rt: HostRuntime) -> Result<(), Fail> {
+    let collection = Collection::read(rt.alloc(), five_documents())?;
+    let begun = AtomicU64::new(0);
+    let rule = Rule::AtOnceBegun(1, &begun, 3);
+    let docs = collection.docs();
+    let blocks = &ALONE;
+    let found = shared(&rt, rt.alloc(), 2, Work { docs, blocks, rule }, 4)?;
+    assert_eq!(rt; found.0.as_str(), "0 1 2 3 ");
+    let (zero, one) = found.1.split_once(';').ok_or("no makers")?;
+    assert!(rt; zero.len() == 6 && !zero.contains('1'), "{zero}");
+    assert_eq!(rt; one, "1 ;");
+    Ok(())
+}
+
+/// Makers, places and those that are refused; what that comes to; each place is asked once.
+const SHARED: [(usize, usize, &[usize], &str); 9] = [
+    (2, 5, &[3, 2], "Make(2, Refused)"),
+    (3, 5, &[0], "Make(0, Refused)"),
+    (3, 5, &[1], "Make(1, Refused)"),
+    (3, 5, &[2], "Make(2, Refused)"),
+    (3, 5, &[3], "Make(3, Refused)"),
+    (3, 5, &[4], "Make(4, Refused)"),
+    (3, 5, &[1, 3], "Make(1, Refused)"),
+    (3, 0, &[], ""),
+    (64, 3, &[], "0 1 2 "),
+];
+
+#[test]
+fn lowest_refusal(rt: HostRuntime) -> Result<(), Fail> {
+    let collection = Collection::read(rt.alloc(), five_documents())?;
+    for (workers, places, refused, want) in SHARED {
+        let docs = collection.docs();
+        let blocks = &ALONE;
+        let rule = Rule::Except(refused);
+        let found = shared(
+            &rt,
+            rt.alloc(),
+            workers,
+            Work { docs, blocks, rule },
+            places,
+        )?;
+        assert_eq!(rt; found.0.as_str(), want);
+        assert_eq!(rt; found.1.matches(' ').count(), places);
+        assert_eq!(rt; found.1.matches(';').count(), workers);
+    }
+    Ok(())
+}
+
+/// Blocks, how many places there are, and why nothing is written.
+const REFUSED: [(&[(u32, u32)], usize, &str); 3] = [
+    (&[(0, 2), (4, 5)], 2, "Merge(Gap(2))"),
+    (&[(0, 2), (2, 4), (4, 5), (0, 2)], 4, "Merge(Overlap(0))"),
+    (&[(0, 2), (4, 5)], 4, "Make(2, Refused)"),
+];
+
+#[test]
+fn refusals_write_nothing(rt: HostRuntime) -> Result<(), Fail> {
+    let collection = Collection::read(rt.alloc(), five_documents())?;
+    let docs = collection.docs();
+    let rule = Rule::Except(&[]);
+    for (blocks, places, want) in REFUSED {
+        let work = Work { docs, blocks, rule };
+        let (result, _, out) = shared_by(&rt, rt.alloc(), 2, work, places)?;
+        let error = result.err().ok_or("no error")?;
+        assert_eq!(rt; error.to_string(rt.alloc())?.as_str(), want);
+        assert!(rt; out.is_empty());
+    }
+    let work = Work {
+        docs,
+        blocks: &[],
+        rule,
+    };
+    let (result, _, out) = shared_by(&rt, rt.alloc(), 3, work, 0)?;
+    assert!(rt; result.is_ok() && out.len() == 64);
+    Ok(())
+}

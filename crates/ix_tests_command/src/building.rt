@@ -1,0 +1,67 @@
+//! What `ix build` writes, and what it refuses.
+
+/// Plans that have one index, plans that are none, and what is refused before the output is created, and afterwards. The
+/// words are read before the collection, and the collection before a run is kept.
+pub const BUILDING: &str = r"$ ix build five new
+$ cmp new five2.ix
+$ ix build --block 1 --workers 3 five new
+$ cmp new five2.ix
+$ ix build --block=2 --workers=1 five new
+$ cmp new five2.ix
+$ ix build --block=2 --workers=3 five new
+$ cmp new five2.ix
+$ ix build five new --workers 64 --block 2
+$ cmp new five2.ix
+$ ix build five new --block 1024
+$ cmp new five2.ix
+$ ix build --bytes 1 --workers 3 five new
+$ cmp new five2.ix
+$ ix build --bytes=3 five new
+$ cmp new five2.ix
+$ ix build --bytes=4 --workers=1 five new
+$ cmp new five2.ix
+$ size new
+119
+$ ix build none-at-all new
+$ size new
+64
+$ put one-word d\tA a\n
+$ ix build one-word new
+$ size new
+81
+$ ix build --stop stop one new
+$ size new
+174
+$ ix build --block 0 five other
+! ix: arguments refused
+$ ix build --block 268435457 five other
+! ix: arguments refused
+$ ix build --bytes 0 five other
+! ix: arguments refused
+$ ix build --bytes 268435457 five other
+! ix: arguments refused
+$ ix build --block=2 --bytes=4 five other
+! ix: arguments refused
+$ ix build --workers 0 five other
+! ix: arguments refused
+$ ix build --workers 65 five other
+! ix: arguments refused
+$ ix build --runs=a --runs=a five other
+! ix: arguments refused
+$ ix ask --runs=a five y
+! ix: arguments refused
+$ ix build --stop two-words no-tab other
+! ix: stop 1: NotOneWord(1)
+$ ix build --runs=no/such/folder no-tab none
+! ix: collection 3: NoTab(1)
+$ ix build no-such other
+! ix: file 1: Read(no-such)
+$ size other
+no such file
+$ ix build five none
+! ix: file 2: Write(none)
+$ ix build five full
+! ix: build 3: Write
+$ ix build --runs=no/such/folder five other
+! ix: build 2: Spill(0)
+";

@@ -1,0 +1,103 @@
+//! Words, and the line that they are read as, or why they are none; and the help that they ask for.
+
+use super::disk::Disk;
+use super::session::{tell, words_of};
+use ix_build::SystemFiles;
+use ix_line::{
+    HELP, HELP_ON_ASK, HELP_ON_BUILD, HELP_ON_LIVE, HELP_ON_MERGE, HELP_ON_RUN, HELP_ON_SEARCH,
+    HELP_ON_TERMS, HELP_ON_UPGRADE, Line, LineError, read_line,
+};
+use std::alloc::Global;
+use std::test::Fail;
+
+/// Reads the words, which stand between spaces. It has no contract, so that the grammar is in view in none of its callers.
+fn read<'a>(alloc: Global, words: &'a [&'a str]) -> Result<Line<'a>, LineError> {
+    read_line(alloc, words)
+}
+
+/// What the words are read as, as it is derived, or the number of the error and its name.
+fn shown(alloc: Global, text: &str) -> Result<String, Fail> {
+    let words = words_of(alloc, text)?;
+    match read(alloc, &words) {
+        Ok(line) => Ok(format!(in alloc; "{line:?}")?),
+        Err(error) => {
+            let number = error.number();
+            Ok(format!(in alloc; "{number} {error}")?)
+        }
+    }
+}
+
+const LINES: [(&str, &str); 14] = [
+    (
+        "ask --stop=s.txt c.txt red",
+        r#"Ask { stop: Some("s.txt"), plan: Plan { cut: Docs(1024), workers: 4, runs: Memory }, collection: "c.txt", query: "red" }"#,
+    ),
+    (
+        "ask c.txt --workers 64 --bytes=7 red",
+        r#"Ask { stop: None, plan: Plan { cut: Bytes(7), workers: 64, runs: Memory }, collection: "c.txt", query: "red" }"#,
+    ),
+    (
+        "build c.txt c.ix --block 7",
+        r#"Build { stop: None, plan: Plan { cut: Docs(7), workers: 4, runs: Memory }, collection: "c.txt", index: "c.ix" }"#,
+    ),
+    (
+        "search c.ix red",
+        r#"Search { index: "c.ix", query: "red" }"#,
+    ),
+    (
+        "terms c.ix re*",
+        r#"Terms { index: "c.ix", pattern: "re*" }"#,
+    ),
+    (
+        "merge c.ix 4.run -- -2.run 0.run",
+        r#"Merge { index: "c.ix", inputs: ["4.run", "-2.run", "0.run"] }"#,
+    ),
+    ("", "1 Clap(MissingSubcommand)"),
+    ("ask c.txt", "1 Clap(MissingRequiredArgument)"),
+    ("ask c.txt red sea", "1 Clap(UnknownArgument)"),
+    ("ask --all c.txt red", "1 Clap(UnknownArgument)"),
+    ("find c.txt red", "1 Clap(InvalidSubcommand)"),
+    ("ask c.txt red --stop", "1 Clap(InvalidValue)"),
+    ("run --first=-1 c.txt c.run", "1 Clap(ValueValidation)"),
+    ("ask --block 7 --bytes 7 c.txt red", "3 Both"),
+];
+
+#[test]
+fn lines_that_are_read_and_refused(rt: HostRuntime) -> Result<(), Fail> {
+    for (text, want) in LINES {
+        assert_eq!(rt; shown(rt.alloc(), text)?.as_str(), want);
+    }
+    Ok(())
+}
+
+/// Words that ask for help, the help that is printed, and what stands in it.
+const HELPS: [(&str, &str, &str); 11] = [
+    ("--help", HELP, "\n  a NEAR/3 b "),
+    ("-h", HELP, "\nExit status: 0 "),
+    ("help", HELP, "\nA collection is a text"),
+    ("ask -h five", HELP_ON_ASK, "\n  inter*, re*ed "),
+    ("help search", HELP_ON_SEARCH, "\n  a NEAR/3 b "),
+    ("terms -h", HELP_ON_TERMS, "Usage: ix "),
+    ("build --help", HELP_ON_BUILD, "Usage: ix "),
+    ("live --help", HELP_ON_LIVE, "Usage: ix "),
+    ("run --help", HELP_ON_RUN, "Usage: ix "),
+    (
+        "help merge",
+        HELP_ON_MERGE,
+        "\nUsage: ix merge INDEX INPUT...\n",
+    ),
+    ("help upgrade", HELP_ON_UPGRADE, "Usage: ix "),
+];
+
+#[test]
+fn help_of_the_program_and_of_each_command(rt: HostRuntime) -> Result<(), Fail> {
+    let disk = Disk::new(rt.alloc());
+    for (line, text, part) in HELPS {
+        let words = words_of(rt.alloc(), line)?;
+        let mut told = String::new(rt.alloc());
+        tell(&rt, &disk, &SystemFiles { rt: &rt }, &words, &mut told)?;
+        assert_eq!(rt; told.as_str(), text);
+        assert!(rt; text.contains(part), "{part}");
+    }
+    Ok(())
+}
