@@ -74,29 +74,13 @@ pub fn short_number(bytes: &[u8]) -> Option<(u32, usize)>
         → bytes.now ≢ code_of number ++ rest) }
 {
     match bytes {
-        [first, second, ..] => foreseen_code(*first, *second),
-        [first] => foreseen_code(*first, 0),
+        [first, second, ..] => short_code(*first, *second),
+        [first] => short_code(*first, 0),
         [] => None,
     }
 }
 
-/// The number above 0 whose code of one byte or two these bytes begin with, and how many it takes, by a branch for each.
-#[inline(always)]
-fn foreseen_code(first: u8, second: u8) -> Option<(u32, usize)>
-    ensures found { IfSome result (λ code. IsShortCode first second code.0 code.1) }
-    ensures none { IfNone result ((first ≡ 0)
-        ⊎ ((first ≡ 128) ⊎ ((first < 128) × (second < 128)))) }
-{
-    if first > 128 {
-        return Some((u32::from(first - 128), 1));
-    }
-    if first == 0 || first == 128 || second < 128 {
-        return None;
-    }
-    Some((u32::from(first) * 128 + u32::from(second - 128), 2))
-}
-
-/// The same, without a branch on how many it takes.
+/// The number above 0 whose code of one byte or two these bytes begin with, and how many it takes. Nothing branches on that.
 #[inline(always)]
 fn short_code(first: u8, second: u8) -> Option<(u32, usize)>
     ensures found { IfSome result (λ code. IsShortCode first second code.0 code.1) }
