@@ -81,15 +81,6 @@ one_more_inverted stop documents more old new tokens tokens' ends ends' rows row
 
 -- ---- the whole block
 
--- the documents of a collection of named texts
-pub documents_are : (stop : List (List ℕ)) (texts : List NamedText) → (collection_of stop texts).documents ≡ documents_of stop texts
-unfolding collection_of
-documents_are stop texts = refl
-
-pub stop_is : (stop : List (List ℕ)) (texts : List NamedText) → (collection_of stop texts).stop ≡ stop
-unfolding collection_of
-stop_is stop texts = refl
-
 pub block_lawful : (stop : List (List ℕ)) (texts : List NamedText) → IsStopSet stop → All (IsLawfulDocument stop) (documents_of stop texts) → length texts ≤ 2 ^ 28 → tokens_of (documents_of stop texts) ≤ 2 ^ 28 → IsLawful (collection_of stop texts)
 unfolding collection_of
 block_lawful stop texts set lawful few tokens = record {

@@ -1,5 +1,6 @@
 -- Terms with their lists close together: what is held is what the rows tell.
 use Rattle.std.proofs.Common.{◌≡◌, ℕ, zero, suc, ◌<◌, ◌≤◌, Option, List, [], ◌∷◌, ◌++◌, length, take, drop, flat_map, All, IsUtf8, refl, sym, ap, ap₂, subst, ◌∙◌, arith, append_assoc, append-nil, length-append}
+use Rattle.std.proofs.lemmas.Grind.{flat_map-append}
 use Rattle.std.proofs.lemmas.List.{drop_at, nil_from_length, take_at}
 use Rattle.std.proofs.lemmas.List.Elements.{All-head, All-nil, All-push, All-tail}
 use Rattle.ix_vbyte.specs.Code.{code_of}
@@ -82,8 +83,7 @@ pub none_held : HoldTerms [] (terms_in [])
 none_held = held_told [] [] (record { of_bytes = refl; each = All-nil MayBeHeld })
 
 flat_push : {A : Type 0} (f : A → List ℕ) (xs : List A) (x : A) → flat_map f (xs ++ x ∷ []) ≡ flat_map f xs ++ f x
-flat_push f [] x = append-nil (f x)
-flat_push f (y ∷ xs) x = ap (λ (bytes : List ℕ). f y ++ bytes) (flat_push f xs x) ∙ sym (append_assoc (f y) (flat_map f xs) (f x))
+flat_push f xs x = flat_map-append f xs (x ∷ []) ∙ ap (λ bytes. flat_map f xs ++ bytes) (append-nil (f x))
 
 pub one_more_held : (bytes : List ℕ) (terms : List TermValue) (value : TermValue) (bytes' : List ℕ) → HoldTerms bytes terms → MayBeHeld value → bytes' ≡ bytes ++ bytes_of_term value → HoldTerms bytes' (terms ++ value ∷ [])
 one_more_held bytes terms value bytes' holds may more = record {
@@ -166,10 +166,6 @@ one_more_put before now later terms left next value so_far step put = record {
   put = subst (Appends before later) (sym (flat_push value_bytes so_far.done value)) (appends_then before now later (flat_map value_bytes so_far.done) (value_bytes value) so_far.put put);
 }
 
-flat_map_append : {A : Type 0} (f : A → List ℕ) (xs ys : List A) → flat_map f (xs ++ ys) ≡ flat_map f xs ++ flat_map f ys
-flat_map_append f [] ys = refl
-flat_map_append f (x ∷ xs) ys = ap (λ (bytes : List ℕ). f x ++ bytes) (flat_map_append f xs ys) ∙ sym (append_assoc (f x) (flat_map f xs) (flat_map f ys))
-
 pub all_put : (before now : Option (List ℕ)) (terms left : List TermValue) → IsPutBefore before now terms left → left ≡ [] → Appends before now (flat_map value_bytes terms)
 all_put before now terms left so_far none =
     let whole : terms ≡ so_far.done = so_far.parts ∙ ap (λ (rest : List TermValue). so_far.done ++ rest) none ∙ append-nil so_far.done in
@@ -182,7 +178,7 @@ front_put before now later terms left next value so_far step put =
     let whole : terms ≡ (so_far.done ++ value ∷ []) ++ next =
     so_far.parts ∙ ap (λ (rest : List TermValue). so_far.done ++ rest) step ∙ sym (append_assoc so_far.done (value ∷ []) next) in
     let bytes : flat_map value_bytes terms ≡ (flat_map value_bytes so_far.done ++ value_bytes value) ++ flat_map value_bytes next =
-    ap (flat_map value_bytes) whole ∙ flat_map_append value_bytes (so_far.done ++ value ∷ []) next
+    ap (flat_map value_bytes) whole ∙ flat_map-append value_bytes (so_far.done ++ value ∷ []) next
     ∙ ap (λ (bs : List ℕ). bs ++ flat_map value_bytes next) (flat_push value_bytes so_far.done value) in
     subst (AppendsFront before later) (sym bytes)
     (front_more _ _ (flat_map value_bytes so_far.done ++ value_bytes value) (flat_map value_bytes next) (front_then _ _ _ (flat_map value_bytes so_far.done) (value_bytes value) so_far.put put))

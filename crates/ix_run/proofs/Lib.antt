@@ -1,7 +1,5 @@
 pub mod Blocks
-pub mod CodedLists
 pub mod CodedPlaces
-pub mod FrontLemmas
 pub mod HeldTermLemmas
 pub mod Inverting
 pub mod Lacking
@@ -17,10 +15,8 @@ pub mod Sorting
 pub mod SpanLemmas
 pub mod StretchMarks
 pub mod TermRows
-pub mod Turning
 pub mod Writing
 pub use Rattle.ix_run_text.proofs.ListSteps
 pub use Rattle.ix_run_text.proofs.ReadFronts
 pub use Rattle.ix_run_text.proofs.RunTold
 pub use Rattle.ix_run_text.proofs.WholeLists
-pub mod ShortRows

@@ -1,7 +1,7 @@
 -- The postings of a term in documents, and that counting its occurrences makes them.
-use Rattle.std.proofs.Common.{◌≡◌, ℕ, zero, suc, ◌+◌, ◌<◌, ◌≤◌, ◌⊎◌, Bool, true, false, cond, bytes_eq, List, [], ◌∷◌, ◌++◌, length, map, fold, Some, None, All, Contains, slice_get, refl, sym, ap, subst, ◌∙◌, inl, inr, arith}
+use Rattle.std.proofs.Common.{◌≡◌, ℕ, zero, suc, ◌+◌, ◌<◌, ◌≤◌, ◌⊎◌, Bool, true, false, cond, bytes_eq, List, [], ◌∷◌, ◌++◌, length, map, fold, Some, None, All, Contains, slice_get, refl, sym, ap, subst, ◌∙◌, eq-eqb, inl, inr, arith}
 use Rattle.std.proofs.lemmas.Bool.{ne_eqb}
-use Rattle.std.proofs.lemmas.List.{append_assoc, append-nil}
+use Rattle.std.proofs.lemmas.List.{append_assoc, append-nil, map-append}
 use Rattle.std.proofs.lemmas.List.Elements.{All-nil, All-cons, Contains-append_right}
 use Rattle.std.proofs.lemmas.List.Sums.{fold-append}
 use Rattle.std.proofs.lemmas.Slice.Eq.{bytes_eq-Decides}
@@ -11,10 +11,10 @@ use Rattle.ix_text.specs.Parts.{Posting, IsTermPosting, AreTermPostings, HasPosi
 use Rattle.ix_text.specs.TokenLists.{Entry}
 use Rattle.ix_text.proofs.PartsLemmas.{injected}
 use Rattle.ix_text.proofs.TokensTold.{contains_head, contains_tail}
-use Rattle.ix_vbyte.specs.Gaps.{Ascends}
-use Rattle.ix_vbyte.proofs.Gaps.{Ascends-lower, Ascends-rising}
+use Rattle.ix_vbyte.specs.Gaps.{Ascends, next_after}
+use Rattle.ix_vbyte.specs.Postings.{documents_of}
+use Rattle.ix_vbyte.proofs.Gaps.{Ascends-lower, Ascends-rising, next_after-push}
 use Rattle.ix_run.specs.Inverted.{grown, occurrences_in, occurrences_of, posted, postings_of}
-use Rattle.ix_run.proofs.CodedLists.{grown-same}
 
 -- the positions of a term in a token list, whose first entry has that position
 abbrev pub positions_at : List ℕ → ℕ → List Entry → List ℕ
@@ -36,29 +36,29 @@ postings_in term number (document ∷ documents) = posting_at number (positions_
 -- ---- counting makes them
 
 -- the last posting is of a document before that one
-abbrev LastBelow : List Posting → ℕ → Type 0
-LastBelow [] number = Unit {0}
-LastBelow (posting ∷ []) number = posting.0 < number
-LastBelow (posting ∷ next ∷ postings) number = LastBelow (next ∷ postings) number
+abbrev pub LastBelow : List Posting → ℕ → Type 0
+LastBelow front number = next_after 0 (documents_of front) ≤ number
 
-grown_later : (front : List Posting) (document position : ℕ) → LastBelow front document → grown front document position ≡ front ++ (document, position ∷ []) ∷ []
-grown_later [] document position below = refl
-grown_later (posting ∷ []) document position below = ap (λ b. cond b ((document, posting.1 ++ position ∷ []) ∷ []) (posting ∷ (document, position ∷ []) ∷ [])) (ne_eqb posting.0 document (λ same. omega arith))
-grown_later (posting ∷ next ∷ front) document position below = ap (λ postings. posting ∷ postings) (grown_later (next ∷ front) document position below)
+pub grown-later : (front : List Posting) (document position : ℕ) → LastBelow front document → grown front document position ≡ front ++ (document, position ∷ []) ∷ []
+grown-later [] document position below = refl
+grown-later (posting ∷ []) document position below = ap (λ b. cond b ((document, posting.1 ++ position ∷ []) ∷ []) (posting ∷ (document, position ∷ []) ∷ [])) (ne_eqb posting.0 document (λ same. omega arith))
+grown-later (posting ∷ next ∷ front) document position below = ap (λ postings. posting ∷ postings) (grown-later (next ∷ front) document position below)
 
-last_below_later : (front : List Posting) (number : ℕ) → LastBelow front number → LastBelow front (number + 1)
-last_below_later [] number below = tt
-last_below_later (posting ∷ []) number below = omega arith
-last_below_later (posting ∷ next ∷ front) number below = last_below_later (next ∷ front) number below
+pub grown-same : (front : List Posting) (document : ℕ) (positions : List ℕ) (position : ℕ)
+    → grown (front ++ (document, positions) ∷ []) document position ≡ front ++ (document, positions ++ position ∷ []) ∷ []
+grown-same [] document positions position = ap (λ b. cond b ((document, positions ++ position ∷ []) ∷ []) ((document, positions) ∷ (document, position ∷ []) ∷ [])) (eq-eqb document document refl)
+grown-same (posting ∷ []) document positions position = ap (λ postings. posting ∷ postings) (grown-same [] document positions position)
+grown-same (posting ∷ next ∷ front) document positions position = ap (λ postings. posting ∷ postings) (grown-same (next ∷ front) document positions position)
 
-last_below_push : (front : List Posting) (number : ℕ) (positions : List ℕ) → LastBelow (front ++ (number, positions) ∷ []) (number + 1)
-last_below_push [] number positions = omega arith
-last_below_push (posting ∷ []) number positions = omega arith
-last_below_push (posting ∷ next ∷ front) number positions = last_below_push (next ∷ front) number positions
+-- one above the last document
+pub next_document-push : (front : List Posting) (document : ℕ) (positions : List ℕ) → next_after 0 (documents_of (front ++ (document, positions) ∷ [])) ≡ document + 1
+next_document-push front document positions =
+    ap (next_after 0) (map-append (λ posting. posting.0) front ((document, positions) ∷ []))
+    ∙ next_after-push 0 (documents_of front) document
 
 last_below_more : (front : List Posting) (number : ℕ) (positions : List ℕ) → LastBelow front number → LastBelow (front ++ posting_at number positions) (number + 1)
-last_below_more front number [] below = let P : List Posting → Type 0 = λ ps. LastBelow ps (number + 1) in subst P (sym (append-nil front)) (last_below_later front number below)
-last_below_more front number (position ∷ positions) below = last_below_push front number (position ∷ positions)
+last_below_more front number [] below = let P : List Posting → Type 0 = λ ps. LastBelow ps (number + 1) in subst P (sym (append-nil front)) (omega arith)
+last_below_more front number (position ∷ positions) below = omega (arith, next_document-push front number (position ∷ positions))
 
 -- in the document of the last posting
 open_fold : (term : List ℕ) (document position : ℕ) (entries : List Entry) (front : List Posting) (positions : List ℕ)
@@ -85,7 +85,7 @@ later_fold term document position (Some other ∷ entries) front below =
     let rest = positions_at term (position + 1) entries in
     elim (bytes_eq other term) as (λ b. fold (posted term) (cond b (grown front document position) front) (occurrences_in document (position + 1) entries) ≡ front ++ posting_at document (cond b (position ∷ rest) rest)) [
       | true ↦
-          ap (λ ps. fold (posted term) ps (occurrences_in document (position + 1) entries)) (grown_later front document position below)
+          ap (λ ps. fold (posted term) ps (occurrences_in document (position + 1) entries)) (grown-later front document position below)
           ∙ open_fold term document (position + 1) entries front (position ∷ [])
       | false ↦ later_fold term document (position + 1) entries front below
     ]
@@ -102,7 +102,7 @@ documents_fold term number (document ∷ documents) front below =
 
 -- counting the occurrences of documents from 0 makes the postings of the term in them
 pub postings_counted : (term : List ℕ) (documents : List Document) → postings_of term (occurrences_of 0 documents) ≡ postings_in term 0 documents
-postings_counted term documents = documents_fold term 0 documents [] tt
+postings_counted term documents = documents_fold term 0 documents [] (omega arith)
 
 -- ---- they are the term's postings
 

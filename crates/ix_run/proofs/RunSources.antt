@@ -7,15 +7,14 @@ use Rattle.ix_text.specs.Parts.{DictionaryEntry, Posting, ArePartsOf, row_of}
 use Rattle.ix_text.specs.PartsLaws.{IsLawfulTerm}
 use Rattle.ix_text.proofs.PartsLawful.{lawful_parts}
 use Rattle.ix_text.proofs.PartsLemmas.{same_entry_fields}
-use Rattle.ix_vbyte.specs.Code.{code_of}
 use Rattle.ix_vbyte.specs.Gaps.{next_after}
 use Rattle.ix_vbyte.specs.Postings.{ArePostings, documents_of, list_bytes, list_bytes_from, shifted}
 use Rattle.ix_vbyte.specs.Walking.{IsCodedList}
 use Rattle.ix_vbyte.proofs.Gaps.{length-Ascends, next_after-le}
 use Rattle.ix_run_text.specs.Heads.{Heading, parts_with}
 use Rattle.ix_run.specs.Runs.{IsRunOf, RunValue, TermValue, coded, last_document, run_value}
-use Rattle.ix_run.specs.RunSources.{AreCoded, BeginsBy, EndsAt, HasGiven, HasLeft, IsAtEndOfTerm, IsAtPlace, SourceValue, heading_shown, unread}
-use Rattle.ix_run_text.specs.Sources.{AreWhole, BeginsTerm, EndsPostings, EndsTerms, GivesList, GivesPosting, closed, entry_with, extended}
+use Rattle.ix_run.specs.RunSources.{AreCoded, EndsAt, HasGiven, HasLeft, IsAtEndOfTerm, IsAtPlace, SourceValue, heading_shown, unread}
+use Rattle.ix_run_text.specs.Sources.{AreWhole, BeginsTerm, EndsTerms, GivesList, GivesPosting, closed, entry_with, extended}
 use Rattle.ix_run_text.proofs.Fronts.{front_lawful}
 use Rattle.ix_run_text.proofs.WholeLists.{codable, list_below, postings_behind, shift_after, shift_postings}
 
@@ -186,13 +185,6 @@ module _ (heading : Heading) (terms : List TermValue) (term : Option (List ℕ))
       (Contains-append_left (finished ++ extended entry [] ∷ []) given.rest (extended entry []) (Contains-push finished (extended entry []))) in
       let some = is.ordered.some in omega (arith, some, length-append entry.postings [])
 
-  -- no posting of the term is left
-  pub ends_postings : EndsPostings HasLeft HasGiven drained drained
-  ends_postings = record {
-    yielded = λ ps entries has. (has.of_term, record { of_term = refl; behind = has.behind });
-    given = λ finished entry given. (given, some_given finished entry given);
-  }
-
 -- ---- a run as a source of which nothing was asked
 
 run_whole : (run : RunValue) (first : ℕ) (collection : Collection) (is : IsRunOf run first collection) → AreWhole (heading_shown run) is.parts.entries
@@ -319,19 +311,6 @@ ends_next last postings left posting is at = by left (subst (EndsAt last) is at)
     by : (ps : List Posting) → EndsAt last (posting ∷ ps) → EndsAt last ps
     by [] at some = absurd (omega arith)
     by (q ∷ qs) at some = at (omega arith)
-
--- ---- the first gap of a list, and the bytes behind its code
-pub begins_none : (rest : List ℕ) (postings : List Posting) → BeginsBy 0 rest postings
-begins_none rest postings some = absurd (omega arith)
-
-pub begins_begun : (all : List TermValue) (value : TermValue) (values : List TermValue) (rest : List DictionaryEntry) (postings : List Posting) (gap : ℕ) (behind : List ℕ) → all ≡ value ∷ values → AreCoded all rest
-    → ToldBy value postings → (0 < gap → value.list ≡ code_of gap ++ behind) → BeginsBy gap behind postings
-begins_begun all value values rest postings gap behind is left told found some =
-    let P : List TermValue → Type 0 = λ values. AreCoded values rest in
-    let first = first_entry value values rest (subst P is left) in
-    let listed : postings ≡ first.entry.postings = told_postings value postings first.entry told first.is first.are in
-    let list : value.list ≡ list_bytes first.entry.postings = ap (λ (v : TermValue). v.list) first.is in
-    ap list_bytes listed ∙ sym list ∙ found some
 
 -- ---- all that is left of a list
 -- what is known of the postings that are left, so that they can be counted from elsewhere

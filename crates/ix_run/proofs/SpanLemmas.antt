@@ -1,5 +1,5 @@
 -- Which document has a token, and at which position; and so which postings the places of a term are.
-use Rattle.std.proofs.Common.{◌≡◌, ℕ, zero, suc, ◌+◌, ◌-◌, ◌<◌, ◌≤◌, Bool, true, false, cond, bytes_eq, List, [], ◌∷◌, ◌++◌, length, get_or, Some, None, refl, sym, ap, ap₂, subst, ◌∙◌, ◌⊎◌, inl, inr, arith}
+use Rattle.std.proofs.Common.{◌≡◌, ℕ, zero, suc, ◌+◌, ◌-◌, ◌<◌, ◌≤◌, Bool, true, false, cond, bytes_eq, List, [], ◌∷◌, ◌++◌, length, get_or, Some, None, refl, sym, ap, ap₂, ◌∙◌, ◌⊎◌, inl, inr, arith}
 use Rattle.std.proofs.lemmas.Bool.{cases_lt, le-ltb, lt-ltb}
 use Rattle.std.proofs.lemmas.List.{append_assoc, append-nil, length-append}
 use Rattle.std.proofs.lemmas.List.Sums.{fold-append}
@@ -61,41 +61,24 @@ pub last_end_le : (start : ℕ) (ends : List ℕ) (place : ℕ) → start ≤ pl
 last_end_le start [] place low each = low
 last_end_le start (end ∷ ends) place low each = last_end_le end ends place (each zero (omega arith)) (λ k within. each (suc k) (omega (arith, within)))
 
+-- what is not before the end of a document is in a later one
+behind_end : (start : ℕ) (ends : List ℕ) (document place : ℕ) → AreEnds start ends → document < length ends → get_or ends document 0 ≤ place → document < (token_at start ends place).0
+behind_end start [] document place are within from = absurd (omega (arith, within))
+behind_end start (end ∷ ends) zero place are within from = let there = ap (λ (t : ℕ × ℕ). t.0) (token_at-above start end ends place from) in omega (arith, there)
+behind_end start (end ∷ ends) (suc document) place are within from =
+    let low = start_le end ends (suc document) are.1 (omega (arith, within)) in
+    let there = ap (λ (t : ℕ × ℕ). t.0) (token_at-above start end ends place (omega (arith, low, from))) in
+    let later = behind_end end ends document place are.1 (omega (arith, within)) from in
+    omega (arith, there, later)
+
 -- the tokens of a document are those between its start and its end
 pub span_of : (ends : List ℕ) (document : ℕ) → AreEnds 0 ends → document < length ends → IsSpan ends document (start_at 0 ends document) (get_or ends document 0)
 span_of ends document are within = record {
   each = λ place from to.
       found_at 0 ends document place within
       (λ k less. let before = before_start 0 ends k document are less (omega (arith, within)) in omega (arith, before, from)) to;
+  later = λ place from. behind_end 0 ends document place are within from;
 }
-
-pub no_span : (ends : List ℕ) → IsSpan ends 0 0 0
-no_span ends = record { each = λ place from to. absurd (omega (arith, to)) }
-
--- a later place is at a later position, or in a later document
-pub token_at-later : (start : ℕ) (ends : List ℕ) (before place : ℕ) → start ≤ before → before < place
-    → ((token_at start ends before).0 ≤ (token_at start ends place).0) × ((token_at start ends before).0 ≡ (token_at start ends place).0 → (token_at start ends before).1 + 1 ≤ (token_at start ends place).1)
-token_at-later start [] before place low less = (omega arith, λ _. omega (arith, low, less))
-token_at-later start (end ∷ ends) before place low less = by (cases_lt before end) (cases_lt place end) (λ high. token_at-later end ends before place high less)
-  where
-    Later : ℕ × ℕ → ℕ × ℕ → Type 0
-    Later one other = (one.0 ≤ other.0) × (one.0 ≡ other.0 → one.1 + 1 ≤ other.1)
-
-    by : (before < end) ⊎ (end ≤ before) → (place < end) ⊎ (end ≤ place) → (end ≤ before → Later (token_at end ends before) (token_at end ends place)) → Later (token_at start (end ∷ ends) before) (token_at start (end ∷ ends) place)
-    by (inl one) (inl other) later =
-        let P : ℕ × ℕ → Type 0 = λ t. Later t (token_at start (end ∷ ends) place) in
-        let Q : ℕ × ℕ → Type 0 = λ t. Later (0, before - start) t in
-        subst P (sym (token_at-below start end ends before one)) (subst Q (sym (token_at-below start end ends place other)) (omega arith, λ _. omega (arith, low, less)))
-    by (inl one) (inr other) later =
-        let P : ℕ × ℕ → Type 0 = λ t. Later t (token_at start (end ∷ ends) place) in
-        let Q : ℕ × ℕ → Type 0 = λ t. Later (0, before - start) t in
-        subst P (sym (token_at-below start end ends before one)) (subst Q (sym (token_at-above start end ends place other)) (omega arith, λ same. absurd (omega (arith, same))))
-    by (inr one) (inl other) later = absurd (omega (arith, one, other, less))
-    by (inr one) (inr other) later =
-        let rest = later one in
-        let P : ℕ × ℕ → Type 0 = λ t. Later t (token_at start (end ∷ ends) place) in
-        let Q : ℕ × ℕ → Type 0 = λ t. Later (1 + (token_at end ends before).0, (token_at end ends before).1) t in
-        subst P (sym (token_at-above start end ends before one)) (subst Q (sym (token_at-above start end ends place other)) (let first = rest.0 in omega (arith, first), λ same. rest.1 (omega (arith, same))))
 
 -- ---- the ends of documents
 
@@ -185,10 +168,6 @@ pub postings_of-places : (term : List ℕ) (documents : List Document) → posti
 postings_of-places term documents =
     in_documents term (token_at 0 (ends_of 0 documents)) 0 0 documents []
     (λ g from. ap (λ (n : ℕ). (n, (token_at 0 (ends_of 0 documents) g).1)) (let same : (token_at 0 (ends_of 0 documents) g).0 ≡ 0 + (token_at 0 (ends_of 0 documents) g).0 = omega arith in same))
-
--- one more place
-pub postings_at-push : (ends places : List ℕ) (place : ℕ) → postings_at ends (places ++ place ∷ []) ≡ grown (postings_at ends places) (token_at 0 ends place).0 (token_at 0 ends place).1
-postings_at-push ends places place = fold-append (grown_at (token_at 0 ends)) [] places (place ∷ [])
 
 -- ---- the document that a search finds
 

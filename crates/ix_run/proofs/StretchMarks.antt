@@ -1,5 +1,5 @@
 -- Marks of stretches of places, made while the ends of the documents are gone through.
-use Rattle.std.proofs.Common.{◌≡◌, refl, ℕ, ◌+◌, ◌-◌, ◌*◌, ◌/◌, ◌<◌, ◌≤◌, List, [], ◌++◌, length, get_or, replicate, ◌⊎◌, inl, inr, ap, subst, sym, take, ◌∙◌, arith}
+use Rattle.std.proofs.Common.{◌≡◌, refl, ℕ, ◌+◌, ◌-◌, ◌*◌, ◌<◌, ◌≤◌, List, ◌++◌, length, get_or, replicate, ◌⊎◌, inl, inr, ap, subst, sym, take, ◌∙◌, arith}
 use Rattle.std.proofs.lemmas.Bool.{cases_lt}
 use Rattle.std.proofs.lemmas.List.{get_or-append_right, get_or-replicate, get_or_append_left, get_or_past, length-append, length-replicate, take_all}
 use Rattle.ix_run.specs.DocumentEnds.{AreMarks}
@@ -8,12 +8,6 @@ use Rattle.ix_run.specs.DocumentEnds.{AreMarks}
 pub record AreMarkedTo (ends marks : List ℕ) (documents : ℕ) : Type 0 where
   pub right : AreMarks 32 ends marks
   pub behind : (k : ℕ) → k < documents → get_or ends k 0 ≤ 32 * length marks
-
-pub none_marked : (ends : List ℕ) → AreMarkedTo ends [] 0
-none_marked ends = record {
-  right = record { within = λ stretch. omega arith; before = λ stretch document low. absurd (omega (arith, low)) };
-  behind = λ k low. absurd (omega (arith, low));
-}
 
 -- a document that ends within the stretches that are marked
 pub kept_marks : (ends marks : List ℕ) (document : ℕ) → get_or ends document 0 ≤ 32 * length marks → AreMarkedTo ends marks document → AreMarkedTo ends marks (document + 1)
@@ -69,10 +63,6 @@ more_marks ends marks document count inside low are = record {
     behind_at k (inr here) less =
         let is : document ≡ k = omega (arith, here, less) in
         subst (λ j. get_or ends j 0 ≤ 32 * length (marks ++ replicate count document)) is (omega (arith, low, size))
-
--- the documents before the mark of a place's stretch end at the place or earlier
-pub marked_before : (ends marks : List ℕ) (place : ℕ) → AreMarks 32 ends marks → (k : ℕ) → k < get_or marks (place / 32) 0 → get_or ends k 0 ≤ place
-marked_before ends marks place are k less = let low = are.before (place / 32) k less in omega (arith, low)
 
 -- the same where the marks are brought to a length
 pub marks_resized : (ends marks now : List ℕ) (document stretches size : ℕ) → size ≡ length marks → size < stretches → document < length ends → now ≡ take stretches marks ++ replicate (stretches - size) document

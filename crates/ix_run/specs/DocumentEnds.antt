@@ -24,9 +24,10 @@ abbrev pub AreEnds : ℕ → List ℕ → Type 0
 AreEnds start [] = ⊤
 AreEnds start (end ∷ ends) = (start ≤ end) × AreEnds end ends
 
--- Each place between the two is of that document, whose first token stands at `start`.
+-- Each place between the two is of that document, whose first token stands at `start`, and each from `end` on is of a later one.
 pub record IsSpan (ends : List ℕ) (document start end : ℕ) : Type 0 where
   pub each : (place : ℕ) → start ≤ place → place < end → token_at 0 ends place ≡ (document, place - start)
+  pub later : (place : ℕ) → end ≤ place → document < (token_at 0 ends place).0
 
 -- the postings of a term that stands at these places
 abbrev pub postings_at : List ℕ → List ℕ → List Posting

@@ -1,5 +1,5 @@
 -- Terms with their lists close together in memory: of each its coded row, its text and its list, one term behind another.
-use Rattle.std.specs.Prelude.{◌≡◌, ℕ, zero, suc, ◌^◌, ◌<◌, ◌≤◌, List, [], ◌∷◌, ◌++◌, length, flat_map, take, drop, All, IsUtf8, slice_index}
+use Rattle.std.specs.Prelude.{◌≡◌, ℕ, zero, suc, ◌^◌, ◌<◌, List, [], ◌∷◌, ◌++◌, length, flat_map, take, drop, All, IsUtf8}
 use Rattle.ix_vbyte.specs.Code.{code_of}
 use Rattle.ix_vbyte.specs.CodesIn.{numbers_in}
 use Rattle.ix_run.specs.Runs.{TermValue}
@@ -26,11 +26,6 @@ pub record BeginsWithRow (bytes : List ℕ) : Type 0 where
   pub rest : List ℕ
   pub is : IsRow row
   pub coded : bytes ≡ bytes_of_row row ++ rest
-
--- The bytes begin with four codes of one byte each.
-pub record BeginsWithShortCodes (bytes : List ℕ) : Type 0 where
-  pub four : 4 ≤ length bytes
-  pub short : (place : ℕ) → place < 4 → 128 ≤ slice_index bytes place
 
 -- What was read from the front of the bytes is the row that stands there, and what follows it.
 abbrev pub ReadsRow : List ℕ → TermRow → List ℕ → Type 0

@@ -2,7 +2,6 @@ pub mod CodedTerms
 pub mod Dictionaries
 pub mod DocumentEnds
 pub mod Errors
-pub mod Fronts
 pub mod HeldTerms
 pub mod Inverted
 pub mod PlaceSorts
@@ -10,7 +9,6 @@ pub mod RunFiles
 pub mod RunSources
 pub mod Runs
 pub mod SeenWords
-pub mod TermLists
 pub mod Writing
 pub use Rattle.ix_run_text.specs.Faults
 pub use Rattle.ix_run_text.specs.Heads

@@ -4,7 +4,7 @@ use Rattle.ix_text.specs.Parts.{DictionaryEntry, Posting}
 use Rattle.ix_run_text.specs.Reading.{Faces, HasRead, IsDrained, MayYield, term_of}
 use Rattle.ix_run.specs.Runs.{TermValue, coded}
 use Rattle.ix_run_text.specs.Sources.{entry_with, extended}
-use Rattle.ix_run.specs.declared.run_file.ReadTerm.{ReadTerm}
+use Rattle.ix_run.specs.declared.read.ReadTerm.{ReadTerm}
 use Rattle.ix_run_text.specs.declared.run_reader.RunReader.{RunReader}
 
 -- a term that was read, as its value

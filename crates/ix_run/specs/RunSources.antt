@@ -2,9 +2,8 @@
 use Rattle.std.specs.Prelude.{◌≡◌, ◌≢◌, ℕ, ◌+◌, ◌-◌, ◌^◌, ◌<◌, List, [], ◌∷◌, ◌++◌, map, length, All, Option, None, option_map}
 use Rattle.std.specs.declared.alloc.AllocError.{AllocError}
 use Rattle.ix_text.specs.Parts.{DictionaryEntry, Posting}
-use Rattle.ix_vbyte.specs.Code.{code_of}
 use Rattle.ix_vbyte.specs.Gaps.{next_after}
-use Rattle.ix_vbyte.specs.Postings.{ArePostings, documents_of, list_bytes}
+use Rattle.ix_vbyte.specs.Postings.{ArePostings, documents_of}
 use Rattle.ix_run_text.specs.Heads.{Heading}
 use Rattle.ix_run.specs.Runs.{RunValue, TermValue, coded}
 use Rattle.ix_run_text.specs.Sources.{AreWhole, IsLawfulFront, closed}
@@ -65,10 +64,6 @@ pub record FirstExceeds (room : ℕ) (postings : List Posting) : Type 0 where
 -- the last of the postings that are left, where one is, is of this document
 abbrev pub EndsAt : ℕ → List Posting → Type 0
 EndsAt last postings = 0 < length postings → next_after 0 (documents_of postings) ≡ last + 1
-
--- the first gap of the list of these postings, none of which was taken, and the bytes behind its code; or the gap is 0
-abbrev pub BeginsBy : ℕ → List ℕ → List Posting → Type 0
-BeginsBy gap rest postings = 0 < gap → list_bytes postings ≡ code_of gap ++ rest
 
 -- What a run in memory is at any time: at some place of a lawful dictionary.
 pub record IsAtPlace (source : SourceValue) : Type 0 where

@@ -1,7 +1,6 @@
 //! The terms of a run with their coded lists, close together in memory.
-ghost use Rattle.std.specs.Prelude.{◌≡◌, ◌+◌, ◌^◌, ◌<◌, [], ◌∷◌, ◌++◌, length, take, IfOk, IfSome, IsTrue, MatchOption, OnErr, OnOk};
-ghost use Rattle.ix_run.specs.Fronts.{IsFrontOf};
-ghost use Rattle.ix_run.specs.HeldTerms.{BeginsWithRow, BeginsWithShortCodes, ReadsRow, bytes_of_row};
+ghost use Rattle.std.specs.Prelude.{◌≡◌, ◌+◌, ◌^◌, ◌<◌, [], ◌∷◌, ◌++◌, length, take, IfOk, MatchOption, OnErr, OnOk};
+ghost use Rattle.ix_run.specs.HeldTerms.{BeginsWithRow, ReadsRow, bytes_of_row};
 ghost use Rattle.ix_run.specs.Runs.{term_shown};
 
 use ix_text::Memory;
@@ -22,7 +21,7 @@ pub(crate) struct CodedTerm<'a> {
     pub(crate) list: &'a [u8],
 }
 
-/// What is kept of a term beside its text and its list.
+/// The numbers that are kept with the text and the list of a term.
 #[derive(Clone, Copy)]
 struct TermRow {
     // the bytes of its text and of its list
@@ -32,14 +31,14 @@ struct TermRow {
     last: u32,
 }
 
-/// A number of bytes as a row has it. 2^32 bytes or more find no room.
+/// A number of bytes as a row has it. Out of memory for 2^32 bytes or more.
 pub(crate) fn byte_count(bytes: usize) -> Result<u32, Memory>
     ensures { IfOk result (λ count. count ≡ bytes) }
 {
     u32::try_from(bytes).map_err(|_| AllocError)
 }
 
-/// Appends a term: its row, its text and its list. A refusal leaves the bytes as they were.
+/// Appends a term: its row, its text and its list. An error leaves the bytes as they were.
 fn push_term(bytes: &mut Vec<u8>, row: TermRow, text: &[u8], list: &[u8]) -> Result<(), AllocError>
     ensures pushed { OnOk result (bytes.new.items
         ≡ bytes.old.items ++ (bytes_of_row row ++ (text.now ++ list.now))) }
@@ -53,7 +52,7 @@ fn push_term(bytes: &mut Vec<u8>, row: TermRow, text: &[u8], list: &[u8]) -> Res
     pushed
 }
 
-/// The same, but that a refusal may leave a beginning.
+/// The same, but an error may leave a beginning of what is appended.
 fn append_term(
     bytes: &mut Vec<u8>,
     row: TermRow,
@@ -69,7 +68,7 @@ fn append_term(
     bytes.extend_from_slice(list)
 }
 
-/// Appends the codes of a row's numbers. A refusal may leave a beginning.
+/// Appends the codes of a row's numbers. An error may leave some of them.
 fn append_row(bytes: &mut Vec<u8>, row: TermRow) -> Result<(), AllocError>
     ensures pushed { OnOk result (bytes.new.items ≡ bytes.old.items ++ bytes_of_row row) }
     ensures kept { OnErr result (take (length bytes.old.items) bytes.new.items ≡ bytes.old.items) }
@@ -80,16 +79,12 @@ fn append_row(bytes: &mut Vec<u8>, row: TermRow) -> Result<(), AllocError>
     push_code(bytes, row.last)
 }
 
-/// The row at the front, and what follows it. In a block of few documents most rows have codes of one byte, which are all
-/// looked at at once.
-#[inline(always)]
+/// The row at the front, and what follows it.
+#[inline]
 fn first_row(bytes: &[u8]) -> (TermRow, &[u8])
     requires { BeginsWithRow bytes.now }
     ensures { ReadsRow bytes.now result.0 result.1.now }
 {
-    if begins_with_short_codes(bytes) {
-        return first_short_row(bytes);
-    }
     let (text, rest) = first_number(bytes);
     let (list, rest) = first_number(rest);
     let (documents, rest) = first_number(rest);
@@ -103,39 +98,10 @@ fn first_row(bytes: &[u8]) -> (TermRow, &[u8])
     (row, rest)
 }
 
-/// Whether the bytes begin with four codes of one byte each.
-#[inline(always)]
-fn begins_with_short_codes(bytes: &[u8]) -> bool
-    ensures { IsTrue result → BeginsWithShortCodes bytes.now }
-{
-    match bytes.first_chunk::<4>() {
-        Some([one, two, three, four]) => {
-            (*one >= 128) & (*two >= 128) & (*three >= 128) & (*four >= 128)
-        }
-        None => false,
-    }
-}
-
-/// The row at the front, whose codes have one byte each.
-#[inline(always)]
-fn first_short_row(bytes: &[u8]) -> (TermRow, &[u8])
-    requires { BeginsWithShortCodes bytes.now }
-    ensures { ReadsRow bytes.now result.0 result.1.now }
-{
-    let row = TermRow {
-        text: u32::from(bytes[0] % 128),
-        list: u32::from(bytes[1] % 128),
-        documents: u32::from(bytes[2] % 128),
-        last: u32::from(bytes[3] % 128),
-    };
-    (row, &bytes[4..])
-}
-
 /// Terms with their coded lists. Contracts see the list of their values.
 ///
-/// A run may have a million terms: a piece of memory for each text and each list would take more than these do. A merge
-/// goes through a thousand runs at a time, and each term of each is a wait for memory: so all that is kept of a term
-/// stands together.
+/// A run may have a million terms. A piece of memory for each text and each list would take more than these do, so one
+/// vector has all of them.
 #[derive(Drop)]
 pub(crate) struct CodedTerms {
     // of each term its coded row, its text and its list, one term behind another
@@ -155,7 +121,7 @@ impl Model for CodedTerms {
 }
 
 impl CodedTerms {
-    /// No terms, with room for so many bytes.
+    /// No terms, with room for that many bytes.
     pub(crate) fn with_room(alloc: Global, bytes: usize) -> Result<CodedTerms, Memory>
         ensures { IfOk result (λ terms. terms ≡ []) }
     {
@@ -164,7 +130,7 @@ impl CodedTerms {
         })
     }
 
-    /// Adds a term behind the others. A refusal, also of a text or a list of 2^32 bytes or more, leaves them as they
+    /// Adds a term behind the others. Out of memory, also for a text or a list of 2^32 bytes or more, leaves them as they
     /// were.
     pub(crate) fn push(&mut self, term: CodedTerm<'_>) -> Result<(), Memory>
         ensures pushed { OnOk result (self.new ≡ self.old ++ term_shown term.entry ∷ []) }
@@ -218,28 +184,26 @@ impl<'a> Model for TermWalk<'a> {
 }
 
 impl<'a> TermWalk<'a> {
-    /// The next term, with the bytes from its list on; none behind the last.
-    #[inline(always)]
-    pub(crate) fn next(&mut self) -> Option<(CodedTerm<'a>, &'a [u8])>
-        ensures told { MatchOption result ((self.old ≡ []) × (self.new ≡ []))
-            (λ found. self.old ≡ term_shown found.0 ∷ self.new) }
-        ensures onward { IfSome result (λ found. IsFrontOf found.0.list.now found.1.now) }
+    /// The next term, or none behind the last.
+    #[inline]
+    pub(crate) fn next(&mut self) -> Option<CodedTerm<'a>>
+        ensures { MatchOption result ((self.old ≡ []) × (self.new ≡ []))
+            (λ term. self.old ≡ term_shown term ∷ self.new) }
     {
         if self.bytes.is_empty() {
             return None;
         }
         let (row, rest) = first_row(self.bytes);
-        let (text, onward) = rest.split_at(row.text as usize);
-        let (list, rest) = onward.split_at(row.list as usize);
+        let (text, rest) = rest.split_at(row.text as usize);
+        let (list, rest) = rest.split_at(row.list as usize);
         self.bytes = rest;
         // SAFETY: `push` got these bytes as text, and so the invariant has them.
         let term = unsafe { str::from_utf8_unchecked(text) };
-        let coded = CodedTerm {
+        Some(CodedTerm {
             term,
             documents: row.documents,
             last: row.last,
             list,
-        };
-        Some((coded, onward))
+        })
     }
 }

@@ -3,7 +3,7 @@
 use crate::coded_terms::CodedTerms;
 use crate::errors::WriteError;
 use crate::run_source::RunSource;
-use crate::run_text::put_run;
+use crate::write::put_run;
 use ix_run_text::RunHead;
 use std::io::Write;
 use std::marker::Model;

@@ -6,10 +6,11 @@ ghost use Rattle.ix_run.specs.DocumentEnds.{AreMarks, AreSpans, IsSpan, last_end
 use ix_text::Memory;
 use std::alloc::Global;
 
-/// How many places a stretch has. Verses have as many words each; a search by halves would guess wrong ten times a token.
+/// How many places a stretch has, about as many as a verse has words. A binary search would mispredict ten branches a
+/// token.
 const STRETCH: usize = 32;
 
-/// The tokens of a document among those of its block.
+/// The range of a document's tokens among those of its block.
 #[derive(Clone, Copy)]
 pub(crate) struct Span {
     /// The document, from 0.
@@ -18,40 +19,6 @@ pub(crate) struct Span {
     pub(crate) start: u32,
     /// The place behind its last token.
     pub(crate) end: u32,
-}
-
-impl Span {
-    /// No tokens, before those of the first document.
-    pub(crate) fn none() -> Span
-        ensures { result ≡ record { document = 0; start = 0; end = 0 } }
-    {
-        Span {
-            document: 0,
-            start: 0,
-            end: 0,
-        }
-    }
-
-    /// That of the document which has the token at a place, where a document may have several of those that are asked
-    /// for one after another: so this one is looked at first.
-    #[inline]
-    pub(crate) fn of(self, ends: &[u32], marks: &[u32], place: u32) -> Span
-        requires spans { AreSpans ends.now }
-        requires marks { AreMarks 32 ends.now marks.now }
-        requires within { place < last_end 0 ends.now }
-        requires behind { self.start ≤ place }
-        requires low { self.document < 2 ^ 28 }
-        requires span { IsSpan ends.now self.document self.start self.end }
-        ensures from { result.start ≤ place }
-        ensures to { place < result.end }
-        ensures low { result.document < 2 ^ 28 }
-        ensures span { IsSpan ends.now result.document result.start result.end }
-    {
-        if place < self.end {
-            return self;
-        }
-        find_span(ends, marks, place)
-    }
 }
 
 /// The marks of documents that end there: of each stretch of 32 places, the first document that ends behind its beginning.
@@ -70,8 +37,8 @@ pub(crate) fn mark_stretches(alloc: Global, ends: &[u32]) -> Result<Vec<u32>, Me
     Ok(marks)
 }
 
-/// The span of the document which has the token at a place: from the mark of its stretch it is few documents.
-fn find_span(ends: &[u32], marks: &[u32], place: u32) -> Span
+/// The span of the document that has the token at a place. From the mark of its stretch it is a few documents away.
+pub(crate) fn find_span(ends: &[u32], marks: &[u32], place: u32) -> Span
     requires spans { AreSpans ends.now }
     requires marks { AreMarks 32 ends.now marks.now }
     requires within { place < last_end 0 ends.now }

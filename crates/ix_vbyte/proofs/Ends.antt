@@ -1,12 +1,10 @@
 -- Where codes end, byte by byte and several bytes at a time.
-use Rattle.std.proofs.Common.{◌≡◌, ℕ, zero, suc, ◌+◌, ◌-◌, ◌/◌, ◌%◌, ◌^◌, ◌<◌, ◌≤◌, cond, ltb, leb, List, [], ◌∷◌, ◌++◌, length, take, drop, get_or, map, replicate, count_by, slice_get, Some, refl, sym, ap, ap₂, ◌∙◌, ⊎_elim, arith, take-append-drop, w8}
+use Rattle.std.proofs.Common.{◌≡◌, ℕ, zero, suc, ◌+◌, ◌-◌, ◌/◌, ◌%◌, ◌<◌, ◌≤◌, cond, ltb, leb, List, [], ◌∷◌, ◌++◌, length, take, drop, get_or, count_by, refl, sym, ap, ap₂, ◌∙◌, ⊎_elim, arith, take-append-drop}
 use Rattle.std.specs.Int.Digits.{digits_of}
-use Rattle.std.specs.Simd.Lanes.{zip2, mask_l, top}
 use Rattle.std.proofs.lemmas.Bool.{lt-ltb, le-ltb, lt-leb, le-leb, cases_lt}
-use Rattle.std.proofs.lemmas.List.{append_assoc, drop_more, drop_all, length-map, length-append, length-take-le}
+use Rattle.std.proofs.lemmas.List.{append_assoc, drop_more, drop_all, length-append, length-take-le}
 use Rattle.std.proofs.lemmas.List.Elements.{All-head, All-tail}
 use Rattle.std.proofs.lemmas.List.Sums.{sum_by-cons}
-use Rattle.std.proofs.lemmas.Simd.{tops_compared, zip2_splat_left, mask_l-mod}
 use Rattle.ix_vbyte.specs.Code.{AreUnmarked, code_of}
 use Rattle.ix_vbyte.specs.Ends.{end_of}
 use Rattle.ix_vbyte.specs.Postings.{codes_of}
@@ -97,12 +95,6 @@ front_more size rest front behind left ends room first others counted fewer =
     ap (λ xs. end_of left xs) whole ∙ end_of-append left front behind fewer'
     ∙ ap₂ (λ n m. n + end_of (left - m) behind) long (sym counted)
 
--- the top bits of a vector
-pub by_mask : (bytes : List ℕ) → length bytes ≡ 16 → mask_l (map (top 7) (zip2 (λ a b. cond (leb a b) 255 0) (replicate 16 128) bytes)) % 2 ^ 64 ≡ mask_l (map (λ byte. leb 128 byte) bytes)
-by_mask bytes long =
-    ap (λ ms. mask_l ms % 2 ^ 64) (tops_compared w8 leb (replicate 16 128) bytes ∙ zip2_splat_left leb 128 16 bytes long)
-    ∙ mask_l-mod (map (λ byte. leb 128 byte) bytes) 64 (omega (arith, length-map bytes (λ byte. leb 128 byte)))
-
 -- ---- codes
 end_of-code : (count last : ℕ) (front rest : List ℕ) → AreUnmarked front → 128 ≤ last → end_of (suc count) ((front ++ last ∷ []) ++ rest) ≡ length (front ++ last ∷ []) + end_of count rest
 end_of-code count last [] rest low high = marked_first count last rest high ∙ (omega arith)
@@ -123,13 +115,6 @@ end_of-codes (n ∷ numbers) rest =
     ∙ end_of-code_of (length numbers) n (codes_of numbers ++ rest)
     ∙ ap (λ k. length (code_of n) + k) (end_of-codes numbers rest)
     ∙ sym (length-append (code_of n) (codes_of numbers))
-
--- a code of one byte
-pub one_code_first : (bytes : List ℕ) (byte : ℕ) → slice_get bytes 0 ≡ Some byte → 128 ≤ byte → 1 ≡ end_of 1 bytes
-one_code_first [] byte some high = absurd (cc)
-one_code_first (b ∷ bytes) byte some high =
-    let same : b ≡ byte = cc in
-    sym (marked_first 0 b bytes (omega arith) ∙ ap suc (end_of-none bytes))
 
 -- an end that was found in the first bytes, whatever follows them
 pub found_in_front : (count many : ℕ) (bytes front : List ℕ) (end : ℕ) → front ≡ take many bytes → ((behind : List ℕ) → end_of count (front ++ behind) ≡ end) → end ≡ end_of count bytes

@@ -256,12 +256,3 @@ read_two (a ∷ b ∷ bytes) number begins some below marked byte is =
 
 pub reads_two : (bytes : List ℕ) (number : ℕ) → BeginsWithNumber bytes → 1 < length bytes → get_or bytes 0 0 < 128 → 128 ≤ get_or bytes 1 0 → get_or bytes 1 0 < 256 → number ≡ get_or bytes 0 0 * 128 + get_or bytes 1 0 % 128 → ReadsNumber bytes number (take (length bytes - 2) (drop 2 bytes))
 reads_two bytes number begins some below marked byte is = subst (ReadsNumber bytes number) (sym (take_rest bytes 2)) (reads_from bytes number 2 (read_two bytes number begins some below marked byte is))
-
--- the same of bytes that are named
-pub first_of_one : (a number : ℕ) (rest : List ℕ) → 128 ≤ a → a < 256 → number ≡ a % 128 → ReadsNumber (a ∷ rest) number rest
-first_of_one a number rest marked byte is = reads_from (a ∷ rest) number 1 (read_one (a ∷ rest) number (omega arith) marked byte is)
-
-pub first_of_two : (a b number : ℕ) (rest : List ℕ) → a < 128 → 128 ≤ b → b < 256 → number ≡ a * 128 + b % 128 → ReadsNumber (a ∷ b ∷ rest) number rest
-first_of_two a b number rest below marked byte is written others fits coded =
-    let begins : BeginsWithNumber (a ∷ b ∷ rest) = record { number = written; rest = others; fits = fits; coded = coded } in
-    reads_from (a ∷ b ∷ rest) number 2 (read_two (a ∷ b ∷ rest) number begins (omega arith) below marked byte is) written others fits coded

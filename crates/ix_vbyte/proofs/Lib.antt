@@ -1,4 +1,3 @@
-pub mod Cutting
 pub mod Ends
 pub mod EndsByByte
 pub mod Fronts

@@ -1,12 +1,11 @@
 -- Coded lists of postings.
-use Rattle.std.proofs.Common.{◌≡◌, ℕ, ◌+◌, ◌-◌, ◌<◌, ◌≤◌, List, [], ◌∷◌, ◌++◌, length, flat_map, zip, refl, sym, ap, ap₂, ◌∙◌, subst, arith}
-use Rattle.std.proofs.lemmas.List.{append_assoc, append-nil, map-append}
-use Rattle.std.proofs.lemmas.List.Elements.{All-head, All-tail, All-push}
+use Rattle.std.proofs.Common.{◌≡◌, ℕ, ◌+◌, ◌-◌, ◌≤◌, List, [], ◌∷◌, ◌++◌, length, flat_map, zip, refl, sym, ap, ap₂, ◌∙◌, subst, arith}
+use Rattle.std.proofs.lemmas.List.{append_assoc, append-nil}
+use Rattle.std.proofs.lemmas.List.Elements.{All-head, All-tail}
 use Rattle.ix_vbyte.specs.Code.{code_of}
 use Rattle.ix_vbyte.specs.Gaps.{Ascends, gaps_from, gaps_of, next_after}
 use Rattle.ix_vbyte.specs.Postings.{Posting, documents_of, IsPosting, ArePostings, codes_of, posting_bytes, list_bytes_from}
 use Rattle.ix_vbyte.proofs.Values.{code_of-apart}
-use Rattle.ix_vbyte.proofs.Gaps.{Ascends-push}
 
 -- As many numbers, ascending from one place, are told by the codes of their gaps.
 pub gaps_apart : (next top : ℕ) (xs ys : List ℕ) (rest other : List ℕ) → Ascends next top xs → Ascends next top ys → length xs ≡ length ys → codes_of (gaps_from next xs) ++ rest ≡ codes_of (gaps_from next ys) ++ other → (xs ≡ ys) × (rest ≡ other)
@@ -67,12 +66,6 @@ list_bytes_from-push next [] p = append-nil (posting_bytes (p.0 + 1 - next) p)
 list_bytes_from-push next (q ∷ qs) p =
     ap (λ xs. posting_bytes (q.0 + 1 - next) q ++ xs) (list_bytes_from-push (q.0 + 1) qs p)
     ∙ sym (append_assoc (posting_bytes (q.0 + 1 - next) q) (list_bytes_from (q.0 + 1) qs) (posting_bytes (p.0 + 1 - next_after (q.0 + 1) (documents_of qs)) p))
-
-pub ArePostings-push : (low top : ℕ) (ps : List Posting) (p : Posting) → ArePostings low top ps → next_after low (documents_of ps) ≤ p.0 → p.0 < top → IsPosting top p → ArePostings low top (ps ++ p ∷ [])
-ArePostings-push low top ps p a above below is = record {
-  documents = subst (Ascends low top) (sym (map-append (λ posting. posting.0) ps (p ∷ []))) (Ascends-push low top (documents_of ps) p.0 a.documents above below);
-  each = All-push (IsPosting top) ps p a.each is;
-}
 
 -- for each document the bytes of its posting, whose gap is the document's
 pub list_bytes_from-zip : (next : ℕ) (ps : List Posting) → list_bytes_from next ps ≡ flat_map (λ pair. posting_bytes pair.0 pair.1) (zip (gaps_from next (documents_of ps)) ps)

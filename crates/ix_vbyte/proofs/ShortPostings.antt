@@ -1,11 +1,10 @@
 -- Postings of one position, from their first five bytes.
-use Rattle.std.proofs.Common.{append_assoc, ◌≡◌, ℕ, zero, suc, refl, ◌+◌, ◌-◌, ◌*◌, ◌/◌, ◌%◌, ◌^◌, ◌<◌, ◌≤◌, ◌⊎◌, List, [], ◌∷◌, ◌++◌, length, drop, get_or, Option, None, Some, IfNone, sym, ap, ap₂, ◌∙◌, arith, inl, inr}
+use Rattle.std.proofs.Common.{append_assoc, ◌≡◌, ℕ, zero, suc, refl, ◌+◌, ◌-◌, ◌*◌, ◌/◌, ◌%◌, ◌^◌, ◌<◌, ◌≤◌, ◌⊎◌, List, [], ◌∷◌, ◌++◌, length, drop, get_or, Option, None, Some, IfNone, sym, ap, ◌∙◌, arith, inl, inr}
 use Rattle.std.proofs.lemmas.Bool.{cases_lt}
-use Rattle.std.proofs.lemmas.List.{append-nil, length-append}
+use Rattle.std.proofs.lemmas.List.{length-append}
 use Rattle.std.specs.Int.Digits.{digits_of}
 use Rattle.std.proofs.lemmas.Int.Digits.{digits_of_step}
 use Rattle.ix_vbyte.specs.Code.{code_of}
-use Rattle.ix_vbyte.specs.Postings.{posting_bytes}
 use Rattle.ix_vbyte.specs.ShortPostings.{BeginsWithShort, BeginsWithSingle, IsShortCode, single_bytes}
 
 -- a marked byte is a code
@@ -34,12 +33,6 @@ code_of-two first second number some below marked byte is =
 
 one_is : code_of 1 ≡ 129 ∷ []
 one_is = code_of-one 129 1 (omega arith) (omega arith) (omega arith)
-
--- the bytes of a posting of one position
-pub posting_single : (gap document position : ℕ) → posting_bytes gap (document, position ∷ []) ≡ (code_of gap ++ 129 ∷ []) ++ code_of (position + 1)
-posting_single gap document position =
-    let place : position + 1 - 0 ≡ position + 1 = omega arith in
-    ap₂ (λ (one rest : List ℕ). (code_of gap ++ one) ++ rest) one_is (append-nil (code_of (position + 1 - 0)) ∙ ap code_of place)
 
 -- what two bytes begin with is the code of its number
 record IsSpelled (first second number size : ℕ) (rest : List ℕ) : Type 0 where

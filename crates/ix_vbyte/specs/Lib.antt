@@ -4,7 +4,6 @@ pub mod Decoded
 pub mod Ends
 pub mod Gaps
 pub mod Numbers
-pub mod OnePosition
 pub mod Postings
 pub mod Reading
 pub mod ShortPostings

@@ -1,16 +1,17 @@
-//! Walking a coded list of postings without decoding positions that nobody asks for.
+//! Walking a coded list of postings. Positions are decoded only when they are read.
 ghost use Rattle.std.specs.Prelude.{◌≡◌, ◌^◌, ◌-◌, ℕ, List, [], ◌∷◌, length, IfNone, IfSome, OnOk};
 ghost use Rattle.std.specs.Prelude.{◌+◌, ◌<◌, ◌≤◌, ◌++◌, OnErr, vec_capacity, vec_len};
 ghost use Rattle.std.specs.Iterator.{YieldsFirstBy, item_count};
-ghost use Rattle.ix_vbyte.specs.OnePosition.{ReadsSingle};
 ghost use Rattle.ix_vbyte.specs.Postings.{ArePostings, list_bytes, list_bytes_from, shifted};
+ghost use Rattle.ix_vbyte.specs.ShortPostings.{BeginsWithSingle};
 ghost use Rattle.ix_vbyte.specs.Skips.{AreSkips};
 ghost use Rattle.ix_vbyte.specs.Walking.{IsCodedList, BeginsWithPosting, ReadsPosting, from_document};
 
 use crate::appending::push_code_and;
 use crate::decoding::first_number;
+use crate::encoding::code_len;
 pub use crate::positions::Positions;
-use crate::singles::{Single, WORD, single_posting};
+use crate::short_postings::{ShortPosting, short_posting};
 use crate::skip_codes;
 pub use crate::skips::Skip;
 use crate::skips::pass_skips;
@@ -35,8 +36,10 @@ impl<'a> Posting<'a> {
         self.positions.again()
     }
 
-    /// Puts the positions, and nothing else, into a vector. Where memory is refused, which it is only where they find
-    /// no room, the vector holds anything.
+    /// Replaces what a vector holds by the positions.
+    ///
+    /// # Errors
+    /// Out of memory, if they find no room. The vector then holds anything.
     pub fn read_positions(&self, positions: &mut Vec<u32>) -> Result<(), AllocError>
         ensures ok { OnOk result (positions.new.items ≡ self.now.positions) }
         ensures full { OnErr result (vec_capacity positions.old < length self.now.positions) }
@@ -50,34 +53,32 @@ impl<'a> Posting<'a> {
     }
 }
 
-/// The posting whose bytes stand at the front, and what follows them.
+/// The posting at the front of the bytes, and what follows it.
 #[inline(always)]
 fn first_posting(bytes: &[u8], next: u32) -> (Posting<'_>, &[u8])
     requires { BeginsWithPosting next bytes.now }
     ensures { ReadsPosting next bytes.now result.0.document result.0.positions result.1.now }
 {
-    if let Some(word) = bytes.first_chunk::<WORD>()
-        && let Some(single) = single_posting(word)
-    {
-        split_single(bytes, next, &single)
-    } else {
-        any_posting(bytes, next)
+    match short_posting(bytes) {
+        Some(single) => split_single(bytes, next, single),
+        None => any_posting(bytes, next),
     }
 }
 
-/// The same of a posting of one position whose parts were found.
+/// The same of a posting of one position whose gaps were found.
 #[inline(always)]
-fn split_single<'a>(bytes: &'a [u8], next: u32, single: &Single) -> (Posting<'a>, &'a [u8])
+fn split_single(bytes: &[u8], next: u32, single: ShortPosting) -> (Posting<'_>, &[u8])
     requires begins { BeginsWithPosting next bytes.now }
-    requires found { ReadsSingle bytes.now single.now.gap single.now.start single.now.end }
+    requires found { BeginsWithSingle bytes.now single.gap single.position_gap single.size }
     ensures { ReadsPosting next bytes.now result.0.document result.0.positions result.1.now }
 {
-    let positions = Positions::new(&bytes[single.start..single.end], 1);
+    let start = single.size - code_len(single.position_gap);
+    let positions = Positions::new(&bytes[start..single.size], 1);
     let posting = Posting {
         document: next + (single.gap - 1),
         positions,
     };
-    (posting, &bytes[single.end..])
+    (posting, &bytes[single.size..])
 }
 
 /// The same of a posting of any shape.
@@ -173,8 +174,8 @@ impl<'a> Postings<'a> {
         self.count as usize
     }
 
-    /// The first posting that is left whose document is not below the one named, or none where there is no such.
-    /// The postings up to it are passed, and it is passed too. It takes no memory.
+    /// Goes on behind the first posting whose document is at least `document`, and returns that posting, or `None` if
+    /// there is none. It takes no memory.
     #[inline(always)]
     pub fn seek(&mut self, document: u32) -> Option<Posting<'a>>
         ensures found { IfSome result (λ posting.
@@ -194,7 +195,7 @@ impl<'a> Postings<'a> {
         None
     }
 
-    /// Goes on at the last place before which no document stands that is as high as the one named, if it lies ahead.
+    /// Goes on at the last skip before which all documents are below `document`, if it is ahead.
     #[inline(never)]
     fn skip(&mut self, document: u32)
         ensures { from_document document self.new ≡ from_document document self.old }
@@ -214,7 +215,8 @@ impl<'a> Postings<'a> {
     /// above the document before them, or 0. Gaps do not change by that, so only the first is coded anew, and the
     /// other bytes are copied as they are.
     ///
-    /// Where memory is refused, which it is only where they find no room, nothing was appended.
+    /// # Errors
+    /// Out of memory, if they find no room. `out` is then as it was.
     pub fn push_shifted(&self, out: &mut Vec<u8>, first: u32, next: u32) -> Result<(), AllocError>
         requires { ArePostings next (2 ^ 32 - 1) (shifted first self.now) }
         ensures ok { OnOk result

@@ -10,8 +10,10 @@ use crate::VbError;
 /// The number whose code the bytes begin with, and the count of the code's bytes. What follows the
 /// code is not looked at.
 ///
-/// `LeadingZero` where the first byte is `00`; `TooBig` where the bytes come to stand for more than
-/// 2^32 - 1 before one of them ends the code; `Cut` where no byte ends the code, also where there is none.
+/// # Errors
+/// * `LeadingZero` if the first byte is `00`.
+/// * `TooBig` if the bytes come to more than 2^32 - 1 before one of them ends the code.
+/// * `Cut` if no byte ends the code, also if there is no byte.
 #[inline]
 pub fn decode(bytes: &[u8]) -> Result<(u32, usize), VbError>
     ensures found { (n count : ℕ) → (result ≡ Ok (n, count)) ↔ StartsWithCode bytes.now n count }
@@ -67,20 +69,9 @@ fn long_number(bytes: &[u8]) -> (u32, &[u8])
     }
 }
 
-/// The same, as what was found in one fact. Most codes have one byte, and they take no loop.
-#[inline]
-fn read(bytes: &[u8]) -> Result<(u32, usize), VbError>
-    ensures { Finds bytes.now result }
-{
-    match bytes.first() {
-        Some(&byte) if byte >= 128 => Ok((u32::from(byte % 128), 1)),
-        _ => read_groups(bytes),
-    }
-}
-
-/// The same, seven bits at a time.
+/// The same, as what was found in one fact.
 #[tactic(auto, using(crate::proofs::Fronts::reads))]
-fn read_groups(bytes: &[u8]) -> Result<(u32, usize), VbError>
+fn read(bytes: &[u8]) -> Result<(u32, usize), VbError>
     ensures { Finds bytes.now result }
 {
     let Some(&first) = bytes.first() else {

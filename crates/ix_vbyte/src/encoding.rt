@@ -46,7 +46,7 @@ impl Code {
 
 /// The low seven bits of `n`, as a byte that does not end a code.
 #[inline]
-pub(crate) fn group(n: u32) -> u8
+fn group(n: u32) -> u8
     ensures { result ≡ n % 128 }
 {
     (n % 128) as u8
@@ -54,13 +54,13 @@ pub(crate) fn group(n: u32) -> u8
 
 /// The low seven bits of `n`, as the byte that ends its code.
 #[inline]
-pub(crate) fn last(n: u32) -> u8
+fn last(n: u32) -> u8
     ensures { result ≡ 128 + n % 128 }
 {
     128 + (n % 128) as u8
 }
 
-/// Appends the last digit of `number` in base 128 to its others, or nothing where it is 0.
+/// Appends the last digit of `number` in base 128 to its others, or nothing if it is 0.
 #[inline]
 fn push_digit(digits: &mut ArrayVec<u8, 5>, number: u32)
     requires room { array_vec_len digits.old < 5 }
@@ -102,8 +102,10 @@ pub fn code_len(n: u32) -> usize
     }
 }
 
-/// Appends the code of a number. Where memory is refused, which it is only where the code finds no room,
-/// nothing was appended.
+/// Appends the code of a number.
+///
+/// # Errors
+/// Out of memory, if the code finds no room. `out` is then as it was.
 #[inline]
 #[tactic(auto, using(crate::proofs::Widths::widths))]
 pub fn push_code(out: &mut Vec<u8>, n: u32) -> Result<(), AllocError>

@@ -12,7 +12,6 @@ mod errors;
 mod laws;
 mod positions;
 mod short_postings;
-mod singles;
 mod skipping;
 mod skips;
 

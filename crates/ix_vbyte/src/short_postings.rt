@@ -5,10 +5,10 @@ ghost use Rattle.ix_vbyte.specs.Code.{code_of};
 ghost use Rattle.ix_vbyte.specs.ShortPostings.{BeginsWithShort, BeginsWithSingle, IsShortCode, single_bytes};
 
 /// How many bytes are looked at: two gaps of two bytes, and the number of positions.
-pub(crate) const SHORT: usize = 5;
+const SHORT: usize = 5;
 
 /// The code of 1.
-pub(crate) const ONE: u8 = 129;
+const ONE: u8 = 129;
 
 /// A posting of one position.
 #[derive(Clone, Copy)]
@@ -21,11 +21,11 @@ pub struct ShortPosting {
     pub size: usize,
 }
 
-/// The posting of one position that the bytes begin with, where its two gaps are below 2^14 and not 0, and at least
-/// five bytes are there. None of any other bytes.
+/// Returns the posting of one position that the bytes begin with, if its two gaps are below 2^14 and not 0, and there are
+/// at least five bytes; or `None`.
 ///
-/// Most postings of a term are such. Which shape the document's gap has is mostly foreseen, so it is a branch; of the
-/// positions' gaps as many have one byte as two, so nothing branches on that.
+/// Most postings of a term have one position. The width of the document's gap is mostly predicted, so it is a branch; that
+/// of the position's gap is not, so nothing branches on it.
 #[inline(always)]
 pub fn short_posting(bytes: &[u8]) -> Option<ShortPosting>
     ensures found { IfSome result (λ posting.
@@ -65,8 +65,8 @@ pub fn short_posting(bytes: &[u8]) -> Option<ShortPosting>
     })
 }
 
-/// The number whose code the bytes begin with, where it is below 2^14 and not 0, and how many bytes the code takes. None
-/// of any other bytes.
+/// Returns the number whose code the bytes begin with, if it is below 2^14 and not 0, and how many bytes the code takes;
+/// or `None`.
 #[inline(always)]
 pub fn short_number(bytes: &[u8]) -> Option<(u32, usize)>
     ensures found { IfSome result (λ read. BeginsWithShort bytes.now read.0 read.1) }
@@ -74,29 +74,13 @@ pub fn short_number(bytes: &[u8]) -> Option<(u32, usize)>
         → bytes.now ≢ code_of number ++ rest) }
 {
     match bytes {
-        [first, second, ..] => foreseen_code(*first, *second),
-        [first] => foreseen_code(*first, 0),
+        [first, second, ..] => short_code(*first, *second),
+        [first] => short_code(*first, 0),
         [] => None,
     }
 }
 
-/// The number above 0 whose code of one byte or two these bytes begin with, and how many it takes, by a branch for each.
-#[inline(always)]
-fn foreseen_code(first: u8, second: u8) -> Option<(u32, usize)>
-    ensures found { IfSome result (λ code. IsShortCode first second code.0 code.1) }
-    ensures none { IfNone result ((first ≡ 0)
-        ⊎ ((first ≡ 128) ⊎ ((first < 128) × (second < 128)))) }
-{
-    if first > 128 {
-        return Some((u32::from(first - 128), 1));
-    }
-    if first == 0 || first == 128 || second < 128 {
-        return None;
-    }
-    Some((u32::from(first) * 128 + u32::from(second - 128), 2))
-}
-
-/// The same, where nothing branches on how many it takes.
+/// The number above 0 whose code of one byte or two these bytes begin with, and how many it takes. Nothing branches on that.
 #[inline(always)]
 fn short_code(first: u8, second: u8) -> Option<(u32, usize)>
     ensures found { IfSome result (λ code. IsShortCode first second code.0 code.1) }

@@ -1,15 +1,10 @@
 //! How many bytes some codes take, found by the top bits alone.
-ghost use Rattle.std.specs.Prelude.{◌≡◌, ◌<◌, ◌≤◌, ◌++◌, ℕ, List, length, count_by, count_ones, nat_le, MatchResult};
+ghost use Rattle.std.specs.Prelude.{◌≡◌, ◌<◌, ◌≤◌, ◌++◌, ℕ, List, length, count_by, nat_le, MatchResult};
 ghost use Rattle.ix_vbyte.specs.Ends.{end_of, ends_by_byte, marks_of};
 ghost use Rattle.ix_vbyte.specs.Postings.{codes_of};
 
-use std::simd::prelude::*;
-
-/// How many bytes are looked at in one step where few codes are passed.
+/// How many bytes are looked at in one step.
 const WORD: usize = 8;
-
-/// How many bytes are looked at in one step where many codes are passed.
-const VECTOR: usize = 16;
 
 /// The top bit of each byte of a word.
 const TOPS: u64 = 0x8080_8080_8080_8080;
@@ -17,23 +12,16 @@ const TOPS: u64 = 0x8080_8080_8080_8080;
 /// The number 1 in each byte of a word.
 const ONES: u64 = 0x0101_0101_0101_0101;
 
-/// How many bytes the first `count` codes take, or how many bytes there are where fewer codes end.
-/// No code is decoded: a code ends where a byte has the top bit.
-#[inline(always)]
+/// Returns how many bytes the first `count` codes take, or the number of all bytes if fewer codes end in them.
+/// No code is decoded: a code ends at a byte with the top bit.
+#[inline]
 pub fn skip_codes(bytes: &[u8], count: u32) -> usize
     ensures codes { (numbers rest : List ℕ) → bytes.now ≡ codes_of numbers ++ rest
         → length numbers ≡ count → result ≡ length (codes_of numbers) }
     ensures ends { result ≡ end_of count bytes.now }
     ensures within { result ≤ length bytes.now }
 {
-    if count > 0
-        && let Some(word) = bytes.first_chunk::<WORD>()
-        && let Ok(end) = end_in_word(word, count)
-    {
-        end
-    } else {
-        skip_vectors(bytes, count)
-    }
+    skip_words(bytes, count)
 }
 
 /// Behind the code of that number, counted from 1, where it ends in the word; otherwise how many codes end there.
@@ -70,34 +58,6 @@ fn marks_in_word(word: &[u8; WORD]) -> u64
     ensures { result ≡ marks_of 8 128 word.now }
 {
     u64::from_le_bytes(*word) & TOPS
-}
-
-/// The same as `skip_codes`, a vector of bytes at a time while more codes are left than end in it.
-#[inline(never)]
-fn skip_vectors(bytes: &[u8], count: u32) -> usize
-    ensures { result ≡ end_of count bytes.now }
-{
-    let mut rest = bytes;
-    let mut left = count;
-    while let Some((vector, behind)) = rest.split_first_chunk::<VECTOR>() {
-        let ends = marks_in_vector(vector).count_ones();
-        if left <= ends {
-            break;
-        }
-        left -= ends;
-        rest = behind;
-    }
-    bytes.len() - rest.len() + skip_words(rest, left)
-}
-
-/// The top bits of a vector, a bit each.
-#[inline(always)]
-fn marks_in_vector(vector: &[u8; VECTOR]) -> u64
-    ensures { count_ones result ≡ count_by (λ byte. nat_le 128 byte) vector.now }
-{
-    u8x16::from_array(*vector)
-        .simd_ge(u8x16::splat(128))
-        .to_bitmask()
 }
 
 /// The same as `skip_codes`, a word at a time.

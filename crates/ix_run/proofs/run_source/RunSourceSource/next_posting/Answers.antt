@@ -4,7 +4,7 @@ use Rattle.ix_run_text.specs.Heads.{heading_of}
 use Rattle.ix_run.specs.RunSources.{HasGiven, HasLeft, SourceValue}
 use Rattle.ix_run_text.specs.Sources.{GivesPosting}
 use Rattle.ix_run.proofs.Lacking.{going_fault, some_going}
-use Rattle.ix_run.proofs.RunSources.{begins_none, ends_next, place_next, step_given}
+use Rattle.ix_run.proofs.RunSources.{ends_next, place_next, step_given}
 use Rattle.ix_vbyte.proofs.GapCodes.{on_err_of}
 use Rattle.ix_run.proofs.run_source.RunSourceSource.next_posting.Goals as goal
 
@@ -14,8 +14,6 @@ invariant_of-self c =
       place_next (heading_of c.self.inside.head.now) c.self.inside.terms (option_copied c.self.inside.term) (c.in-Some.posting.document, c.in-Some.posting.positions) c.next.new.self c.self.inside.postings
           (sym c.again-postings.ensures ∙ c.in-Some.ensures.steps) some c.self.invariant.0,
       ends_next c.self.inside.last c.self.inside.postings c.next.new.self (c.in-Some.posting.document, c.in-Some.posting.positions) (sym c.again-postings.ensures ∙ c.in-Some.ensures.steps) c.self.invariant.1,
-      c.self.invariant.2,
-      begins_none c.self.inside.rest c.next.new.self,
     )
 
 pub returns-clause-given : goal.returns-clause-given

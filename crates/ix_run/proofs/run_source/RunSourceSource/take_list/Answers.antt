@@ -1,13 +1,12 @@
 -- The list that is left is that of the entry at hand, so that its documents can be counted from the head's first number.
-use Rattle.std.proofs.Common.{◌≡◌, ℕ, ◌+◌, ◌-◌, ◌^◌, ◌<◌, ◌++◌, length, sym, ap, subst, ◌∙◌, arith}
+use Rattle.std.proofs.Common.{ℕ, ◌<◌, length, sym, subst, ◌∙◌, arith}
 use Rattle.std.specs.Option.{option_copied}
-use Rattle.ix_vbyte.specs.Postings.{ArePostings, list_bytes_from, shifted}
 use Rattle.ix_run_text.specs.Heads.{heading_of}
 use Rattle.ix_run.specs.RunSources.{HasGiven, HasLeft, SourceValue}
 use Rattle.ix_run_text.specs.Sources.{GivesList}
 use Rattle.ix_run_text.proofs.ListSteps.{if_granted}
 use Rattle.ix_run.proofs.Lacking.{some_going}
-use Rattle.ix_run.proofs.RunSources.{begins_none, can_shift, ends_none, no_postings, place_list, step_list, step_no_list}
+use Rattle.ix_run.proofs.RunSources.{can_shift, ends_none, no_postings, place_list, step_list, step_no_list}
 use Rattle.ix_run.proofs.run_source.RunSourceSource.take_list.Goals as goal
 
 pub overflow_cast-documents : goal.overflow_cast-documents
@@ -16,10 +15,9 @@ overflow_cast-documents c =
     let few = (can_shift source c.args.self.now c.self.inside.last c.args.next c.self.view_is c.self.invariant.0 c.self.invariant.1 c.requires.at_hand c.requires.low).few in
     omega (arith, few)
 
-pub push_left-requires-clause-may : goal.push_left-requires-clause-may
-push_left-requires-clause-may c =
+pub push_shifted-requires : goal.push_shifted-requires
+push_shifted-requires c =
     let source : SourceValue = record { heading = heading_of c.self.inside.head.now; terms = c.self.inside.terms; term = option_copied c.self.inside.term; postings = c.self.inside.postings } in
-    subst (λ (s : SourceValue). ArePostings c.args.next (2 ^ 32 - 1) (shifted s.heading.first s.postings)) c.self.view_is
     (can_shift source c.args.self.now c.self.inside.last c.args.next c.self.view_is c.self.invariant.0 c.self.invariant.1 c.requires.at_hand c.requires.low).are
 
 pub overflow_add-result : goal.overflow_add-result
@@ -27,14 +25,14 @@ overflow_add-result c =
     let source : SourceValue = record { heading = heading_of c.self.inside.head.now; terms = c.self.inside.terms; term = option_copied c.self.inside.term; postings = c.self.inside.postings } in
     let some : 0 < length c.self.inside.postings = omega arith in
     let fits = (can_shift source c.args.self.now c.self.inside.last c.args.next c.self.view_is c.self.invariant.0 c.self.invariant.1 c.requires.at_hand c.requires.low).fits some in
-    omega (arith, fits, c.self.invariant.2)
+    omega (arith, fits)
 
 pub overflow_add-result-2 : goal.overflow_add-result-2
 overflow_add-result-2 c =
     let source : SourceValue = record { heading = heading_of c.self.inside.head.now; terms = c.self.inside.terms; term = option_copied c.self.inside.term; postings = c.self.inside.postings } in
     let some : 0 < length c.self.inside.postings = omega arith in
     let fits = (can_shift source c.args.self.now c.self.inside.last c.args.next c.self.view_is c.self.invariant.0 c.self.invariant.1 c.requires.at_hand c.requires.low).fits some in
-    omega (arith, fits, c.self.invariant.2)
+    omega (arith, fits)
 
 pub invariant_of-self : goal.invariant_of-self
 invariant_of-self c =
@@ -42,8 +40,6 @@ invariant_of-self c =
       place_list (heading_of c.self.inside.head.now) c.self.inside.terms (option_copied c.self.inside.term) c.self.inside.postings c.args.self.now c.self.view_is
           c.new-self-inside.result none c.requires.at_hand c.self.invariant.0,
       ends_none c.self.inside.last c.new-self-inside.result none,
-      c.self.invariant.2,
-      begins_none c.self.inside.rest c.new-self-inside.result,
     )
 
 pub returns-then-documents-eq0-clause-given : goal.returns-then-documents-eq0-clause-given
@@ -61,11 +57,10 @@ returns-clause-given c =
     let source : SourceValue = record { heading = heading_of c.self.inside.head.now; terms = c.self.inside.terms; term = option_copied c.self.inside.term; postings = c.self.inside.postings } in
     let some : 0 < length c.self.inside.postings = omega arith in
     let can = can_shift source c.args.self.now c.self.inside.last c.args.next c.self.view_is c.self.invariant.0 c.self.invariant.1 c.requires.at_hand c.requires.low in
-    let P : SourceValue → Type 0 = λ s. c.push_left.new.out.items ≡ c.args.out.now.items ++ list_bytes_from c.args.next (shifted s.heading.first s.postings) in
     step_list (heading_of c.self.inside.head.now) c.self.inside.terms (option_copied c.self.inside.term) c.self.inside.postings c.args.self.now c.self.view_is
     c.new-self-inside.result (no_postings c.new-self-inside.result c.new-self-inside.ensures)
-    c.args.next _ _ c.args.out.now.items c.push_left.new.out.items c.len-documents.ensures.value (ap (λ n. n + c.self.inside.last + 1) c.self.invariant.2 ∙ sym (can.after some))
-    (subst P (sym c.self.view_is) (if_granted c.push_left.result (sym c.is_err.ensures.value ∙ c.if-is_err.false) c.push_left.ensures.ok))
+    c.args.next _ _ c.args.out.now.items c.push_shifted.new.out.items c.len-documents.ensures.value (sym (can.after some))
+    (if_granted c.push_shifted.result (sym c.is_err.ensures.value ∙ c.if-is_err.false) c.push_shifted.ensures.ok)
 
 pub returns-then-documents-eq0-clause-no_more_faults : goal.returns-then-documents-eq0-clause-no_more_faults
 returns-then-documents-eq0-clause-no_more_faults c = λ error may. some_going c.args.self.now c.requires.at_hand

@@ -1,6 +1,0 @@
-use Rattle.std.proofs.Common.{rules}
-use Rattle.ix_run.proofs.coded_terms.begins_with_short_codes.Goals as goal
-
--- The check finds it too; with an answer a wrong body that falls here is refused sooner.
-pub returns-in-Some : goal.returns-in-Some
-returns-in-Some c = search rules
