@@ -86,7 +86,7 @@ a*a => aa aba abaaba ababa
 aba*aba => abaaba
 *b*b* => abaaba ababa
 STRASSE* => strasse
-x*\u{301}y => xa\u{301}y",
+x*\u{301}y => xa\u{301}y x\u{301}y",
     ),
 ];
 
