@@ -184,9 +184,6 @@ no_candidate terms pieces text told none n is = none n is.term is.numbered (told
 
 -- ---- one more list
 
-pub adds-none : (terms : List (List ℕ)) (text : List ℕ) (lists : List (List ℕ)) → AddsLists terms text lists lists
-adds-none terms text lists = record { added = []; held = All-nil (HoldTerms terms text); appended = sym (append-nil lists) }
-
 pub adds-more : (terms : List (List ℕ)) (text : List ℕ) (old new : List (List ℕ)) (numbers : List ℕ) → AddsLists terms text old new → HoldTerms terms text numbers → AddsLists terms text old (new ++ numbers ∷ [])
 adds-more terms text old new numbers adds holds = record {
   added = adds.added ++ numbers ∷ [];
