@@ -7,4 +7,4 @@ pub returns : goal.returns
 returns c =
     let facts = c.binary_search_by_key.ensures in
     let by_key = facts.position (λ cursor. cursor.key) (answers_always _ _ _ (λ f a r g called. search rules)) in
-    rw c.ok.ensures.value (searched c.args.cursors.now c.args.key _ facts.bound by_key)
+    rw c.ok.ensures.value (searched c.args.cursors.now c.args.key c.binary_search_by_key.result facts.bound by_key)
