@@ -1,7 +1,7 @@
 -- A term that matches a pattern has the trigrams of `$` and the first piece, of each inner piece, and of the last and `$`.
 use Rattle.std.proofs.Common.{◌≡◌, ℕ, ◌+◌, inl, inr, List, [], ◌∷◌, ◌++◌, map, length, refl, sym, ap, ◌∙◌, subst, arith, append_assoc, length-append, get_or}
 use Rattle.std.proofs.lemmas.List.{get_or_append_left, append-nil}
-use Rattle.std.proofs.lemmas.List.Elements.{Contains-append_left, Contains-push, All-append, All-cons, All-map, All-contains, All-head, All-nil, All-push, All-tail, All-weaker}
+use Rattle.std.proofs.lemmas.List.Elements.{Contains-append_left, Contains-push, All-append, All-cons, All-map, All-contains, All-head, All-push, All-tail, All-weaker}
 use Rattle.std.proofs.lemmas.Option.{slice_get_within}
 use Rattle.std.proofs.lemmas.Str.{chars-append, IsUtf8-append, IsUtf8-from_ascii, IsUtf8-nil}
 use Rattle.std.proofs.lemmas.Str.Ascii.{IsAscii-cons, IsAscii-nil}
