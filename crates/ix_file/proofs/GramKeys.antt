@@ -1,42 +1,13 @@
 -- The entries of grams of terms are right ones, and right ones that list each gram of the terms are those of the terms.
-use Rattle.std.proofs.Common.{◌≡◌, ℕ, List, [], ◌∷◌, length, get_or, All, Contains, Less, inl, inr, sym, ap, subst, ◌∙◌, arith}
-use Rattle.std.proofs.lemmas.Cmp.{nat_list_cmp_total}
+use Rattle.std.proofs.Common.{ℕ, List, length, get_or, All, Contains, arith}
 use Rattle.std.proofs.lemmas.List.Elements.{All-contains, Contains-get_or}
 use Rattle.std.proofs.lemmas.Option.{slice_get_within}
-use Rattle.std.specs.Cmp.Lexicographic.{slice_cmp}
-use Rattle.std.specs.Ordering.{nat_cmp}
-use Rattle.std.specs.List.{AllByRecursion}
-use Rattle.std.specs.List.Sorted.{IsStrictlySortedBy}
-use Rattle.ix_text.proofs.AscendingLists.{contains_cases, contains_map, contains_none, all_below, not_below_itself}
 use Rattle.ix_text.specs.ByteOrder.{IsAscending}
 use Rattle.ix_text.specs.Parts.{GramEntry, HasNumber, IsGramEntry}
 use Rattle.ix_vbyte.proofs.Gaps.{Ascends-rising, Ascends-from}
 use Rattle.ix_index_text.specs.Grams.{AreGramsOfTerms, IsGramOfTerm}
 use Rattle.ix_file.specs.OpenedGrams.{IsRightEntry}
 use Rattle.ix_file.proofs.GramFinding.{texts_of}
-
-not_behind : (x y : GramEntry) (grams : List GramEntry) → AllByRecursion (λ t. slice_cmp nat_cmp x.gram t ≡ Less) (texts_of grams) → Contains grams y → ¬ (x.gram ≡ y.gram)
-not_behind x y grams up has same =
-    let less = all_below (slice_cmp nat_cmp) x.gram (texts_of grams) y.gram up (contains_map (λ (e : GramEntry). e.gram) grams y has) in
-    not_below_itself nat_list_cmp_total x.gram (subst (λ (g : List ℕ). slice_cmp nat_cmp x.gram g ≡ Less) (sym same) less)
-
--- of ascending entries one has a gram
-pub one_entry : (grams : List GramEntry) → IsAscending (texts_of grams) → (x y : GramEntry) → Contains grams x → Contains grams y → x.gram ≡ y.gram → x ≡ y
-unfolding IsStrictlySortedBy
-one_entry [] up x y one two same = absurd (contains_none x one)
-one_entry (e ∷ grams) up x y one two same =
-    elim (contains_cases e grams x one) [
-      | inl first ↦
-          elim (contains_cases e grams y two) [
-            | inl also ↦ sym first ∙ also
-            | inr later ↦ absurd (not_behind e y grams up.0 later (ap (λ (z : GramEntry). z.gram) first ∙ same))
-          ]
-      | inr later ↦
-          elim (contains_cases e grams y two) [
-            | inl also ↦ absurd (not_behind e x grams up.0 later (ap (λ (z : GramEntry). z.gram) also ∙ sym same))
-            | inr both ↦ one_entry grams up.1 x y later both same
-          ]
-    ]
 
 module _ (terms : List (List ℕ)) where
   -- the entries of the terms are right

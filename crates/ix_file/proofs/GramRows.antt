@@ -17,7 +17,8 @@ use Rattle.ix_file.specs.declared.open.grams.GramRow.{GramRow}
 use Rattle.ix_file.specs.declared.open.sides.Side.TheVariants.{From}
 use Rattle.ix_file.specs.GramWalks.{AreRowsOn, HasRow, IsRowOfTerms, gap_bytes}
 use Rattle.ix_file.specs.OpenedGrams.{AreCutRows, AreNumbersOf, IsGramRow, IsListedGram, IsRightEntry, IsRightRow, LiesIn, cut_bytes, gap_codes, gram_bytes, gram_in, grams_in}
-use Rattle.ix_file.proofs.GramKeys.{all_listed, one_entry, right_entries}
+use Rattle.ix_index_text.proofs.GramLists.{one_entry}
+use Rattle.ix_file.proofs.GramKeys.{all_listed, right_entries}
 use Rattle.ix_file.proofs.GramParting.{window_of, window_there}
 use Rattle.ix_file.proofs.GramReading.{some_number, term_characters, text_is}
 use Rattle.ix_file.proofs.GramSections.{text_in, texts_in}
