@@ -1,7 +1,6 @@
 -- What stands at the front of some bytes is one thing.
-use Rattle.std.proofs.Common.{◌≡◌, ℕ, ◌^◌, ◌<◌, ◌≤◌, List, ◌++◌, length, sym, ap, ◌∙◌, arith}
+use Rattle.std.proofs.Common.{◌≡◌, ℕ, ◌<◌, List, ◌++◌, length, sym, ap, ◌∙◌, arith}
 use Rattle.std.proofs.lemmas.List.{append_assoc, length-append}
-use Rattle.ix_text.specs.Terms.{IsTerm}
 use Rattle.ix_vbyte.specs.Code.{code_of}
 use Rattle.ix_vbyte.specs.Texts.{counted}
 use Rattle.ix_vbyte.proofs.Pieces.{fronts_apart}
@@ -14,10 +13,6 @@ counted_code bytes text more e = e ∙ append_assoc (code_of (length text)) text
 pub counted_split : (bytes : List ℕ) (count : ℕ) (rest text more : List ℕ) → bytes ≡ code_of count ++ rest → bytes ≡ counted text ++ more → (count ≡ length text) × (rest ≡ text ++ more)
 counted_split bytes count rest text more is e = code_of-apart count (length text) rest (text ++ more) (sym is ∙ counted_code bytes text more e)
 
--- no code stands there
-pub no_code : (bytes : List ℕ) → ((n : ℕ) (rest : List ℕ) → n < 2 ^ 32 → bytes ≡ code_of n ++ rest → ⊥) → (text rest : List ℕ) → IsTerm text → bytes ≡ counted text ++ rest → ⊥
-no_code bytes refused text rest is e = refused (length text) (text ++ rest) (let short : length text ≤ 255 = is.short in omega arith) (counted_code bytes text rest e)
-
 -- the text that was cut out is the one
 pub cut_text : (bytes : List ℕ) (count : ℕ) (rest front back text more : List ℕ) → bytes ≡ code_of count ++ rest → length front ≡ count → rest ≡ front ++ back → bytes ≡ counted text ++ more → front ≡ text
 cut_text bytes count rest front back text more is size cut e =
@@ -29,7 +24,3 @@ pub too_few : (bytes : List ℕ) (count : ℕ) (rest text more : List ℕ) → b
 too_few bytes count rest text more is few e =
     let split = counted_split bytes count rest text more is e in
     omega (arith, ap length split.1, split.0, length-append text more)
-
-pub put_together : (bytes : List ℕ) (count : ℕ) (rest front back : List ℕ) → bytes ≡ code_of count ++ rest → length front ≡ count → rest ≡ front ++ back → bytes ≡ counted front ++ back
-put_together bytes count rest front back is size cut =
-    is ∙ ap (λ n. code_of n ++ rest) (sym size) ∙ ap (λ xs. code_of (length front) ++ xs) cut ∙ sym (append_assoc (code_of (length front)) front back)

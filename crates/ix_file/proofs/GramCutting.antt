@@ -2,7 +2,6 @@
 use Rattle.std.proofs.Common.{◌≡◌, ◌≢◌, ℕ, ◌+◌, ◌-◌, ◌^◌, ◌<◌, ◌≤◌, List, [], ◌∷◌, ◌++◌, map, length, flat_map, take, drop, slice_get, slice_range, All, Option, Bor, refl, sym, ap, ap₂, subst, ◌∙◌, arith, length-append}
 use Rattle.std.proofs.lemmas.List.{append_assoc, append-nil, length-take, length-drop, map-append, nil_from_length, take-append-drop, take_all, take_at, drop_at}
 use Rattle.std.proofs.lemmas.List.Elements.{All-nil, All-push, All-contains, Contains-push}
-use Rattle.std.proofs.lemmas.List.Sums.{sum_by_push}
 use Rattle.std.specs.Option.{option_copied}
 use Rattle.ix_text.specs.ByteOrder.{IsAscending}
 use Rattle.ix_text.specs.Parts.{GramEntry}
@@ -17,7 +16,7 @@ use Rattle.ix_vbyte.proofs.Values.{some_code_byte, code_of-apart}
 use Rattle.ix_vbyte.proofs.Walks.{positions_from, Told}
 use Rattle.ix_file.specs.declared.open.grams.GramRow.{GramRow}
 use Rattle.ix_index_text.specs.GramTables.{entry}
-use Rattle.ix_file.specs.OpenedGrams.{AreCutRows, CutsEntry, IsGramRow, IsListedGram, LiesIn, cut_bytes, gap_codes, gram_bytes, gram_in, grams_in, numbers_claimed}
+use Rattle.ix_file.specs.OpenedGrams.{AreCutRows, CutsEntry, IsGramRow, IsListedGram, LiesIn, cut_bytes, gap_codes, gram_bytes, gram_in, grams_in}
 use Rattle.ix_index_text.specs.Sections.{grams_section}
 use Rattle.ix_file.proofs.AscendingLemmas.{ascending_front, ascending_none, follows, followed, from_borrowed, to_borrowed, MayFollowBorrowed}
 use Rattle.ix_file.proofs.Continuing.{GoesOn, HasNext, read_more}
@@ -139,23 +138,19 @@ module _ (section left text behind gaps : List ℕ) (count size : ℕ) (within :
 -- ---- the walk over GRAMS
 
 -- the rows so far
-pub record AreCutSoFar (section : List ℕ) (rows : List GramRow) (total : ℕ) (left : List ℕ) : Type 0 where
+pub record AreCutSoFar (section : List ℕ) (rows : List GramRow) (left : List ℕ) : Type 0 where
   pub bytes : section ≡ flat_map (cut_bytes section) rows ++ left
   pub ascending : IsAscending (map (text_in section) rows)
   pub lie : All (LiesIn section) rows
   pub only : (grams : List GramEntry) → All IsListedGram grams → section ≡ grams_section grams → GoesOn gram_bytes (grams_in section rows) grams left × All (IsGramRow section) rows
-  pub sum : total ≡ numbers_claimed rows
-  pub room : total + length left ≤ length section
 
-pub nothing_cut : (section : List ℕ) → AreCutSoFar section [] 0 section
+pub nothing_cut : (section : List ℕ) → AreCutSoFar section [] section
 unfolding grams_section
 nothing_cut section = record {
   bytes = refl;
   ascending = ascending_none;
   lie = All-nil (LiesIn section);
   only = λ grams listed same. (record { more = grams; whole = refl; rest = same }, All-nil (IsGramRow section));
-  sum = refl;
-  room = omega arith;
 }
 
 next_entry : (done xs : List GramEntry) (left : List ℕ) → 0 < length left → GoesOn gram_bytes done xs left → HasNext gram_bytes done xs left
@@ -176,7 +171,7 @@ no_more done xs left none g = at g.more g.whole g.rest
     at [] whole rest = whole ∙ append-nil done
     at (x ∷ more) whole rest = absurd (omega (arith, none, ap length rest, some_entry_byte x, length-append (gram_bytes x) (flat_map gram_bytes more)))
 
-module _ (section : List ℕ) (rows : List GramRow) (total : ℕ) (left : List ℕ) (r : AreCutSoFar section rows total left) (some : 0 < length left) where
+module _ (section : List ℕ) (rows : List GramRow) (left : List ℕ) (r : AreCutSoFar section rows left) (some : 0 < length left) where
   -- grams whose section this is
   module _ (grams : List GramEntry) (listed : All IsListedGram grams) (same : section ≡ grams_section grams) where
     next_here : HasNext gram_bytes (grams_in section rows) grams left
@@ -218,22 +213,20 @@ module _ (section : List ℕ) (rows : List GramRow) (total : ℕ) (left : List �
           (ascending_front (map (text_in section) rows ++ text_in section row ∷ []) (map (λ (e : GramEntry). e.gram) next_here.more) (subst IsAscending texts up)))
 
   -- one row more
-  pub more_cut : (row : GramRow) (rest : List ℕ) (before : Option (Bor GramRow)) → option_copied before ≡ slice_get rows (length rows - 1) → CutsEntry section left row rest → row.count + length rest ≤ length left
-      → MayFollowBorrowed (text_in section) (text_in section row) before → AreCutSoFar section (rows ++ row ∷ []) (total + row.count) rest
-  more_cut row rest before last cut size may = record {
+  pub more_cut : (row : GramRow) (rest : List ℕ) (before : Option (Bor GramRow)) → option_copied before ≡ slice_get rows (length rows - 1) → CutsEntry section left row rest
+      → MayFollowBorrowed (text_in section) (text_in section row) before → AreCutSoFar section (rows ++ row ∷ []) rest
+  more_cut row rest before last cut may = record {
     bytes = read_more (cut_bytes section) section rows row left rest r.bytes cut.bytes;
     ascending =
         subst IsAscending (sym (map-append (text_in section) rows (row ∷ [])))
         (follows (text_in section) (text_in section row) rows (option_copied before) last r.ascending (from_borrowed (text_in section) (text_in section row) before may));
     lie = All-push (LiesIn section) rows row r.lie cut.lies;
     only = λ grams listed same. goes_on_behind grams listed same row rest cut;
-    sum = let sum : total ≡ numbers_claimed rows = r.sum in omega (arith, sum, sum_by_push (λ (x : GramRow). x.count) rows row);
-    room = let room : total + length left ≤ length section = r.room in omega (arith, room, size);
   }
 
 -- at the end
-pub all_cut : (section : List ℕ) (rows : List GramRow) (total : ℕ) (left : List ℕ) → AreCutSoFar section rows total left → length left ≡ 0 → AreCutRows section rows
-all_cut section rows total left r none = record {
+pub all_cut : (section : List ℕ) (rows : List GramRow) (left : List ℕ) → AreCutSoFar section rows left → length left ≡ 0 → AreCutRows section rows
+all_cut section rows left r none = record {
   bytes = r.bytes ∙ ap (λ bytes. flat_map (cut_bytes section) rows ++ bytes) (nil_from_length left none) ∙ append-nil (flat_map (cut_bytes section) rows);
   ascending = r.ascending;
   lie = r.lie;

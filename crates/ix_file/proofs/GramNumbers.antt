@@ -1,62 +1,68 @@
--- The numbers under a gram are read gap by gap.
-use Rattle.std.proofs.Common.{◌≡◌, ◌≢◌, ◌↔◌, ℕ, ◌+◌, ◌-◌, ◌^◌, ◌<◌, ◌≤◌, List, [], ◌∷◌, ◌++◌, length, slice_get, Some, All, Contains, refl, sym, ap, ap₂, subst, ◌∙◌, arith, length-append}
+-- The gaps of the numbers under a gram, one behind another.
+use Rattle.std.proofs.Common.{◌≡◌, ℕ, ◌+◌, ◌-◌, ◌<◌, ◌≤◌, List, [], ◌∷◌, ◌++◌, length, Contains, inl, inr, refl, sym, ap, ap₂, subst, ◌∙◌, ⊎_elim, arith}
+use Rattle.std.proofs.lemmas.Bool.{cases_eq, cases_lt}
 use Rattle.std.proofs.lemmas.Grind.{flat_map-append}
-use Rattle.std.proofs.lemmas.List.{append_assoc, append-nil, length-map}
-use Rattle.std.proofs.lemmas.List.Elements.{All-nil, All-push, All-head, All-tail}
-use Rattle.ix_text.specs.Windows.{grams_of}
+use Rattle.std.proofs.lemmas.List.{append_assoc, append-nil}
+use Rattle.std.proofs.lemmas.List.Elements.{All-contains, Contains-append_cases}
+use Rattle.ix_text.proofs.AscendingLists.{contains_cases, contains_first, contains_later, contains_none}
 use Rattle.ix_vbyte.specs.Code.{code_of}
 use Rattle.ix_vbyte.specs.Gaps.{Ascends, gaps_from, gaps_of, next_after}
 use Rattle.ix_vbyte.specs.Postings.{codes_of}
-use Rattle.ix_vbyte.proofs.Gaps.{Ascends-push, next_after-push, gaps_from-push}
+use Rattle.ix_vbyte.proofs.Gaps.{Ascends-within, gaps_from-push}
 use Rattle.ix_vbyte.proofs.Values.{code_of-apart}
-use Rattle.ix_index_text.specs.Grams.{IsGramOfTerm}
-use Rattle.ix_file.specs.OpenedGrams.{AreNumbersOf, gap_codes}
-use Rattle.ix_file.specs.PlacedTerms.{PlacedTerm, terms_in}
-use Rattle.ix_file.proofs.PairCounts.{text_of}
-
--- the numbers so far, and what follows their gaps
-pub record NumbersRead (terms : List (List ℕ)) (gram left : List ℕ) (i next : ℕ) (rest : List ℕ) : Type 0 where
-  pub numbers : List ℕ
-  pub are : AreNumbersOf terms gram numbers
-  pub many : length numbers ≡ i
-  pub after : next ≡ next_after 0 numbers
-  pub low : next ≤ length terms
-  pub read : left ≡ gap_codes numbers ++ rest
-
-pub none_read : (terms : List (List ℕ)) (gram left : List ℕ) → NumbersRead terms gram left 0 0 left
-none_read terms gram left = record {
-  numbers = [];
-  are = record { ascend = tt; right = All-nil (IsGramOfTerm terms gram) };
-  many = refl;
-  after = refl;
-  low = omega arith;
-  read = refl;
-}
+use Rattle.ix_file.specs.OpenedGrams.{gap_codes}
 
 -- one number more
-pub one_read : (terms : List (List ℕ)) (gram left : List ℕ) (i next gap : ℕ) (rest behind : List ℕ) → NumbersRead terms gram left i next rest → rest ≡ code_of gap ++ behind
-    → (0 < gap) × (next + gap ≤ length terms) × IsGramOfTerm terms gram (next + gap - 1) → NumbersRead terms gram left (i + 1) (next + gap) behind
-one_read terms gram left i next gap rest behind r is (some, low, right) =
-    let x : ℕ = next + gap - 1 in
-    let after : next ≡ next_after 0 r.numbers = r.after in
-    let gap_is : x + 1 - next_after 0 r.numbers ≡ gap = omega (arith, after, some) in
-    let gaps : gaps_of (r.numbers ++ x ∷ []) ≡ gaps_of r.numbers ++ gap ∷ [] =
-    gaps_from-push 0 r.numbers x ∙ ap (λ (g : ℕ). gaps_of r.numbers ++ g ∷ []) gap_is in
-    let codes : gap_codes (r.numbers ++ x ∷ []) ≡ gap_codes r.numbers ++ code_of gap =
-    ap codes_of gaps ∙ flat_map-append code_of (gaps_of r.numbers) (gap ∷ []) ∙ ap (λ bytes. gap_codes r.numbers ++ bytes) (append-nil (code_of gap)) in
-    record {
-      numbers = r.numbers ++ x ∷ [];
-      are = record {
-        ascend = Ascends-push 0 (length terms) r.numbers x r.are.ascend (omega (arith, after, some)) (omega (arith, low, some));
-        right = All-push (IsGramOfTerm terms gram) r.numbers x r.are.right right;
-      };
-      many = omega (arith, r.many, length-append r.numbers (x ∷ []));
-      after = let seam : next_after 0 (r.numbers ++ x ∷ []) ≡ x + 1 = next_after-push 0 r.numbers x in omega (arith, seam, some);
-      low = low;
-      read = r.read ∙ ap (λ bytes. gap_codes r.numbers ++ bytes) is ∙ sym (append_assoc (gap_codes r.numbers) (code_of gap) behind) ∙ ap (λ bytes. bytes ++ behind) (sym codes);
-    }
+pub codes-push : (numbers : List ℕ) (x : ℕ) → gap_codes (numbers ++ x ∷ []) ≡ gap_codes numbers ++ code_of (x + 1 - next_after 0 numbers)
+codes-push numbers x =
+    let gap : ℕ = x + 1 - next_after 0 numbers in
+    ap codes_of (gaps_from-push 0 numbers x) ∙ flat_map-append code_of (gaps_of numbers) (gap ∷ []) ∙ ap (λ bytes. gap_codes numbers ++ bytes) (append-nil (code_of gap))
 
--- ---- other numbers that stand there
+-- ---- ascending numbers of which some were read
+
+pub last_number : (low : ℕ) (xs : List ℕ) (n : ℕ) → next_after low xs ≡ n + 1 → ¬ (low ≡ n + 1) → Contains xs n
+last_number low [] n is other = absurd (other is)
+last_number low (x ∷ xs) n is other =
+    ⊎_elim (λ (same : x ≡ n). subst (λ (m : ℕ). Contains (x ∷ xs) m) same (contains_first x xs))
+    (λ (apart : ¬ (x ≡ n)). contains_later x xs n (last_number (x + 1) xs n is (λ e. apart (omega (arith, e)))))
+    (cases_eq x n)
+
+after_low : (low top : ℕ) (xs : List ℕ) → Ascends low top xs → low ≤ next_after low xs
+after_low low top [] up = omega arith
+after_low low top (x ∷ xs) up = omega (arith, up.0, after_low (x + 1) top xs up.2)
+
+-- those that were read are below the next
+pub below_next : (low top : ℕ) (xs : List ℕ) (n : ℕ) → Ascends low top xs → Contains xs n → n < next_after low xs
+below_next low top [] n up has = absurd (contains_none n has)
+below_next low top (x ∷ xs) n up has =
+    elim (contains_cases x xs n has) [ inl same ↦ omega (arith, same, after_low (x + 1) top xs up.2) | inr later ↦ below_next (x + 1) top xs n up.2 later ]
+
+behind : (low top : ℕ) (done more : List ℕ) → Ascends low top (done ++ more) → Ascends low top done × Ascends (next_after low done) top more
+behind low top [] more up = (tt, up)
+behind low top (d ∷ done) more up = let b = behind (d + 1) top done more up.2 in ((up.0, up.1, b.0), b.1)
+
+-- where all below a number were read, the next is not below it
+pub next_not_below : (top number : ℕ) (done : List ℕ) (y : ℕ) (ys : List ℕ) → Ascends 0 top (done ++ y ∷ ys) → (y < number → Contains done y) → number ≤ y
+next_not_below top number done y ys up all =
+    let b = behind 0 top done (y ∷ ys) up in
+    ⊎_elim (λ (low : y < number). absurd (omega (arith, below_next 0 top done y b.0 (all low), b.1.0))) (λ (high : number ≤ y). high) (cases_lt y number)
+
+-- and if the number is among them, it is the next
+pub next_is : (top number : ℕ) (done : List ℕ) (y : ℕ) (ys : List ℕ) → Ascends 0 top (done ++ y ∷ ys) → (y < number → Contains done y) → next_after 0 done ≤ number → Contains (done ++ y ∷ ys) number → y ≡ number
+next_is top number done y ys up all low has =
+    let b = behind 0 top done (y ∷ ys) up in
+    elim (Contains-append_cases done (y ∷ ys) number has) [
+      | inl read ↦ absurd (omega (arith, below_next 0 top done number b.0 read, low))
+      | inr left ↦
+          elim (contains_cases y ys number left) [
+            | inl same ↦ same
+            | inr later ↦
+                let above = All-contains (λ (x : ℕ). (y + 1 ≤ x) × (x < top)) ys number (Ascends-within (y + 1) top ys b.1.2) later in
+                absurd (omega (arith, above.0, next_not_below top number done y ys up all))
+          ]
+    ]
+
+-- ---- other numbers that the same bytes code
 
 -- what numbers go on with behind those that were read
 pub record GoOn (next : ℕ) (done xs : List ℕ) (rest other : List ℕ) : Type 0 where
@@ -81,75 +87,3 @@ go_on next top (d ∷ done) (x ∷ xs) rest other a b long e =
     let behind_one : codes_of (gaps_from (d + 1) done) ++ rest ≡ codes_of (gaps_from (d + 1) xs) ++ other =
     subst (λ (n : ℕ). codes_of (gaps_from (d + 1) done) ++ rest ≡ codes_of (gaps_from (n + 1) xs) ++ other) same behind in
     go_on_more next x d done xs rest other same (go_on (d + 1) top done xs rest other a.2 ups (omega arith) behind_one)
-
--- the next of other numbers that stand there
-pub record NextNumber (terms : List (List ℕ)) (gram : List ℕ) (next : ℕ) (rest : List ℕ) : Type 0 where
-  pub gap : ℕ
-  pub behind : List ℕ
-  pub stands : rest ≡ code_of gap ++ behind
-  pub may : (0 < gap) × (next + gap ≤ length terms) × IsGramOfTerm terms gram (next + gap - 1)
-
-next_of_more : (terms : List (List ℕ)) (gram : List ℕ) (next : ℕ) (done more : List ℕ) (rest other : List ℕ) → next ≡ next_after 0 done → 0 < length more
-    → AreNumbersOf terms gram (done ++ more) → rest ≡ codes_of (gaps_from (next_after 0 done) more) ++ other → NextNumber terms gram next rest
-next_of_more terms gram next done [] rest other after some are left = absurd (omega arith)
-next_of_more terms gram next done (x ∷ more) rest other after some are left =
-    let a = ascends_behind 0 (length terms) done x more are.ascend in
-    let above : next_after 0 done ≤ x = a.0 in
-    let below : x < length terms = a.1 in
-    let gap : ℕ = x + 1 - next in
-    let place : next + gap - 1 ≡ x = omega (arith, above, after) in
-    let first : x + 1 - next_after 0 done ≡ gap = omega (arith, after) in
-    record {
-      gap = gap;
-      behind = codes_of (gaps_from (x + 1) more) ++ other;
-      stands =
-          left ∙ append_assoc (code_of (x + 1 - next_after 0 done)) (codes_of (gaps_from (x + 1) more)) other
-          ∙ ap (λ (g : ℕ). code_of g ++ (codes_of (gaps_from (x + 1) more) ++ other)) first;
-      may = (
-        omega (arith, above, after),
-        omega (arith, above, after, below),
-        subst (IsGramOfTerm terms gram) (sym place) (All-behind (IsGramOfTerm terms gram) done x more are.right),
-      );
-    }
-  where
-    ascends_behind : (low top : ℕ) (xs : List ℕ) (y : ℕ) (ys : List ℕ) → Ascends low top (xs ++ y ∷ ys) → (next_after low xs ≤ y) × (y < top)
-    ascends_behind low top [] y ys a = (a.0, a.1)
-    ascends_behind low top (z ∷ xs) y ys a = ascends_behind (z + 1) top xs y ys a.2
-
-    All-behind : (P : ℕ → Type 0) (xs : List ℕ) (y : ℕ) (ys : List ℕ) → All P (xs ++ y ∷ ys) → P y
-    All-behind P [] y ys all = All-head P y ys all
-    All-behind P (z ∷ xs) y ys all = All-behind P xs y ys (All-tail P z (xs ++ y ∷ ys) all)
-
-pub next_number : (terms : List (List ℕ)) (gram left : List ℕ) (i next count : ℕ) (rest : List ℕ) → NumbersRead terms gram left i next rest → i < count
-    → (numbers other : List ℕ) → AreNumbersOf terms gram numbers → length numbers ≡ count → left ≡ gap_codes numbers ++ other → NextNumber terms gram next rest
-next_number terms gram left i next count rest r under numbers other are many is =
-    let g = go_on 0 (length terms) r.numbers numbers rest other r.are.ascend are.ascend (omega (arith, r.many, many, under)) (sym r.read ∙ is) in
-    next_of_more terms gram next r.numbers g.more rest other r.after
-    (omega (arith, ap length g.whole, length-append r.numbers g.more, r.many, many, under))
-    (subst (AreNumbersOf terms gram) g.whole are) g.left
-
--- where no code stands, no numbers do
-pub no_next_code : (terms : List (List ℕ)) (gram : List ℕ) (next : ℕ) (rest : List ℕ) → length terms < 2 ^ 32 → ((n : ℕ) (behind : List ℕ) → n < 2 ^ 32 → rest ≢ code_of n ++ behind) → ¬ (NextNumber terms gram next rest)
-no_next_code terms gram next rest few refused n = refused n.gap n.behind (let fits : next + n.gap ≤ length terms = n.may.1 in omega (arith, fits, few)) n.stands
-
--- where another gap stands than one of a right number, no numbers do
-pub no_next_gap : (terms : List (List ℕ)) (gram : List ℕ) (next gap : ℕ) (rest behind : List ℕ) → rest ≡ code_of gap ++ behind → ¬ ((0 < gap) × (next + gap ≤ length terms) × IsGramOfTerm terms gram (next + gap - 1)) → ¬ (NextNumber terms gram next rest)
-no_next_gap terms gram next gap rest behind is wrong n =
-    let same = (code_of-apart n.gap gap n.behind behind (sym n.stands ∙ is)).0 in
-    wrong (subst (λ (g : ℕ). (0 < g) × (next + g ≤ length terms) × IsGramOfTerm terms gram (next + g - 1)) same n.may)
-
--- the term of a number has the gram, or not
-pub number_told : (rows : List PlacedTerm) (gram : List ℕ) (next gap number : ℕ) (text : List ℕ) → ¬ (gap ≡ 0) → number ≡ next + (gap - 1) → number < length rows → slice_get (terms_in rows) number ≡ Some text
-    → Contains (grams_of text) gram ↔ ((0 < gap) × (next + gap ≤ length (terms_in rows)) × IsGramOfTerm (terms_in rows) gram (next + gap - 1))
-number_told rows gram next gap number text some is low at =
-    let n : next + gap - 1 ≡ number = omega (arith, some, is) in
-    let there : slice_get (terms_in rows) (next + gap - 1) ≡ Some text = ap (slice_get (terms_in rows)) n ∙ at in (
-      λ has. (omega (arith, some), omega (arith, some, is, low, length-map rows text_of), record { term = text; numbered = there; windowed = has }),
-      λ (_, _, has). let one : has.term ≡ text = cc_term has.term text (sym has.numbered ∙ there) in subst (λ (t : List ℕ). Contains (grams_of t) gram) one has.windowed,
-    )
-  where
-    cc_term : (t u : List ℕ) → Some t ≡ Some u → t ≡ u
-    cc_term t u e = cc
-
-pub number_past : (rows : List PlacedTerm) (gram : List ℕ) (next gap number : ℕ) → ¬ (gap ≡ 0) → number ≡ next + (gap - 1) → length rows ≤ number → ¬ ((0 < gap) × (next + gap ≤ length (terms_in rows)) × IsGramOfTerm (terms_in rows) gram (next + gap - 1))
-number_past rows gram next gap number some is past (_, low, _) = omega (arith, some, is, past, low, length-map rows text_of)

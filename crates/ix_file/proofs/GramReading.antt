@@ -8,7 +8,6 @@ use Rattle.ix_vbyte.specs.Code.{code_of}
 use Rattle.ix_vbyte.specs.Postings.{codes_of}
 use Rattle.ix_vbyte.specs.Texts.{counted}
 use Rattle.ix_vbyte.proofs.Values.{some_code_byte}
-use Rattle.ix_file.specs.PlacedTerms.{PlacedTerm, terms_in}
 use Rattle.ix_index_text.specs.Grams.{IsGramOfTerm}
 use Rattle.ix_file.specs.OpenedGrams.{IsRightEntry, gap_codes, gram_bytes}
 use Rattle.ix_file.proofs.GramTexts.{HasCharacters, gram_characters}
@@ -19,20 +18,21 @@ bytes_split entry other =
     append_assoc (counted entry.gram ++ code_of (length entry.numbers)) (gap_codes entry.numbers) other
     ∙ append_assoc (counted entry.gram) (code_of (length entry.numbers)) (gap_codes entry.numbers ++ other)
 
-text_is : (texts : List (List ℕ)) (n : ℕ) (text : List ℕ) → All IsUtf8 texts → slice_get texts n ≡ Some text → IsUtf8 text
+pub text_is : (texts : List (List ℕ)) (n : ℕ) (text : List ℕ) → All IsUtf8 texts → slice_get texts n ≡ Some text → IsUtf8 text
 text_is texts n text all is =
     subst IsUtf8 (get_or_from_slice_get texts n text [] is) (all n [] (slice_get_within texts n text is))
 
--- a right entry that stands in what is left
-module _ (rows : List PlacedTerm) (texts : All IsUtf8 (terms_in rows)) (entry : GramEntry) (right : IsRightEntry (terms_in rows) entry) where
-  first_right : (terms : List (List ℕ)) (numbers : List ℕ) → 0 < length numbers → All (IsGramOfTerm terms entry.gram) numbers → (n : ℕ) × IsGramOfTerm terms entry.gram n
-  first_right terms [] some all = absurd (omega arith)
-  first_right terms (n ∷ numbers) some all = (n, All-head (IsGramOfTerm terms entry.gram) n numbers all)
+first_right : (terms : List (List ℕ)) (gram : List ℕ) (numbers : List ℕ) → 0 < length numbers → All (IsGramOfTerm terms gram) numbers → (n : ℕ) × IsGramOfTerm terms gram n
+first_right terms gram [] some all = absurd (omega arith)
+first_right terms gram (n ∷ numbers) some all = (n, All-head (IsGramOfTerm terms gram) n numbers all)
 
-  pub entry_characters : HasCharacters entry.gram
-  entry_characters =
-      let (n, is) = first_right (terms_in rows) entry.numbers right.some right.numbers.right in
-      gram_characters is.term entry.gram (text_is (terms_in rows) n is.term texts is.numbered) is.windowed
+-- a right entry has a number
+pub some_number : (terms : List (List ℕ)) (entry : GramEntry) → IsRightEntry terms entry → (n : ℕ) × IsGramOfTerm terms entry.gram n
+some_number terms entry right = first_right terms entry.gram entry.numbers right.some right.numbers.right
+
+-- a gram of a term has three characters
+pub term_characters : (terms : List (List ℕ)) (gram : List ℕ) (n : ℕ) → All IsUtf8 terms → IsGramOfTerm terms gram n → HasCharacters gram
+term_characters terms gram n texts is = gram_characters is.term gram (text_is terms n is.term texts is.numbered) is.windowed
 
 -- a code has a byte at least
 pub long_codes : (xs : List ℕ) → length xs ≤ length (codes_of xs)

@@ -26,12 +26,9 @@ pub mod ListEntering
 pub mod ListReading
 pub mod ListingReading
 pub mod ListsFound
-pub mod OnceLemmas
 pub mod OpenedLemmas
 pub mod OpenedSays
 pub mod Opening
-pub mod PairCounts
-pub mod PairOrder
 pub mod PlacedLemmas
 pub mod Placing
 pub mod PositionReading

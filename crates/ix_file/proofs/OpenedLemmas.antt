@@ -24,7 +24,7 @@ use Rattle.ix_vbyte.proofs.Walks.{coded_list}
 use Rattle.ix_file.specs.Opened.{lists_of}
 use Rattle.ix_file.specs.LongLists.{IsLongIn}
 use Rattle.ix_file.specs.ReadLists.{list_in}
-use Rattle.ix_file.specs.Tables.{entries_in, entry_in, term_in}
+use Rattle.ix_file.specs.Tables.{entries_in, term_in}
 use Rattle.ix_file.specs.PlacedTerms.{PlacedTerm}
 use Rattle.ix_file.specs.declared.open.tables.LongList.{LongList}
 use Rattle.ix_index_text.proofs.SectionSizes.{few_entries, small_parts}
@@ -102,9 +102,6 @@ number_at parts n term terms are same at =
     record { numbered = numbered; below = below; small = omega (arith, below, few_terms parts are) }
 
 -- ---- the places of a list
-pub row_at : (section : List ℕ) (terms : List PlacedTerm) (n : ℕ) (row : PlacedTerm) → n < length (entries_in section terms) → row ≡ get_or terms n row → slice_get terms n ≡ Some row
-row_at section terms n row below read = slice_get_read terms (length terms) n row refl (omega (arith, below, length-map terms (entry_in section))) read
-
 pub with_places : (section : List ℕ) (terms : List PlacedTerm) (longs : List LongList) (n : ℕ) (row : PlacedTerm) (postings : List Posting) (skips : List Skip) → All (IsLongIn section terms) longs → slice_get terms n ≡ Some row
     → IsCodedList row.documents (list_in section row) → ((are : List Posting) → ArePostings 0 (2 ^ 32 - 1) are → length are ≡ row.documents → list_in section row ≡ list_bytes are → postings ≡ are)
     → (skips ≡ []) ⊎ ((long : LongList) × Contains longs long × (long.number ≡ n) × (skips ≡ long.skips.items)) → AreSkips postings skips

@@ -5,6 +5,9 @@ use Rattle.ix_file.specs.PlacedTerms.{PlacedTerm, list_place}
 use Rattle.ix_file.specs.ReadLists.{list_in}
 use Rattle.ix_file.specs.declared.open.terms.ListPlace.{ListPlace}
 
+abbrev pub text_of : PlacedTerm → List ℕ
+text_of term = term.term
+
 -- The term of the number, whose list stands at the place.
 pub record IsPlacedAt (terms : List PlacedTerm) (number : ℕ) (place : ListPlace) : Type 0 where
   pub term : PlacedTerm

@@ -1,6 +1,6 @@
 -- DOCS is read row by row.
 use Rattle.std.proofs.Common.{◌≡◌, ℕ, ◌+◌, ◌-◌, ◌^◌, ◌<◌, ◌≤◌, List, [], ◌∷◌, ◌++◌, length, flat_map, take, drop, refl, sym, ap, ◌∙◌, subst, arith, length-append}
-use Rattle.std.proofs.lemmas.List.{append_assoc, append-nil, nil_from_length, take_at, drop_at}
+use Rattle.std.proofs.lemmas.List.{append_assoc, append-nil, take_at, drop_at}
 use Rattle.std.proofs.lemmas.List.Elements.{All-nil, All-push, All-contains, Contains-push}
 use Rattle.std.proofs.lemmas.List.Sums.{sum_by_push, sum_by-append}
 use Rattle.std.specs.List.{sum_by, slice_range}
@@ -88,9 +88,6 @@ pub rows_more : (section : List ℕ) (done : List DocumentRow) (row : DocumentRo
 unfolding documents_section
 rows_more section done row left rest e is = read_more (row_bytes code_of) section done row left rest e is
 
-pub rows_all : (section : List ℕ) (done : List DocumentRow) (left : List ℕ) → section ≡ documents_section done ++ left → length left ≡ 0 → section ≡ documents_section done
-rows_all section done left e none = e ∙ ap (λ bytes. documents_section done ++ bytes) (nil_from_length left none) ∙ append-nil (documents_section done)
-
 -- the name that was read stands where the row says
 pub named : (section before left name behind : List ℕ) → section ≡ before ++ left → left ≡ counted name ++ behind
     → slice_range section (length section - length behind - length name) (length section - length behind - length name + length name) ≡ name
@@ -107,6 +104,3 @@ row_found left name behind rest tokens is has = is ∙ ap (λ bytes. counted nam
 pub tokens_behind : (left name behind : List ℕ) (row : DocumentRow) (rest : List ℕ) → left ≡ counted name ++ behind → left ≡ row_bytes code_of row ++ rest → behind ≡ code_of row.tokens ++ rest
 tokens_behind left name behind row rest is e =
     (counted-apart name row.name behind (code_of row.tokens ++ rest) (sym is ∙ e ∙ append_assoc (counted row.name) (code_of row.tokens) rest)).1
-
-pub no_name : (left : List ℕ) → ((name rest : List ℕ) → IsName name → left ≡ counted name ++ rest → ⊥) → (row : DocumentRow) (rest : List ℕ) → IsName row.name → left ≡ row_bytes code_of row ++ rest → ⊥
-no_name left refused row rest is e = refused row.name (code_of row.tokens ++ rest) is (e ∙ append_assoc (counted row.name) (code_of row.tokens) rest)

@@ -1,6 +1,6 @@
 -- STOP is read term by term.
-use Rattle.std.proofs.Common.{◌≡◌, ℕ, ◌^◌, ◌<◌, ◌≤◌, List, [], ◌∷◌, ◌++◌, length, flat_map, All, refl, sym, ap, ◌∙◌, subst, arith, length-append}
-use Rattle.std.proofs.lemmas.List.{take_at, append-nil, nil_from_length}
+use Rattle.std.proofs.Common.{◌≡◌, ℕ, ◌^◌, ◌<◌, ◌≤◌, List, [], ◌∷◌, ◌++◌, length, flat_map, All, refl, sym, ◌∙◌, subst, arith, length-append}
+use Rattle.std.proofs.lemmas.List.{take_at}
 use Rattle.std.proofs.lemmas.List.Elements.{All-take, All-push, All-nil}
 use Rattle.ix_text.specs.ByteOrder.{IsAscending}
 use Rattle.ix_text.specs.StopSets.{IsStopSet}
@@ -38,9 +38,6 @@ stop_of_none section = refl
 pub stop_more : (section : List ℕ) (done : List (List ℕ)) (term left rest : List ℕ) → section ≡ stop_section done ++ left → left ≡ counted term ++ rest → section ≡ stop_section (done ++ term ∷ []) ++ rest
 unfolding stop_section
 stop_more section done term left rest e is = read_more counted section done term left rest e is
-
-pub stop_all : (section : List ℕ) (done : List (List ℕ)) (left : List ℕ) → section ≡ stop_section done ++ left → length left ≡ 0 → section ≡ stop_section done
-stop_all section done left e none = e ∙ ap (λ bytes. stop_section done ++ bytes) (nil_from_length left none) ∙ append-nil (stop_section done)
 
 -- where no term may follow the ones that were read, the section is that of no stop set
 pub no_stop : (section : List ℕ) (done : List (List ℕ)) (left : List ℕ) → section ≡ stop_section done ++ left → 0 < length left

@@ -1,7 +1,6 @@
 pub mod Catalogs
 pub mod Claimed
 pub mod Frames
-pub mod GramPairs
 pub mod GramSides
 pub mod GramWalks
 pub mod HeldTerms

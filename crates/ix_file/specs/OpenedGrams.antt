@@ -1,5 +1,5 @@
 -- The grams of an opened index, where they stand in GRAMS.
-use Rattle.std.specs.Prelude.{◌≡◌, ◌≢◌, ℕ, ◌+◌, ◌<◌, ◌≤◌, List, ◌++◌, ◌^◌, ◌-◌, map, length, flat_map, slice_range, slice_get, sum_by, Some, Option, IfSome, IfNone, All}
+use Rattle.std.specs.Prelude.{◌≡◌, ◌≢◌, ℕ, ◌+◌, ◌<◌, ◌≤◌, List, ◌++◌, ◌^◌, ◌-◌, map, length, flat_map, slice_range, slice_get, Some, Option, IfSome, IfNone, All}
 use Rattle.ix_text.specs.ByteOrder.{IsAscending}
 use Rattle.ix_text.specs.Parts.{GramEntry}
 use Rattle.ix_text.specs.Terms.{IsTerm}
@@ -52,17 +52,6 @@ pub record IsRightEntry (terms : List (List ℕ)) (entry : GramEntry) : Type 0 w
   pub some : 0 < length entry.numbers
   pub numbers : AreNumbersOf terms entry.gram entry.numbers
 
--- how many numbers stand under grams
-abbrev pub numbers_listed : List GramEntry → ℕ
-numbers_listed grams = sum_by (λ entry. length entry.numbers) grams
-
--- the section is of ascending grams, each with some of the terms that have it, which stand where the rows say
-pub record AreRightRows (terms : List (List ℕ)) (section : List ℕ) (rows : List GramRow) : Type 0 where
-  pub right : All (IsRightEntry terms) (grams_in section rows)
-  pub ascending : IsAscending (map (λ entry. entry.gram) (grams_in section rows))
-  pub spelled : section ≡ grams_section (grams_in section rows)
-  pub gaps : All (IsGramRow section) rows
-
 -- ---- rows that were cut off, whose numbers may be any
 
 -- the row lies in the section
@@ -93,10 +82,6 @@ pub record AreCutRows (section : List ℕ) (rows : List GramRow) : Type 0 where
   pub ascending : IsAscending (map (λ row. (gram_in section row).gram) rows)
   pub lie : All (LiesIn section) rows
   pub only : (grams : List GramEntry) → All IsListedGram grams → section ≡ grams_section grams → (grams ≡ grams_in section rows) × All (IsGramRow section) rows
-
--- how many numbers the rows say that there are
-abbrev pub numbers_claimed : List GramRow → ℕ
-numbers_claimed rows = sum_by (λ row. row.count) rows
 
 -- a row of a gram with some of the terms that have it
 pub record IsRightRow (terms : List (List ℕ)) (section : List ℕ) (row : GramRow) : Type 0 where

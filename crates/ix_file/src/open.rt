@@ -1,4 +1,4 @@
-//! The exact reading of an index text, section by section: each part is accepted exactly where it is the part of
+//! The exact reading of an index text, section by section: each part is accepted exactly if it is the part of
 //! lawful values, and gives those.
 ghost use Rattle.std.specs.Prelude.{◌≡◌, ◌⊎◌, ◌^◌, ◌<◌, ◌≤◌, IfOk, IfErr};
 ghost use Rattle.ix_file.specs.Catalogs.{AreGramRowsOf, AreLongListsOf, AreNoSections, IsCatalogOf};
@@ -18,7 +18,6 @@ mod gram_walk;
 pub(crate) mod grams;
 pub(crate) mod list;
 pub(crate) mod lists;
-mod pairs;
 pub(crate) mod positions;
 mod sides;
 pub(crate) mod stop;
@@ -55,10 +54,10 @@ pub(crate) fn read_tables(alloc: Global, frame: &Frame<'_>) -> Result<Tables, Op
     Ok(tables_of(frame, catalog, longs, grams))
 }
 
-/// Reads the tables as `read_tables` does: POSTINGS and GRAMS side by side, in several threads where there may be
+/// Reads the tables as `read_tables` does: POSTINGS and GRAMS side by side, in several threads if there may be
 /// several.
 ///
-/// The same errors in the same order: where both are refused, those of POSTINGS.
+/// The same errors in the same order: if both fail, those of POSTINGS.
 pub(crate) fn read_tables_beside<R: Threads + Sync>(
     rt: &R,
     alloc: Global,

@@ -72,14 +72,6 @@ pub record IsBetween (terms : List (List ℕ)) (text : List ℕ) (past : Bool) (
   pub before : (k : ℕ) (term : List ℕ) → slice_get terms k ≡ Some term → k < low → stands_before past (front_side term text) ≡ true
   pub behind : (k : ℕ) (term : List ℕ) → slice_get terms k ≡ Some term → high ≤ k → stands_before past (front_side term text) ≡ false
 
-pub between-all : (terms : List (List ℕ)) (text : List ℕ) (past : Bool) (count : ℕ) → count ≡ length terms → IsBetween terms text past 0 count
-between-all terms text past count is = record {
-  order = omega arith;
-  within = omega arith;
-  before = λ k term at below. absurd (omega arith);
-  behind = λ k term at above. absurd (let within = slice_get_within terms k term at in omega arith);
-}
-
 terms_rise : (terms : List (List ℕ)) (i j : ℕ) (a b : List ℕ) → IsAscending terms → slice_get terms i ≡ Some a → slice_get terms j ≡ Some b → i < j → cmp a b ≡ Less
 terms_rise terms i j a b up first second less =
     let one : get_or terms i [] ≡ a = get_or_from_slice_get terms i a [] first in

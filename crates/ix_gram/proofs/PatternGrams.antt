@@ -1,7 +1,7 @@
 -- A term that matches a pattern has the trigrams of `$` and the first piece, of each inner piece, and of the last and `$`.
 use Rattle.std.proofs.Common.{◌≡◌, ℕ, ◌+◌, inl, inr, List, [], ◌∷◌, ◌++◌, map, length, refl, sym, ap, ◌∙◌, subst, arith, append_assoc, length-append, get_or}
 use Rattle.std.proofs.lemmas.List.{get_or_append_left, append-nil}
-use Rattle.std.proofs.lemmas.List.Elements.{Contains-append_left, Contains-push, All-append, All-cons, All-map, All-contains, All-head, All-nil, All-push, All-tail, All-weaker}
+use Rattle.std.proofs.lemmas.List.Elements.{Contains-append_left, Contains-push, All-append, All-cons, All-map, All-contains, All-head, All-push, All-tail, All-weaker}
 use Rattle.std.proofs.lemmas.Option.{slice_get_within}
 use Rattle.std.proofs.lemmas.Str.{chars-append, IsUtf8-append, IsUtf8-from_ascii, IsUtf8-nil}
 use Rattle.std.proofs.lemmas.Str.Ascii.{IsAscii-cons, IsAscii-nil}
@@ -183,9 +183,6 @@ pub no_candidate : (terms pieces : List (List ℕ)) (text : List ℕ) → Tells 
 no_candidate terms pieces text told none n is = none n is.term is.numbered (told is.term is.matched)
 
 -- ---- one more list
-
-pub adds-none : (terms : List (List ℕ)) (text : List ℕ) (lists : List (List ℕ)) → AddsLists terms text lists lists
-adds-none terms text lists = record { added = []; held = All-nil (HoldTerms terms text); appended = sym (append-nil lists) }
 
 pub adds-more : (terms : List (List ℕ)) (text : List ℕ) (old new : List (List ℕ)) (numbers : List ℕ) → AddsLists terms text old new → HoldTerms terms text numbers → AddsLists terms text old (new ++ numbers ∷ [])
 adds-more terms text old new numbers adds holds = record {

@@ -100,10 +100,6 @@ begins term piece rest pieces (n, found, is, size) =
           subst P same (loosened front.0 pieces front.2);
     }
 
--- it does not
-pub front_missing : (term piece : List ℕ) (pieces : List (List ℕ)) → LacksTextAt piece term 0 → Matches term (piece ∷ pieces) → ⊥
-front_missing term piece pieces lacks h = let front = to_front term piece pieces h in lacks front.0 front.1
-
 -- an inner piece was found
 pub goes_on : (term : List ℕ) (pattern : List (List ℕ)) (rest piece : List ℕ) (middle : List (List ℕ)) (last gap after : List ℕ) → SplitsAroundMatch (FindsText piece) rest gap after → IsUtf8 rest → IsUtf8 piece → IsUtf8 after → Tells term pattern rest (piece ∷ (middle ++ last ∷ [])) → Tells term pattern after (middle ++ last ∷ [])
 goes_on term pattern rest piece middle last gap after (i, j, found, front, back, order, size, left) whole_text piece_text after_text tells =

@@ -59,7 +59,7 @@ impl Catalog {
     ghost use Rattle.ix_file.specs.declared.open_error.OpenError.TheVariants.{Memory};
 
     /// Checks the list of each term, where it stands in POSTINGS, and that no token of the documents is claimed twice.
-    /// Answers where the long lists may be entered.
+    /// Returns where the long lists may be entered.
     ///
     /// The errors of POSTINGS; or `Memory`.
     pub(crate) fn check_postings(
@@ -83,7 +83,7 @@ impl Catalog {
         Ok(longs)
     }
 
-    /// Checks POSTINGS as `check_postings` does, in two threads where there may be two. It answers the same.
+    /// Checks POSTINGS as `check_postings` does, in two threads if there may be two. The result is the same.
     pub(crate) fn check_postings_beside<R: Threads>(
         &self,
         rt: &R,
@@ -108,7 +108,7 @@ impl Catalog {
 
     /// Reads GRAMS, which lists each gram of the terms.
     ///
-    /// `Grams` where the section is any other, or `Memory`.
+    /// `Grams` if the section is any other, or `Memory`.
     pub(crate) fn check_grams(
         &self,
         alloc: Global,
@@ -127,7 +127,7 @@ impl Catalog {
         Ok(rows)
     }
 
-    /// Reads GRAMS as `check_grams` does, in two threads where there may be two. It answers the same.
+    /// Reads GRAMS as `check_grams` does, in two threads if there may be two. The result is the same.
     pub(crate) fn check_grams_beside<R: Threads>(
         &self,
         rt: &R,

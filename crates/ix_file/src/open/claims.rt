@@ -23,8 +23,8 @@ pub(crate) enum Claims {
 }
 
 impl Claims {
-    /// No claims, with room for the tokens of a collection: marks where they take no more bytes than POSTINGS has,
-    /// and else a list, so that a text that tells of many tokens and has few takes no more memory for it.
+    /// No claims, with room for the tokens of a collection: marks if they take no more bytes than POSTINGS has,
+    /// and else a list, so that a text that claims many tokens and has few takes no more memory for it.
     pub(crate) fn new(alloc: Global, tokens: u32, postings: usize) -> Result<Claims, AllocError>
         ensures none { IfOk result (λ claims. HasClaimed claims []) }
         ensures room { IfOk result (λ claims. HasRoom claims tokens) }
@@ -71,7 +71,7 @@ impl Claims {
         }
     }
 
-    /// Whether a token was claimed more than once, here or there or once in both: told of marks alone, since lists are
+    /// Whether a token was claimed more than once, here or there or once in both: known of marks alone, since lists are
     /// not compared.
     pub(crate) fn are_doubled_beside(&self, other: &Claims) -> Option<bool>
         ensures { IfSome result (λ doubled. (one others : List ℕ) → HasClaimed self.now one →

@@ -34,10 +34,10 @@ pub(crate) struct ListedTerm {
 
 /// Reads DICTIONARY, which has this many terms, whose lists are as long as POSTINGS.
 ///
-/// Term by term: `Number` of its codes, `Front` where it is front coded and what it shares is not the longest front
-/// that it shares with the term before, `TermSize`, `Number` where the section ends inside it, `Text`, `TermOrder`,
+/// Term by term: `Number` of its codes, `Front` if it is front coded and what it shares is not the longest front
+/// that it shares with the term before, `TermSize`, `Number` if the section ends inside it, `Text`, `TermOrder`,
 /// `StopIndexed`, `Number` and `Zero` of the number of its documents, and `Number` of its list's length. Behind the
-/// last, `Counts` where there is another number of terms, and `ListLength` where the lists are not as long as
+/// last, `Counts` if there is another number of terms, and `ListLength` if the lists are not as long as
 /// POSTINGS; or `Memory`.
 pub(crate) fn read_dictionary(
     alloc: Global,
@@ -104,7 +104,7 @@ fn room_for_terms(
     )
 }
 
-/// The last term, or the empty text where there is none.
+/// The last term, or the empty text if there is none.
 fn last_text(terms: &Terms) -> &str
     ensures { result.now ≡ last_listed (listings_in terms.now) }
 {
@@ -150,7 +150,7 @@ fn read_row<'a>(
 
 /// The number of documents and the length of the list, in bytes, that stand behind a term, and what follows them.
 ///
-/// `Number` of the first; `Zero` where it is 0; `Number` of the second.
+/// `Number` of the first; `Zero` if it is 0; `Number` of the second.
 fn read_counts(left: &[u8]) -> Result<(u32, u32, &[u8]), OpenError>
     ensures some { IfOk result (λ read. 0 < read.0) }
     ensures small { IfOk result (λ read. (read.0 < 2 ^ 32) × (read.1 < 2 ^ 32)) }
@@ -170,8 +170,8 @@ fn read_counts(left: &[u8]) -> Result<(u32, u32, &[u8]), OpenError>
 /// The term that what is left of DICTIONARY begins with at a place, behind the term before, in place of what the buffer
 /// held, and what follows it.
 ///
-/// The errors of `cut_term`; `Text` where it is not UTF-8; `TermOrder` where it does not stand above the term before;
-/// `StopIndexed` where it is a stop term; or `Memory`.
+/// The errors of `cut_term`; `Text` if it is not UTF-8; `TermOrder` if it is not above the term before;
+/// `StopIndexed` if it is a stop term; or `Memory`.
 fn read_term<'a>(
     buffer: Vec<u8>,
     version: Version,
@@ -202,7 +202,7 @@ fn read_term<'a>(
 
 /// Two runs of bytes as one text, in place of what the buffer held.
 ///
-/// `Text` where they are not UTF-8 together; or `Memory`.
+/// `Text` if they are not UTF-8 together; or `Memory`.
 fn join(buffer: Vec<u8>, front: &[u8], own: &[u8]) -> Result<String, OpenError>
     ensures found { IfOk result (λ text. string_bytes text ≡ front.now ++ own.now) }
     ensures refused { IfErr result (λ error. (error ≡ Memory) ⊎ ¬ (IsUtf8 (front.now ++ own.now))) }
@@ -252,9 +252,9 @@ fn cut_term<'a, 'b>(
     }
 }
 
-/// Cuts a term off that stands whole.
+/// Cuts a term off that is whole.
 ///
-/// `Number` of its length or where there are fewer bytes; `TermSize` where it has not 1 to 255 bytes.
+/// `Number` of its length or if there are fewer bytes; `TermSize` if it has not 1 to 255 bytes.
 fn cut_whole<'a, 'b>(before: &'b [u8], left: &'a [u8]) -> Result<TermCut<'a, 'b>, OpenError>
     ensures size { IfOk result (λ cut. HasTermSize (text_of cut)) }
     ensures found { IfOk result (λ cut. left.now ≡ counted (text_of cut) ++ cut.rest.now) }
@@ -275,8 +275,8 @@ fn cut_whole<'a, 'b>(before: &'b [u8], left: &'a [u8]) -> Result<TermCut<'a, 'b>
 
 /// Cuts a term off that is front coded.
 ///
-/// `Number` of its two numbers; `Front` where it shares another number of bytes with the term before; `TermSize` where
-/// it has not 1 to 255 bytes; `Number` where there are fewer bytes.
+/// `Number` of its two numbers; `Front` if it shares another number of bytes with the term before; `TermSize` where
+/// it has not 1 to 255 bytes; `Number` if there are fewer bytes.
 fn cut_front_coded<'a, 'b>(before: &'b [u8], left: &'a [u8]) -> Result<TermCut<'a, 'b>, OpenError>
     requires { length before.now ≤ MAX_TERM_BYTES }
     ensures size { IfOk result (λ cut. HasTermSize (text_of cut)) }
@@ -298,7 +298,7 @@ fn cut_front_coded<'a, 'b>(before: &'b [u8], left: &'a [u8]) -> Result<TermCut<'
 /// The bytes that a term shares with the term before, which are to be as many as it can share, where it has this
 /// many of its own, and they begin what is left.
 ///
-/// `Front` where they are not; `Number` of `Cut` where nothing is left.
+/// `Front` if they are not; `Number` of `Cut` if nothing is left.
 fn longest_front<'b>(
     before: &'b [u8],
     shared: u32,

@@ -25,8 +25,8 @@ pub(crate) struct Row {
 /// Reads DOCS, which has this many documents: for each its name and the number of its tokens, of which there are
 /// at most 2^28 in all.
 ///
-/// `Number`, `Name` and `Text` of a name, and `Name` where it holds a TAB or an LF; `Number` of its tokens;
-/// `TooLarge` where there are more than 2^28 tokens; behind the last, `Counts` where there is another number of
+/// `Number`, `Name` and `Text` of a name, and `Name` if it holds a TAB or an LF; `Number` of its tokens;
+/// `TooLarge` if there are more than 2^28 tokens; behind the last, `Counts` if there is another number of
 /// documents; or `Memory`.
 pub(crate) fn read_documents(
     alloc: Global,
@@ -79,7 +79,7 @@ fn read_row<'a>(section: &[u8], left: &'a [u8]) -> Result<(Row, &'a [u8]), OpenE
     Ok((row, rest))
 }
 
-/// The name that stands at the front of what is left of DOCS, and what follows it.
+/// The name at the front of what is left of DOCS, and what follows it.
 fn read_name(left: &[u8]) -> Result<(&str, &[u8]), OpenError>
     ensures found { IfOk result (λ read. IsName read.0.now
         × (left.now ≡ counted read.0.now ++ read.1.now)) }

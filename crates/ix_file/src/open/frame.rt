@@ -14,7 +14,7 @@ use ix_text::MAX_DOCUMENTS;
 /// The version of an index text.
 #[derive(Clone, Copy)]
 pub(crate) enum Version {
-    /// Version 1: each term of the dictionary stands whole.
+    /// Version 1: each term of the dictionary is whole.
     Plain,
     /// Version 2: the dictionary is front coded.
     FrontCoded,
@@ -30,7 +30,7 @@ pub(crate) struct FileSections<'a> {
     pub(crate) grams: &'a [u8],
 }
 
-/// An index text cut by its trailer, and how many documents and terms that says there are.
+/// An index text cut by its trailer, and how many documents and terms it says there are.
 #[derive(Clone, Copy)]
 pub(crate) struct Frame<'a> {
     pub(crate) version: Version,
@@ -41,8 +41,8 @@ pub(crate) struct Frame<'a> {
 
 /// Cuts an index text. Nothing is looked at but the marks and the trailer.
 ///
-/// `Short` where there are fewer than 64 bytes; `Magic` where the first eight are those of no version; `Trailer` where
-/// the last eight are not those of this version; `Lengths` where the lengths do not sum to what is between; `TooLarge`
+/// `Short` if there are fewer than 64 bytes; `Magic` if the first eight are those of no version; `Trailer` where
+/// the last eight are not those of this version; `Lengths` if the lengths do not sum to what is between; `TooLarge`
 /// where there are more than 2^28 documents.
 pub(crate) fn cut(bytes: &[u8]) -> Result<Frame<'_>, OpenError>
     ensures found { IfOk result (λ frame. bytes.now ≡ framed (version_in frame.version)
@@ -104,7 +104,7 @@ fn split_frame(bytes: &[u8]) -> Parts<'_>
     }
 }
 
-/// The version whose mark stands at the front.
+/// The version whose mark is at the front.
 fn version_of(mark: &[u8]) -> Option<Version>
     ensures { MatchOption result ((version : FormatVersion) → mark.now ≢ magic version)
         (λ version. mark.now ≡ magic (version_in version)) }
@@ -153,7 +153,7 @@ fn cut_sections<'a>(body: &'a [u8], sizes: &[u8]) -> Result<FileSections<'a>, Op
     })
 }
 
-/// Cuts off the section whose length is the first, and answers it, what follows it, and the lengths behind.
+/// Cuts off the section whose length is the first, and returns it, what follows it, and the lengths behind.
 fn cut_section<'a, 'b>(
     body: &'a [u8],
     sizes: &'b [u8],
@@ -174,7 +174,7 @@ fn cut_section<'a, 'b>(
     Ok((section, rest, more))
 }
 
-/// The length that stands at the front, and what follows it.
+/// The length at the front, and what follows it.
 fn read_length(sizes: &[u8]) -> (u64, &[u8])
     requires { LENGTH_BYTES ≤ length sizes.now }
     ensures value { sizes.now ≡ eight result.0 ++ result.1.now }

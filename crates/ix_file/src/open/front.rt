@@ -12,7 +12,7 @@ use std::str::from_utf8;
 
 /// The number whose code the bytes of a section begin with, and what follows the code.
 ///
-/// `Number`, with this section, where no code stands there.
+/// `Number`, with this section, if no code is there.
 #[inline]
 pub(crate) fn read_number(section: Section, bytes: &[u8]) -> Result<(u32, &[u8]), OpenError>
     ensures found { IfOk result (λ read. (read.0 < 2 ^ 32)
@@ -27,9 +27,9 @@ pub(crate) fn read_number(section: Section, bytes: &[u8]) -> Result<(u32, &[u8])
     }
 }
 
-/// So many bytes, and what follows them.
+/// The first `count` bytes, and what follows them.
 ///
-/// `Number` of `Cut`, with this section, where there are fewer.
+/// `Number` of `Cut`, with this section, if there are fewer.
 #[inline]
 pub(crate) fn read_bytes(
     section: Section,
@@ -49,8 +49,8 @@ pub(crate) fn read_bytes(
 /// The text of 1 to 255 bytes that stands, behind the number of its bytes, at the front of some bytes of a section,
 /// and what follows it.
 ///
-/// `Number`, with this section, where the number is no code, or where there are fewer bytes; the error that is handed
-/// in where the number is not 1 to 255; `Text` where the bytes are not UTF-8.
+/// `Number`, with this section, if the number is no code, or if there are fewer bytes; the error that is handed
+/// in if the number is not 1 to 255; `Text` if the bytes are not UTF-8.
 pub(crate) fn read_text(
     section: Section,
     wrong_size: OpenError,

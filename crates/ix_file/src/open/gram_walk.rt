@@ -1,24 +1,21 @@
 //! The terms are walked in order, and each gram of a term is to list it next: so each number under a gram is looked at
 //! once, where the numbers before it were read, and no term is looked for.
-ghost use Rattle.std.specs.Prelude.{◌≡◌, ℕ, ◌-◌, ◌^◌, ◌<◌, ◌≤◌, List, slice_get, Some, All, Contains, IsTrue, IsUtf8, IfOk, IfSome, length};
-ghost use Rattle.ix_file.specs.GramSides.{AreChars, IsKeyOf, gram_key};
-ghost use Rattle.ix_index_text.specs.GramTables.{text_of};
-ghost use Rattle.ix_file.specs.GramWalks.{AreAllListed, AreListedOn, AreListedUpTo, HasRead, HaveRead, IsAtEnd, IsListed, IsListedNext, IsCursorOf};
-ghost use Rattle.ix_index_text.specs.Grams.{IsGramOfTerm};
-ghost use Rattle.ix_file.specs.OpenedGrams.{IsRightRow, LiesIn, gram_in};
+ghost use Rattle.std.specs.Prelude.{◌≡◌, ◌⊎◌, ◌↔◌, ℕ, ◌-◌, ◌^◌, ◌<◌, ◌≤◌, List, [], map, IfNone, All, IsUtf8, IfOk, IfErr, IfSome, IsTrue, length};
+ghost use Rattle.ix_text.specs.ByteOrder.{IsAscending};
+ghost use Rattle.ix_file.specs.GramSides.{IsKeyOf};
+ghost use Rattle.ix_file.specs.GramWalks.{AreRowsOn, Finds, HasRead, HaveRead, IsAtEnd, IsNoGram, IsRowKey, IsRowOn, IsRowOfTerms, Reads, Sees, Walks};
+ghost use Rattle.ix_file.specs.OpenedGrams.{AreCutRows, IsRightRow, LiesIn, gram_in};
 ghost use Rattle.ix_file.specs.PlacedTerms.{terms_in};
-ghost use Rattle.ix_index_text.specs.TermWindows.{windows_of_term};
-ghost use Rattle.ix_file.specs.declared.open.grams.GramRow.{GramRow as SeenRow};
+ghost use Rattle.ix_file.specs.declared.open.sides.Side.{Side as SeenSide};
 ghost use Rattle.ix_file.specs.declared.open.sides.Side.TheVariants.{Below, From};
-ghost use Rattle.ix_index_text.specs.declared.windows.Gram.{Gram as SeenGram};
+ghost use Rattle.ix_file.specs.declared.open_error.OpenError.TheVariants.{Memory};
 
 use crate::open::front::read_number;
 use crate::open::grams::{GramRow, gram_bytes};
-use crate::open::pairs::pair_of;
-use crate::open::sides::{Side, key_of};
+use crate::open::sides::{Side, gram_of, key_of};
 use crate::open::terms::Terms;
 use crate::{OpenError, Section};
-use ix_index_text::{Gram, windows_of};
+use ix_index_text::windows_of;
 use std::alloc::{AllocError, Global};
 use std::str::from_utf8;
 use std::thread::{Threads, join};
@@ -39,8 +36,10 @@ pub(crate) struct Cursor<'a> {
     pub(crate) gaps: &'a [u8],
 }
 
-/// Whether the rows are of the grams of the terms: each number of a row is that of a term that has its gram, and each
-/// gram of a term has a row with its number. Where they are not, or memory is refused, it fails.
+/// Checks that each row has the numbers of exactly the terms that have its gram, and that each gram of a term has a
+/// row.
+///
+/// `Grams` if not, or `Memory`.
 pub(crate) fn walk_terms(
     alloc: Global,
     section: &[u8],
@@ -48,35 +47,32 @@ pub(crate) fn walk_terms(
     terms: &Terms,
 ) -> Result<(), OpenError>
     requires few { length terms.now < 2 ^ 32 }
-    requires texts { All IsUtf8 (terms_in terms.now) }
-    requires lie { All (LiesIn section.now) rows.now }
-    ensures right { IfOk result (λ _.
-        All (IsRightRow (terms_in terms.now) section.now) rows.now) }
-    ensures all { IfOk result (λ _. AreAllListed (terms_in terms.now) section.now rows.now) }
+    requires cut { AreCutRows section.now rows.now }
+    ensures found { IfOk result (λ _.
+        AreRowsOn (From 0) (terms_in terms.now) section.now rows.now) }
+    ensures refused { IfErr result (λ error. (error ≡ Memory)
+        ⊎ ¬ (AreRowsOn (From 0) (terms_in terms.now) section.now rows.now)) }
 {
     walk_side(alloc, section, rows, terms, Side::From(0))
 }
 
-/// The same, in two threads where there may be two: about half of the numbers stand under grams that are below that of
-/// a row, the others under that gram and those above it, and each thread takes one of the two sides.
-///
-/// `listed` is how many numbers the rows say that there are.
+/// The same, in two threads if there may be two: one takes the grams below that of the middle row, the other the rest.
 pub(crate) fn walk_terms_beside<R: Threads>(
     rt: &R,
     alloc: Global,
     section: &[u8],
     rows: &[GramRow],
-    listed: usize,
     terms: &Terms,
 ) -> Result<(), OpenError>
     requires few { length terms.now < 2 ^ 32 }
     requires texts { All IsUtf8 (terms_in terms.now) }
-    requires lie { All (LiesIn section.now) rows.now }
-    ensures right { IfOk result (λ _.
-        All (IsRightRow (terms_in terms.now) section.now) rows.now) }
-    ensures all { IfOk result (λ _. AreAllListed (terms_in terms.now) section.now rows.now) }
+    requires cut { AreCutRows section.now rows.now }
+    ensures found { IfOk result (λ _.
+        AreRowsOn (From 0) (terms_in terms.now) section.now rows.now) }
+    ensures refused { IfErr result (λ error. (error ≡ Memory)
+        ⊎ ¬ (AreRowsOn (From 0) (terms_in terms.now) section.now rows.now)) }
 {
-    let middle = first_behind(rows, listed / 2);
+    let middle = middle_of(section, rows);
     let Some(pivot) = pivot_of(section, rows, middle) else {
         return walk_terms(alloc, section, rows, terms);
     };
@@ -84,18 +80,24 @@ pub(crate) fn walk_terms_beside<R: Threads>(
     let walk_front = || -> Result<(), OpenError>
         requires few { length terms.now < 2 ^ 32 }
         requires lie { All (LiesIn section.now) front.now }
-        ensures right { IfOk result (λ _.
-            All (IsRightRow (terms_in terms.entry.now) section.entry.now) front.entry.now) }
-        ensures all { IfOk result (λ _. AreListedOn (Below pivot) (terms_in terms.entry.now)
+        requires ascending { IsAscending (map (λ row. (gram_in section.now row).gram) front.now) }
+        requires on { All (IsRowOn (Below pivot) section.now) front.now }
+        ensures found { IfOk result (λ _. AreRowsOn (Below pivot) (terms_in terms.entry.now)
             section.entry.now front.entry.now) }
+        ensures refused { IfErr result (λ error. (error ≡ Memory)
+            ⊎ ¬ (AreRowsOn (Below pivot) (terms_in terms.entry.now) section.entry.now
+            front.entry.now)) }
     { walk_side(alloc, section, front, terms, Side::Below(pivot)) };
     let walk_back = || -> Result<(), OpenError>
         requires few { length terms.now < 2 ^ 32 }
         requires lie { All (LiesIn section.now) back.now }
-        ensures right { IfOk result (λ _.
-            All (IsRightRow (terms_in terms.entry.now) section.entry.now) back.entry.now) }
-        ensures all { IfOk result (λ _. AreListedOn (From pivot) (terms_in terms.entry.now)
+        requires ascending { IsAscending (map (λ row. (gram_in section.now row).gram) back.now) }
+        requires on { All (IsRowOn (From pivot) section.now) back.now }
+        ensures found { IfOk result (λ _. AreRowsOn (From pivot) (terms_in terms.entry.now)
             section.entry.now back.entry.now) }
+        ensures refused { IfErr result (λ error. (error ≡ Memory)
+            ⊎ ¬ (AreRowsOn (From pivot) (terms_in terms.entry.now) section.entry.now
+            back.entry.now)) }
     { walk_side(alloc, section, back, terms, Side::From(pivot)) };
     let (below, from) = join(rt, walk_front, walk_back);
     below?;
@@ -103,31 +105,27 @@ pub(crate) fn walk_terms_beside<R: Threads>(
     Ok(())
 }
 
-/// The place of the first row before which so many numbers stand, or how many rows there are.
-fn first_behind(rows: &[GramRow], numbers: usize) -> usize
+/// The place of the first row whose numbers are in the second half of GRAMS, or how many rows there are.
+fn middle_of(section: &[u8], rows: &[GramRow]) -> usize
     ensures { result ≤ length rows.now }
 {
-    let mut before = 0usize;
-    for (place, row) in rows.iter().enumerate() {
-        if before >= numbers {
-            return place;
-        }
-        before = before.saturating_add(row.count as usize);
-    }
-    rows.len()
+    let half = section.len() / 2;
+    rows.partition_point(|row| row.numbers < half)
 }
 
-/// The key of the gram of the row at a place: none where there is no such row, or it is not of a gram.
+/// The key of the gram of the row at a place: none if there is no such row, or it is not of a gram.
 fn pivot_of(section: &[u8], rows: &[GramRow], place: usize) -> Option<u64>
     requires { All (LiesIn section.now) rows.now }
+    ensures { IfSome result (IsRowKey section.now rows.now place) }
 {
     let row = rows.get(place)?;
     key_in(section, *row)
 }
 
-/// Whether the rows are of the grams of the terms on one side: each number of a row is that of a term that has its gram,
-/// and each gram of a term that is on the side has a row with its number. Where they are not, or memory is refused, it
-/// fails.
+/// Checks the rows of the grams on one side: that each has the numbers of exactly the terms that have its gram, and
+/// that each gram of a term that is on the side has a row.
+///
+/// `Grams` if not, or `Memory`.
 fn walk_side(
     alloc: Global,
     section: &[u8],
@@ -137,13 +135,16 @@ fn walk_side(
 ) -> Result<(), OpenError>
     requires few { length terms.now < 2 ^ 32 }
     requires lie { All (LiesIn section.now) rows.now }
-    ensures right { IfOk result (λ _.
-        All (IsRightRow (terms_in terms.now) section.now) rows.now) }
-    ensures all { IfOk result (λ _. AreListedOn side (terms_in terms.now) section.now rows.now) }
+    requires ascending { IsAscending (map (λ row. (gram_in section.now row).gram) rows.now) }
+    requires on { All (IsRowOn side section.now) rows.now }
+    ensures found { IfOk result (λ _. AreRowsOn side (terms_in terms.now) section.now rows.now) }
+    ensures refused { IfErr result (λ error. (error ≡ Memory)
+        ⊎ ¬ (AreRowsOn side (terms_in terms.now) section.now rows.now)) }
 {
+    let count = terms.len();
     let mut cursors = cursors_of(alloc, section, rows)?;
     let slots = slots_of(alloc, &cursors)?;
-    for number in 0..terms.len() {
+    for number in 0..count {
         if !take_term(
             &mut cursors,
             &slots,
@@ -161,14 +162,19 @@ fn walk_side(
 }
 
 /// A cursor before the first number of each row.
+///
+/// `Grams` if a row is not of a gram, or has no number; or `Memory`.
 fn cursors_of<'a>(
     alloc: Global,
     section: &'a [u8],
     rows: &[GramRow],
 ) -> Result<Vec<Cursor<'a>>, OpenError>
     requires { All (LiesIn section.now) rows.now }
-    ensures { IfOk result (λ cursors. (terms : List (List ℕ)) →
-        HaveRead terms section.now rows.now cursors.items) }
+    ensures found { IfOk result (λ cursors. (side : SeenSide) (terms : List (List ℕ)) →
+        All (IsRowOn side section.now) rows.now →
+        HaveRead side terms section.now 0 [] rows.now cursors.items) }
+    ensures refused { IfErr result (λ error. (error ≡ Memory) ⊎ ((terms : List (List ℕ)) →
+        All IsUtf8 terms → ¬ (All (IsRightRow terms section.now) rows.now))) }
 {
     let mut cursors = Vec::with_capacity(alloc, rows.len())?;
     for &row in rows {
@@ -180,11 +186,13 @@ fn cursors_of<'a>(
     Ok(cursors)
 }
 
-/// A cursor before the first number of a row: none where the row is not of a gram, or has no number.
+/// A cursor before the first number of a row: none if the row is not of a gram, or has no number.
 fn cursor_of(section: &[u8], row: GramRow) -> Option<Cursor<'_>>
     requires { LiesIn section.now row }
-    ensures { IfSome result (λ cursor. (terms : List (List ℕ)) →
-        HasRead terms section.now row cursor) }
+    ensures some { IfSome result (λ cursor. (side : SeenSide) (terms : List (List ℕ)) →
+        IsRowOn side section.now row → HasRead side terms section.now 0 [] row cursor) }
+    ensures none { IfNone result ((terms : List (List ℕ)) → All IsUtf8 terms →
+        ¬ (IsRightRow terms section.now row)) }
 {
     let key = key_in(section, row)?;
     if row.count == 0 {
@@ -198,20 +206,17 @@ fn cursor_of(section: &[u8], row: GramRow) -> Option<Cursor<'_>>
     })
 }
 
-/// The key of the gram of a row: none where the row is not of a gram.
+/// The key of the gram of a row: none if the row is not of a gram.
 fn key_in(section: &[u8], row: GramRow) -> Option<u64>
     requires { LiesIn section.now row }
-    ensures { IfSome result (IsKeyOf (gram_in section.now row).gram) }
+    ensures some { IfSome result (IsKeyOf (gram_in section.now row).gram) }
+    ensures none { IfNone result (IsNoGram (gram_in section.now row).gram) }
 {
     let Ok(text) = from_utf8(gram_bytes(section, row)) else {
         return None;
     };
-    let pair = pair_of(text)?;
-    Some(key_of(Gram {
-        first: pair.first,
-        second: pair.second,
-        third: pair.third,
-    }))
+    let gram = gram_of(text)?;
+    Some(key_of(gram))
 }
 
 /// Where the cursor of a key may be found, by a number that the key comes to: one above its place, or 0. What does not
@@ -248,13 +253,11 @@ fn slot_of(key: u64, slots: usize) -> usize {
     (spread.wrapping_mul(slots as u64) >> 32) as usize
 }
 
-/// Takes each gram on the side of the next term, which has this number, from the cursor of its row. Whether each has
-/// one, whose next number it is.
+/// Takes the number of the next term from the cursor of each of its grams on the side. False: some gram has none whose
+/// next number it is.
 fn take_term(cursors: &mut [Cursor<'_>], slots: &[u32], side: Side, term: &str, number: u32) -> bool
     requires { number < 2 ^ 32 - 1 }
-    ensures { IsTrue result → (terms : List (List ℕ)) (section : List ℕ) (rows : List SeenRow) →
-        slice_get terms number ≡ Some term.now → HaveRead terms section rows cursors.old →
-        AreListedUpTo terms section rows cursors.new side (windows_of_term term.now) number }
+    ensures { Walks cursors.old side term.now number result cursors.new }
 {
     for gram in windows_of(term) {
         let key = key_of(gram);
@@ -265,15 +268,11 @@ fn take_term(cursors: &mut [Cursor<'_>], slots: &[u32], side: Side, term: &str, 
     true
 }
 
-/// Takes the number from the cursor of the key's gram. Whether there is one, whose next number it is, or whose last.
+/// Takes the number from the cursor of the key's gram. False: there is none whose next number it is, or whose last.
 #[inline]
 fn take_key(cursors: &mut [Cursor<'_>], slots: &[u32], key: u64, number: u32) -> bool
     requires { number < 2 ^ 32 - 1 }
-    ensures { IsTrue result → (terms : List (List ℕ)) (section : List ℕ) (rows : List SeenRow)
-        (gram : SeenGram) → AreChars gram → gram_key gram ≡ key →
-        IsGramOfTerm terms (text_of gram) number → HaveRead terms section rows cursors.old →
-        HaveRead terms section rows cursors.new × IsListed terms section rows (text_of gram)
-        number }
+    ensures { Sees cursors.old key number result cursors.new }
 {
     let Some(place) = find(cursors, slots, key) else {
         return false;
@@ -288,7 +287,7 @@ fn take_key(cursors: &mut [Cursor<'_>], slots: &[u32], key: u64, number: u32) ->
 /// The place of the cursor of a key.
 #[inline]
 fn find(cursors: &[Cursor<'_>], slots: &[u32], key: u64) -> Option<usize>
-    ensures { IfSome result (IsCursorOf cursors.now key) }
+    ensures { Finds cursors.now key result }
 {
     let start = slot_of(key, slots.len());
     for probe in 0..PROBES {
@@ -310,21 +309,16 @@ fn find(cursors: &[Cursor<'_>], slots: &[u32], key: u64) -> Option<usize>
 #[cold]
 #[inline(never)]
 fn search(cursors: &[Cursor<'_>], key: u64) -> Option<usize>
-    ensures { IfSome result (IsCursorOf cursors.now key) }
+    ensures { Finds cursors.now key result }
 {
-    let place = cursors.partition_point(|cursor| cursor.key < key);
-    let cursor = cursors.get(place)?;
-    if cursor.key == key {
-        return Some(place);
-    }
-    None
+    cursors.binary_search_by_key(&key, |cursor| cursor.key).ok()
 }
 
-/// The cursor behind the number, if that is its next, or was its last: then the gram stands twice in the term.
+/// The cursor behind the number, if that is its next, or was its last: then the gram is in the term twice.
 #[inline]
 fn take(cursor: Cursor<'_>, number: u32) -> Option<Cursor<'_>>
     requires { number < 2 ^ 32 - 1 }
-    ensures { IfSome result (IsListedNext cursor.entry number) }
+    ensures { Reads cursor.entry number result }
 {
     let next = number + 1;
     if cursor.next == next {
@@ -349,7 +343,7 @@ fn take(cursor: Cursor<'_>, number: u32) -> Option<Cursor<'_>>
 
 /// Whether all numbers were taken.
 fn are_at_end(cursors: &[Cursor<'_>]) -> bool
-    ensures { IsTrue result → All IsAtEnd cursors.now }
+    ensures { IsTrue result ↔ All IsAtEnd cursors.now }
 {
     for cursor in cursors {
         if cursor.left != 0 || !cursor.gaps.is_empty() {

@@ -24,12 +24,12 @@ const SPAN: usize = 128;
 /// How many bytes a list has, at least, of which such places are kept.
 const LONG: usize = 1024;
 
-/// Checks the bytes of one list, which has this many documents, and claims its tokens. Answers where it may be entered:
+/// Checks the bytes of one list, which has this many documents, and claims its tokens. Returns where it may be entered:
 /// nowhere, if it is not long.
 ///
-/// For each document `Number` of its gap, `Zero` where it is 0, `DocRange` where there is no such document, `Number`
-/// of the number of its positions, `Zero` where it is 0; for each position `Number` of its gap, `Zero` where it is 0,
-/// `PositionRange` where the document has no such token; `ListLength` where the list ends before its last position,
+/// For each document `Number` of its gap, `Zero` if it is 0, `DocRange` if there is no such document, `Number`
+/// of the number of its positions, `Zero` if it is 0; for each position `Number` of its gap, `Zero` if it is 0,
+/// `PositionRange` if the document has no such token; `ListLength` if the list ends before its last position,
 /// also within a number, or goes on behind it; or `Memory`.
 pub(crate) fn check_list(
     alloc: Global,
@@ -70,7 +70,7 @@ pub(crate) fn check_list(
     Ok(skips)
 }
 
-/// A place of a list is kept where fewer bytes than these are left: none of a list that is not long.
+/// A place of a list is kept if fewer bytes than these are left: none of a list that is not long.
 #[inline]
 fn first_end(bytes: &[u8]) -> usize {
     if bytes.len() < LONG {
@@ -80,7 +80,7 @@ fn first_end(bytes: &[u8]) -> usize {
     }
 }
 
-/// Keeps a place of a list where fewer bytes are left from it on than `end`. Answers this bound for the next.
+/// Keeps a place of a list if fewer bytes are left from it on than `end`. Returns this bound for the next.
 #[inline(always)]
 fn keep_place(skips: &mut Vec<Skip>, place: Skip, end: usize) -> Result<usize, AllocError>
     ensures { OnOk result ((skips.new.items ≡ skips.old.items)
@@ -94,7 +94,7 @@ fn keep_place(skips: &mut Vec<Skip>, place: Skip, end: usize) -> Result<usize, A
 }
 
 /// Checks the posting that what is left of a list begins with, where `next` is one above the document before, and
-/// claims its tokens. Answers one above its document, and what follows it.
+/// claims its tokens. Returns one above its document, and what follows it.
 ///
 /// Most postings have one position and short codes: those take neither a call nor a loop.
 #[inline(always)]
@@ -162,7 +162,7 @@ fn check_any_posting<'a>(
 
 /// The number above 0 whose code the rest of a list begins with, and what follows the code.
 ///
-/// `ListLength` where the list ends within the code, and `Number` where it is faulty otherwise; `Zero` of 0.
+/// `ListLength` if the list ends within the code, and `Number` if it is faulty otherwise; `Zero` of 0.
 ///
 /// Almost all codes are short: those are read in the caller, without a call.
 #[inline(always)]

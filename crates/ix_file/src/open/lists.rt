@@ -19,10 +19,10 @@ use ix_vbyte::cursor::Skip;
 use std::alloc::{AllocError, Global};
 use std::thread::{Threads, join};
 
-/// Checks the list of each term, where it stands in POSTINGS, and that no token is claimed twice. Answers where the long
-/// lists may be entered.
+/// Checks the list of each term, where it stands in POSTINGS, and that no token is claimed twice. Returns where the
+/// long lists may be entered.
 ///
-/// The errors of a list, list by list; behind the last, `Doubled` where two terms, or one term twice, claim a token;
+/// The errors of a list, list by list; behind the last, `Doubled` if two terms, or one term twice, claim a token;
 /// or `Memory`.
 pub(crate) fn check_lists(
     alloc: Global,
@@ -52,7 +52,7 @@ pub(crate) fn check_lists(
     Ok(longs)
 }
 
-/// Checks the lists as `check_lists` does, in two threads where there may be two. The terms are parted where about half
+/// Checks the lists as `check_lists` does, in two threads if there may be two. The terms are parted where about half
 /// of POSTINGS lies before, and each thread has marks of its own: the two are compared behind the last list.
 ///
 /// `total` is how many tokens the documents have. The errors of the lists before the parting come first.
@@ -147,7 +147,7 @@ fn first_behind(terms: &Terms, place: usize) -> usize
     low
 }
 
-/// Checks the lists as `check_lists` does, with room for claims of so many tokens.
+/// Checks the lists as `check_lists` does, with room for claims of this many tokens.
 fn check_all(
     alloc: Global,
     section: &[u8],
@@ -171,7 +171,7 @@ fn check_all(
     check_lists(alloc, section, terms, tokens, claims)
 }
 
-/// Checks the lists of some of the terms, from one number up to another, with room for claims of so many tokens.
+/// Checks the lists of some of the terms, from one number up to another, with room for claims of this many tokens.
 fn check_part(
     alloc: Global,
     section: &[u8],

@@ -26,7 +26,7 @@ pub(crate) struct Passed<'a> {
 }
 
 /// Checks the gaps of this many positions, of a document with this span (the number of its first token, and how many
-/// it has), and claims each. Answers what follows them.
+/// it has), and claims each. Returns what follows them.
 ///
 /// Almost all gaps have codes of one byte or two: those are read first, in a loop that does nothing else.
 #[inline]
@@ -77,7 +77,7 @@ fn pass_short<'a>(bytes: &'a [u8], count: u32, span: (u32, u32), claims: &mut Cl
 }
 
 /// Marks positions as long as their gaps have codes of one byte or two, and the document has such tokens. `doubled` is
-/// set where one was marked before.
+/// set if one was marked before.
 #[inline]
 fn mark_short<'a>(
     bytes: &'a [u8],

@@ -17,8 +17,8 @@ const MORE_SHORT: usize = 4640;
 
 /// Reads STOP: the stop terms, ascending, each behind the number of its bytes, at most 2^28 of them.
 ///
-/// `Number`, `TermSize` and `Text` of a term, in this order; `StopOrder` where it does not stand above the one
-/// before it; `TooLarge` where there are more than 2^28; or `Memory`.
+/// `Number`, `TermSize` and `Text` of a term, in this order; `StopOrder` if it is not above the one
+/// before it; `TooLarge` if there are more than 2^28; or `Memory`.
 pub(crate) fn read_stop(alloc: Global, section: &[u8]) -> Result<StopList, OpenError>
     ensures terms { IfOk result (λ stop. IsStopSet stop × (section.now ≡ stop_section stop)) }
     ensures refused { IfErr result (λ error. (error ≡ Memory)
@@ -34,7 +34,7 @@ pub(crate) fn read_stop(alloc: Global, section: &[u8]) -> Result<StopList, OpenE
     Ok(StopList::from_sorted(terms))
 }
 
-/// Adds the term that what is left of STOP begins with, and answers what follows it.
+/// Adds the term that what is left of STOP begins with, and returns what follows it.
 fn push_term<'a>(
     alloc: Global,
     terms: &mut Vec<String>,
@@ -60,7 +60,7 @@ fn push_term<'a>(
     Ok(rest)
 }
 
-/// Whether a term stands above the one before it, if there is one.
+/// Whether a term is above the one before it, if there is one.
 pub(crate) fn is_above(term: &str, before: Option<&String>) -> bool
     ensures { IsTrue result ↔ MatchOption before.entry ⊤
         (λ b. IsAscending (string_bytes b.now ∷ term.now ∷ [])) }

@@ -17,7 +17,7 @@ pub(crate) struct LongList {
     pub(crate) skips: Vec<Skip>,
 }
 
-/// The places at which the list of the term of a number may be entered: none where they are not kept.
+/// The places at which the list of the term of a number may be entered: none if they are not kept.
 pub(crate) fn skips_of(longs: &[LongList], number: usize) -> &[Skip]
     ensures { (result.now ≡ []) ⊎ ((long : SeenList) × Contains longs.now long
         × (long.number ≡ number) × (result.now ≡ long.skips.items)) }

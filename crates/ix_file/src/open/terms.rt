@@ -43,7 +43,7 @@ impl Model for Terms {
 }
 
 impl Terms {
-    /// No terms, with room for so many, whose texts have so many bytes together.
+    /// No terms, with room for `count`, whose texts have `bytes` bytes together.
     pub(crate) fn with_room(alloc: Global, count: usize, bytes: usize) -> Result<Terms, AllocError>
         ensures { IfOk result (λ terms. terms ≡ []) }
     {

@@ -3,7 +3,7 @@ use Rattle.std.proofs.lemmas.List.{length-map}
 use Rattle.ix_text.proofs.StopSetLemmas.{same_from_Equal}
 use Rattle.ix_file.specs.PlacedTerms.{terms_in}
 use Rattle.ix_file.proofs.Halving.{at_text, between-all, between-higher, between-lower, cmp, no_text}
-use Rattle.ix_file.proofs.PairCounts.{text_of}
+use Rattle.ix_file.proofs.PlacedLemmas.{text_of}
 use Rattle.ix_file.proofs.index.place_of.Goals as goal
 
 pub loop-low-init : goal.loop-low-init
