@@ -15,8 +15,8 @@ use ix_run::{ListError, Source};
 use std::io::Write;
 
 /// Appends the source's current list to the pending entry and advances the source; returns whether it has another term.
-/// Writes the pending entry first if its term is another one, and after it what has 64 KiB or more. `place` is the
-/// source's place among those that are merged.
+/// If the pending entry has another term, it is written first; and its lists are written once they have 64 KiB or more.
+/// `place` is the source's place among those that are merged.
 ///
 /// # Errors
 ///
