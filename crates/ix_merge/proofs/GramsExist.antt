@@ -49,12 +49,14 @@ keys_ascend text (x ∷ xs) up =
     elim (slice_cmp nat_cmp text x) as (λ r. slice_cmp nat_cmp text x ≡ r → IsAscending (match_ordering r (text ∷ x ∷ xs) (x ∷ xs) (x ∷ insert_key (slice_cmp nat_cmp) xs text))) [
       | Less ↦ λ less. ((less, by_recursion (λ y. slice_cmp nat_cmp text y ≡ Less) xs (λ y has. order.trans text x y less (all_below (slice_cmp nat_cmp) x xs y up.0 has))), up)
       | Equal ↦ λ tie. up
-      | Greater ↦ λ more.
-          (by_recursion (λ y. slice_cmp nat_cmp x y ≡ Less) (insert_key (slice_cmp nat_cmp) xs text)
-          (λ y has. elim (keys_inside text xs y has) [
-            | inl same ↦ subst (λ (t : List ℕ). slice_cmp nat_cmp x t ≡ Less) same (order.antisymm x text ∙ ap ordering_reverse more)
-            | inr old ↦ all_below (slice_cmp nat_cmp) x xs y up.0 old
-          ]), keys_ascend text xs up.1)
+      | Greater ↦ λ more. (
+        by_recursion (λ y. slice_cmp nat_cmp x y ≡ Less) (insert_key (slice_cmp nat_cmp) xs text)
+            (λ y has. elim (keys_inside text xs y has) [
+              | inl same ↦ subst (λ (t : List ℕ). slice_cmp nat_cmp x t ≡ Less) same (order.antisymm x text ∙ ap ordering_reverse more)
+              | inr old ↦ all_below (slice_cmp nat_cmp) x xs y up.0 old
+            ]),
+        keys_ascend text xs up.1,
+      )
     ] refl
 
 keys_all : (text : List ℕ) (xs : List (List ℕ)) (t : List ℕ) → (text ≡ t) ⊎ Contains xs t → Contains (insert_key (slice_cmp nat_cmp) xs text) t
