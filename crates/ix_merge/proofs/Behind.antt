@@ -1,4 +1,4 @@
--- What the sources have at hand lies behind what was told, and may be told next.
+-- The current terms of the sources lie behind what was told, and may be told next.
 use Rattle.std.proofs.Common.{◌≡◌, ◌≢◌, ℕ, ◌+◌, ◌^◌, ◌<◌, ◌≤◌, ◌⊎◌, ⊎_elim, List, [], ◌∷◌, ◌++◌, length, map, get_or, set, All, Option, Some, None, MatchOption, inl, inr, refl, sym, ap, subst, ◌∙◌, option_map, arith, length-append, length-set}
 use Rattle.std.proofs.Math.Seq.{map-set_same}
 use Rattle.std.proofs.lemmas.Bool.{cases_eq}
@@ -22,7 +22,7 @@ use Rattle.ix_merge.specs.Turns.{MayTurn, bare_entry}
 use Rattle.ix_merge.proofs.Readings.{AreReading, Below, HasToldShares, are_shares, grown, headed_alike, last_pushed, not_below_itself, told_closable}
 use Rattle.ix_merge.proofs.Spans.{few_in_all, lies_before}
 
--- The term at hand of a source is above the one told last, or the same with the source's documents behind.
+-- The current term of a source is above the one told last, or the same with the source's documents behind.
 abbrev pub IsBehind : {S : Type 0} → (S → Heading) → (S → Option (List ℕ)) → List ℕ → ℕ → S → Type 0
 IsBehind heading current last next source = MatchOption (current source) (Unit {0}) (λ term. Below last term ⊎ ((last ≡ term) × (next ≤ (heading source).first)))
 

@@ -22,7 +22,7 @@ cover_of_headings headings Write is = absurd is
 cover_of_headings headings Memory is = absurd is
 
 module _ {S E : Type 0} (faults : Faulting S E) where
-  -- what a refusal tells of a source
+  -- what an error tells of a source
   pub tells_fault : (sources : List S) (error : MergeError E) → IsRefusalOf faults sources error → TellsFault faults sources error
   tells_fault sources (Gap n) is = tt
   tells_fault sources (Overlap n) is = tt
@@ -63,7 +63,7 @@ module _ {S E : Type 0} (faults : Faulting S E) where
               keep other d error (omega (arith, length-set now place new)) (subst (λ (s : S). faults s error) (get_or-set_other now place other new d differ) may)
         ]
 
-    -- and is refused
+    -- and fails
     pub fault_at : (error : E) → faults source error → MayFaultAt faults old place error
     fault_at error may = record {
       source = get_or old place source;

@@ -1,4 +1,4 @@
--- Lists of one term that are gathered one behind another make one list, as if each had been told by itself.
+-- Lists of one term that are gathered one after another make one list, as if each had been told by itself.
 use Rattle.std.proofs.Common.{◌≡◌, ℕ, zero, suc, ◌+◌, ◌-◌, ◌*◌, ◌^◌, ◌<◌, ◌≤◌, List, ◌++◌, length, Option, Some, None, refl, sym, ap, ap₂, subst, ◌∙◌, arith, append_assoc, length-append, option_map}
 use Rattle.std.proofs.lemmas.List.{map-append, length-map}
 use Rattle.std.proofs.lemmas.List.Sums.{sum_by-append}
@@ -33,7 +33,7 @@ with_postings-again : (told : Told) (postings more : List Posting) → with_post
 with_postings-again told postings more =
     ap (λ (o : Option DictionaryEntry). record { stop = told.stop; rows = told.rows; done = told.done; at_hand = o }) (listed-again postings more told.at_hand)
 
--- the positions with those of postings of the entry at hand
+-- the positions with those of postings of the pending entry
 total_listed : (told : Told) (postings : List Posting) (entry : DictionaryEntry) → told.at_hand ≡ Some entry → position_total (entries_of (with_postings told postings)) ≡ position_total (entries_of told) + position_count postings
 total_listed told postings entry at =
     let P : Option DictionaryEntry → Type 0 = λ o. position_total (told.done ++ option_to_list (option_map (listed postings) o)) ≡ position_total (told.done ++ option_to_list o) + position_count postings in
@@ -68,7 +68,7 @@ list_again base postings more documents next documents' next' bytes bytes' first
           ∙ sym (list_bytes_from-append from postings more);
     }
 
--- ---- what was gathered of the entry at hand
+-- ---- what was gathered of the pending entry
 
 module _ {W : Type 0} (contents : W → Option (List ℕ)) (before : Option (List ℕ)) (writer : IndexWriter W WriterSections) (entry : PendingEntry) (told : Told) where
   -- where nothing was gathered, all was told
@@ -85,7 +85,7 @@ module _ {W : Type 0} (contents : W → Option (List ℕ)) (before : Option (Lis
         by (suc n) is =
             let list = has.some (omega arith) in
             subst (λ (t : Told). AppendsFront before (contents (sink writer)) (settled_front t)) (sym list.told_with)
-            (front_of_list before (contents (sink writer)) writer.sections.pending.items has.base list.postings entry.documents entry.next entry.list.items list.may has.was.written)
+            (front_of_list before (contents (sink writer)) writer.sections.pending.items has.base list.postings entry.documents entry.end entry.list.items list.may has.was.written)
 
     -- the writer's bytes of postings, with those that were gathered, are those of what was told; and they are few
     pub gathered_bytes : (writer.sections.postings + length entry.list.items ≡ length (postings_section (entries_of told))) × (writer.sections.postings + length entry.list.items ≤ 15 * 2 ^ 28)
@@ -101,7 +101,7 @@ module _ {W : Type 0} (contents : W → Option (List ℕ)) (before : Option (Lis
             (omega (arith, a, b, c), omega (arith, a, d, e))
         by (suc n) is =
             let list = has.some (omega arith) in
-            let after = settled_after has.base list.postings entry.documents entry.next entry.list.items list.may in
+            let after = settled_after has.base list.postings entry.documents entry.end entry.list.items list.may in
             let a = ap (λ (bytes : List ℕ). length bytes) after in
             let b = length-append (settled_front has.base) entry.list.items in
             let c = length-append (magic FrontCoded) (postings_section (entries_of has.base)) in
@@ -142,7 +142,7 @@ module _ {W : Type 0} (contents : W → Option (List ℕ)) (before : Option (Lis
               let list = has.some (omega arith) in
               record {
                 postings = list.postings ++ more;
-                may_all = list_again has.base list.postings more entry.documents entry.next documents next entry.list.items bytes list.may (subst (λ (t : Told). MayList t more documents next bytes) list.told_with may);
+                may_all = list_again has.base list.postings more entry.documents entry.end documents next entry.list.items bytes list.may (subst (λ (t : Told). MayList t more documents next bytes) list.told_with may);
                 told_all = ap (λ (t : Told). with_postings t more) list.told_with ∙ with_postings-again has.base list.postings more;
               }
 
@@ -157,7 +157,7 @@ module _ {W : Type 0} (contents : W → Option (List ℕ)) (before : Option (Lis
           omega (arith, count, size, up)
 
       -- then it is gathered, too
-      pub gathered_more : (then : PendingEntry) → 0 < documents → then.documents ≡ entry.documents + documents → then.next ≡ next → then.list.items ≡ entry.list.items ++ bytes
+      pub gathered_more : (then : PendingEntry) → 0 < documents → then.documents ≡ entry.documents + documents → then.end ≡ next → then.list.items ≡ entry.list.items ++ bytes
           → HasGathered contents before writer then (with_postings told more)
       gathered_more then positive count last coded = record {
         base = has.base;
@@ -166,7 +166,7 @@ module _ {W : Type 0} (contents : W → Option (List ℕ)) (before : Option (Lis
         some = λ s. record {
           postings = gathering.postings;
           may =
-              subst (λ d. MayList has.base gathering.postings d then.next then.list.items) (sym count)
+              subst (λ d. MayList has.base gathering.postings d then.end then.list.items) (sym count)
               (subst (λ n. MayList has.base gathering.postings (entry.documents + documents) n then.list.items) (sym last)
               (subst (MayList has.base gathering.postings (entry.documents + documents) next) (sym coded) gathering.may_all));
           told_with = gathering.told_all;

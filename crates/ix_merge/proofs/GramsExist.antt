@@ -2,14 +2,16 @@
 use Rattle.std.proofs.Common.{◌≡◌, ℕ, zero, suc, ◌+◌, ◌<◌, ◌≤◌, ◌⊎◌, List, [], ◌∷◌, Less, Equal, Greater, map, slice_index, All, Contains, refl, sym, ap, ◌∙◌, subst, arith, inl, inr}
 use Rattle.std.proofs.lemmas.Cmp.{nat_list_cmp_total}
 use Rattle.std.proofs.lemmas.Bool.{cases_Bool}
-use Rattle.std.proofs.lemmas.List.Elements.{All-cons, All-nil, Contains-append_cases, Contains-append_left, Contains-append_right}
+use Rattle.std.proofs.lemmas.List.Elements.{All-cons, All-contains, All-contains_itself, All-nil, All-weaker, Contains-append_cases, Contains-append_left, Contains-append_right}
 use Rattle.std.proofs.lemmas.Option.{none-some}
 use Rattle.std.proofs.lemmas.Slice.Eq.{bytes_eq-Decides}
+use Rattle.std.proofs.lemmas.Map.Views.{All-insert_key}
+use Rattle.std.specs.BTreeSet.{insert_key}
 use Rattle.std.specs.Cmp.Lexicographic.{slice_cmp}
 use Rattle.std.specs.List.{AllByRecursion, flat_map}
 use Rattle.std.specs.Prelude.{bytes_eq}
 use Rattle.std.specs.List.Sorted.{IsStrictlySortedBy, IsStrictlyIncreasing}
-use Rattle.std.specs.Ordering.{nat_cmp, ordering_reverse}
+use Rattle.std.specs.Ordering.{match_ordering, nat_cmp, ordering_reverse}
 use Rattle.ix_text.specs.ByteOrder.{IsAscending}
 use Rattle.ix_text.specs.Parts.{GramEntry, HasNumber, IsGramEntry}
 use Rattle.ix_text.specs.Windows.{grams_of}
@@ -29,91 +31,64 @@ by_recursion P (x ∷ xs) all = (all x (contains_first x xs), by_recursion P xs 
 
 -- ---- texts in order
 
--- an ascending list of the texts, and this one
-record HasWith (text : List ℕ) (old : List (List ℕ)) : Type 0 where
-  new : List (List ℕ)
-  ascending : IsAscending new
-  inside : (t : List ℕ) → Contains new t → (text ≡ t) ⊎ Contains old t
-  all : (t : List ℕ) → (text ≡ t) ⊎ Contains old t → Contains new t
+-- the texts in order, each once
+abbrev in_order : List (List ℕ) → List (List ℕ)
+in_order [] = []
+in_order (text ∷ texts) = insert_key (slice_cmp nat_cmp) (in_order texts) text
 
-inserted : (text : List ℕ) (xs : List (List ℕ)) → IsAscending xs → HasWith text xs
+keys_inside : (text : List ℕ) (xs : List (List ℕ)) (t : List ℕ) → Contains (insert_key (slice_cmp nat_cmp) xs text) t → (text ≡ t) ⊎ Contains xs t
+keys_inside text xs t has =
+    let P : List ℕ → Type 0 = λ u. (text ≡ u) ⊎ Contains xs u in
+    All-contains P (insert_key (slice_cmp nat_cmp) xs text) t (All-insert_key (slice_cmp nat_cmp) text P xs (All-weaker (Contains xs) P (λ u among. inr among) xs (All-contains_itself xs)) (inl refl)) has
+
+keys_ascend : (text : List ℕ) (xs : List (List ℕ)) → IsAscending xs → IsAscending (insert_key (slice_cmp nat_cmp) xs text)
 unfolding IsStrictlySortedBy
-inserted text [] up = record {
-  new = text ∷ [];
-  ascending = (tt, tt);
-  inside = λ t has. contains_cases text [] t has;
-  all = λ t has. elim has [ inl same ↦ subst (Contains (text ∷ [])) same (contains_first text []) | inr later ↦ absurd (contains_none t later) ];
-}
-inserted text (x ∷ xs) up =
-    let rest = inserted text xs up.1 in
+keys_ascend text [] up = (tt, tt)
+keys_ascend text (x ∷ xs) up =
     let order = nat_list_cmp_total in
-    elim (slice_cmp nat_cmp text x) as (λ r. slice_cmp nat_cmp text x ≡ r → HasWith text (x ∷ xs)) [
-      | Less ↦ λ less. record {
-        new = text ∷ x ∷ xs;
-        ascending = (
-          (less, by_recursion (λ y. slice_cmp nat_cmp text y ≡ Less) xs (λ y has. order.trans text x y less (all_below (slice_cmp nat_cmp) x xs y up.0 has))),
-          up,
-        );
-        inside = λ t has. contains_cases text (x ∷ xs) t has;
-        all = λ t has. elim has [ inl same ↦ subst (Contains (text ∷ x ∷ xs)) same (contains_first text (x ∷ xs)) | inr later ↦ contains_later text (x ∷ xs) t later ];
-      }
-      | Equal ↦ λ tie. record {
-        new = x ∷ xs;
-        ascending = up;
-        inside = λ t has. inr has;
-        all = λ t has. elim has [ inl same ↦ subst (Contains (x ∷ xs)) (sym (same_from_Equal text x tie) ∙ same) (contains_first x xs) | inr later ↦ later ];
-      }
-      | Greater ↦ λ greater.
-          let less : slice_cmp nat_cmp x text ≡ Less = order.antisymm x text ∙ ap ordering_reverse greater in
-          record {
-            new = x ∷ rest.new;
-            ascending = (
-              by_recursion (λ y. slice_cmp nat_cmp x y ≡ Less) rest.new
-                  (λ y has. elim (rest.inside y has) [
-                    | inl same ↦ subst (λ t. slice_cmp nat_cmp x t ≡ Less) same less
-                    | inr later ↦ all_below (slice_cmp nat_cmp) x xs y up.0 later
-                  ]),
-              rest.ascending,
-            );
-            inside = λ t has. elim (contains_cases x rest.new t has) [
-              | inl same ↦ inr (subst (Contains (x ∷ xs)) same (contains_first x xs))
-              | inr later ↦ elim (rest.inside t later) [ inl same ↦ inl same | inr old ↦ inr (contains_later x xs t old) ]
-            ];
-            all = λ t has. elim has [
-              | inl same ↦ contains_later x rest.new t (rest.all t (inl same))
-              | inr old ↦ elim (contains_cases x xs t old) [
-                | inl same ↦ subst (Contains (x ∷ rest.new)) same (contains_first x rest.new)
-                | inr later ↦ contains_later x rest.new t (rest.all t (inr later))
-              ]
-            ];
-          }
+    elim (slice_cmp nat_cmp text x) as (λ r. slice_cmp nat_cmp text x ≡ r → IsAscending (match_ordering r (text ∷ x ∷ xs) (x ∷ xs) (x ∷ insert_key (slice_cmp nat_cmp) xs text))) [
+      | Less ↦ λ less. ((less, by_recursion (λ y. slice_cmp nat_cmp text y ≡ Less) xs (λ y has. order.trans text x y less (all_below (slice_cmp nat_cmp) x xs y up.0 has))), up)
+      | Equal ↦ λ tie. up
+      | Greater ↦ λ more. (
+        by_recursion (λ y. slice_cmp nat_cmp x y ≡ Less) (insert_key (slice_cmp nat_cmp) xs text)
+            (λ y has. elim (keys_inside text xs y has) [
+              | inl same ↦ subst (λ (t : List ℕ). slice_cmp nat_cmp x t ≡ Less) same (order.antisymm x text ∙ ap ordering_reverse more)
+              | inr old ↦ all_below (slice_cmp nat_cmp) x xs y up.0 old
+            ]),
+        keys_ascend text xs up.1,
+      )
     ] refl
 
--- an ascending list of the texts
-record HasSorted (texts : List (List ℕ)) : Type 0 where
-  sorted : List (List ℕ)
-  ascending : IsAscending sorted
-  inside : (t : List ℕ) → Contains sorted t → Contains texts t
-  all : (t : List ℕ) → Contains texts t → Contains sorted t
+keys_all : (text : List ℕ) (xs : List (List ℕ)) (t : List ℕ) → (text ≡ t) ⊎ Contains xs t → Contains (insert_key (slice_cmp nat_cmp) xs text) t
+keys_all text [] t has = elim has [ inl same ↦ subst (Contains (text ∷ [])) same (contains_first text []) | inr later ↦ absurd (contains_none t later) ]
+keys_all text (x ∷ xs) t has =
+    elim (slice_cmp nat_cmp text x) as (λ r. slice_cmp nat_cmp text x ≡ r → Contains (match_ordering r (text ∷ x ∷ xs) (x ∷ xs) (x ∷ insert_key (slice_cmp nat_cmp) xs text)) t) [
+      | Less ↦ λ less. elim has [ inl same ↦ subst (Contains (text ∷ x ∷ xs)) same (contains_first text (x ∷ xs)) | inr later ↦ contains_later text (x ∷ xs) t later ]
+      | Equal ↦ λ tie. elim has [ inl same ↦ subst (Contains (x ∷ xs)) (sym (same_from_Equal text x tie) ∙ same) (contains_first x xs) | inr later ↦ later ]
+      | Greater ↦ λ more. elim has [
+        | inl same ↦ contains_later x (insert_key (slice_cmp nat_cmp) xs text) t (keys_all text xs t (inl same))
+        | inr old ↦ elim (contains_cases x xs t old) [
+          | inl same ↦ subst (Contains (x ∷ insert_key (slice_cmp nat_cmp) xs text)) same (contains_first x (insert_key (slice_cmp nat_cmp) xs text))
+          | inr later ↦ contains_later x (insert_key (slice_cmp nat_cmp) xs text) t (keys_all text xs t (inr later))
+        ]
+      ]
+    ] refl
 
-sorted_texts : (texts : List (List ℕ)) → HasSorted texts
+order_ascends : (texts : List (List ℕ)) → IsAscending (in_order texts)
 unfolding IsStrictlySortedBy
-sorted_texts [] = record { sorted = []; ascending = tt; inside = λ t has. has; all = λ t has. has }
-sorted_texts (text ∷ texts) =
-    let rest = sorted_texts texts in
-    let more = inserted text rest.sorted rest.ascending in
-    record {
-      sorted = more.new;
-      ascending = more.ascending;
-      inside = λ t has. elim (more.inside t has) [
-        | inl same ↦ subst (Contains (text ∷ texts)) same (contains_first text texts)
-        | inr later ↦ contains_later text texts t (rest.inside t later)
-      ];
-      all = λ t has. elim (contains_cases text texts t has) [
-        | inl same ↦ more.all t (inl same)
-        | inr later ↦ more.all t (inr (rest.all t later))
-      ];
-    }
+order_ascends [] = tt
+order_ascends (text ∷ texts) = keys_ascend text (in_order texts) (order_ascends texts)
+
+order_inside : (texts : List (List ℕ)) (t : List ℕ) → Contains (in_order texts) t → Contains texts t
+order_inside [] t has = has
+order_inside (text ∷ texts) t has = elim (keys_inside text (in_order texts) t has) [
+  | inl same ↦ subst (Contains (text ∷ texts)) same (contains_first text texts)
+  | inr later ↦ contains_later text texts t (order_inside texts t later)
+]
+
+order_all : (texts : List (List ℕ)) (t : List ℕ) → Contains texts t → Contains (in_order texts) t
+order_all [] t has = has
+order_all (text ∷ texts) t has = keys_all text (in_order texts) t (elim (contains_cases text texts t has) [ inl same ↦ inl same | inr later ↦ inr (order_all texts t later) ])
 
 contains_or_not : (xs : List (List ℕ)) (t : List ℕ) → Contains xs t ⊎ (Contains xs t → ⊥)
 contains_or_not [] t = inr (contains_none t)
@@ -265,13 +240,13 @@ gram_there (term ∷ terms) gram (suc n) is = Contains-append_right (grams_of te
 
 pub has_grams : (terms : List (List ℕ)) → HasGrams terms
 has_grams terms =
-    let texts = sorted_texts (flat_map grams_of terms) in
-    let at = entries_of terms texts.sorted (λ g has. term_with terms g (texts.inside g has)) in
+    let texts = flat_map grams_of terms in
+    let at = entries_of terms (in_order texts) (λ g has. term_with terms g (order_inside texts g has)) in
     record {
       grams = at.entries;
       of_terms = record {
-        ascending = subst IsAscending (sym at.spelled) texts.ascending;
+        ascending = subst IsAscending (sym at.spelled) (order_ascends texts);
         each = at.each;
-        related = λ gram number. (at.inside gram number, λ is. at.all gram number (texts.all gram (gram_there terms gram number is)) is);
+        related = λ gram number. (at.inside gram number, λ is. at.all gram number (order_all texts gram (gram_there terms gram number is)) is);
       };
     }

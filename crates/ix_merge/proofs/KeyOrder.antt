@@ -40,7 +40,7 @@ first_further (Some one) None (Some third) first more = absurd more
 first_further None (Some other) (Some third) first more = absurd first
 first_further (Some one) (Some other) (Some third) first more = up_to_further one other third first more
 
--- what two sources' terms at hand say of their keys
+-- what two sources' current terms say of their keys
 module _ {S : Type 0} (heading : S → Heading) (current : S → Option (List ℕ)) (one other : S) (term term' : List ℕ) (at : current one ≡ Some term) (at' : current other ≡ Some term') where
   abbrev key : Option Key
   key = key_of heading current one

@@ -1,4 +1,4 @@
--- The rows of heads that are laid one behind another, and that the order of sources and sources without documents
+-- The rows of heads that are laid one after another, and that the order of sources and sources without documents
 -- change nothing.
 use Rattle.std.proofs.Common.{◌≡◌, ℕ, zero, suc, ◌+◌, ◌-◌, ◌<◌, ◌≤◌, List, [], ◌∷◌, ◌++◌, Bool, true, false, length, get_or, slice_get, All, Contains, sum_by, refl, sym, ap, ap₂, ◌∙◌, subst, arith, inl, inr, ◌⊎◌}
 use Rattle.std.proofs.lemmas.Bool.{cond-true, cond-false, cases_Bool, lt-ltb, ltb-false, cases_lt}

@@ -19,7 +19,7 @@ use Rattle.ix_merge.proofs.ShiftedLists.{position_count-shifted, position_lower,
 use Rattle.ix_file.specs.Told.{listed}
 use Rattle.ix_file.specs.Postings.{shifted}
 
--- ---- positions of postings and of entries one behind another
+-- ---- positions of postings and of entries one after another
 
 module _ (xs ys : List Posting) (number position : ℕ) where
   abbrev There : List Posting → Type 0
@@ -130,7 +130,7 @@ position_total-listed done hand postings =
     let c : position_count (hand.postings ++ postings) ≡ position_count hand.postings + position_count postings = sum_by-append (λ (p : Posting). length p.1) hand.postings postings in
     omega (arith, a, b, c)
 
--- The share of one source grows by an entry, and its postings are told behind those of the entry at hand.
+-- The share of one source grows by an entry, and its postings are told behind those of the pending entry.
 module _ (shares : List Share) (done : List DictionaryEntry) (hand : DictionaryEntry) (place : ℕ) (share : Share) (entry : DictionaryEntry)
     (within : place < length shares) (here : get_or shares place share ≡ share) (same : hand.term ≡ entry.term) where
   abbrev grown : Share

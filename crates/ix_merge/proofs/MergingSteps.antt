@@ -68,7 +68,7 @@ no_shares headings entries none = subst (AreMerged (map bare_share headings)) (s
         let rest = counted hs in
         omega arith
 
--- who told no term has no entry at hand, and none before it
+-- who told no term has no pending entry, and none before it
 no_entry : (told : Told) → entries_of told ≡ [] → (told.at_hand ≡ None) × (told.done ≡ [])
 no_entry told none = by told.done told.at_hand refl refl
   where
@@ -95,14 +95,14 @@ pub record IsMerging {S W : Type 0} (heading : S → Heading) (current : S → O
   pub was : HasGathered contents before writer hand told
   pub stop : told.stop ≡ told_first.stop
   pub rows : told.rows ≡ told_first.rows
-  pub has : HasToldShares shares told (string_bytes hand.term) hand.next
+  pub has : HasToldShares shares told (string_bytes hand.term) hand.end
 
 module _ {S W : Type 0} (heading : S → Heading) (current : S → Option (List ℕ)) (yields : Yielding S) (gives : Giving S) (contents : W → Option (List ℕ))
     (lawfully : (source : S) (finished : List DictionaryEntry) (at_hand : Option DictionaryEntry) → gives source finished at_hand → IsLawfulFront (heading source) finished at_hand) where
   abbrev Merging : List S → List S → Option (List ℕ) → Told → IndexWriter W WriterSections → PendingEntry → Type 0
   Merging begun now before told_first writer hand = IsMerging heading current yields gives contents begun now before told_first writer hand
 
-  -- a refusal before the first term
+  -- an error before the first term
   pub merged_nothing : (begun : List S) (writer : IndexWriter W WriterSections) (before : Option (List ℕ)) (told : Told) → All (IsUnread gives) begun → WasTold contents before writer told → entries_of told ≡ []
       → HasMergedSome (map heading begun) before (contents (sink writer))
   merged_nothing begun writer before told unread was none = record {
@@ -142,29 +142,29 @@ module _ {S W : Type 0} (heading : S → Heading) (current : S → Option (List 
     was = gathered_none contents before writer hand told new.nothing was;
     stop = refl;
     rows = refl;
-    has = told_no_shares (map heading begun) told (string_bytes hand.term) hand.next none new.term;
+    has = told_no_shares (map heading begun) told (string_bytes hand.term) hand.end none new.term;
   }
 
-  -- a refusal between two turns, or of the next
+  -- an error between two turns, or of the next
   pub merged_some : (begun now : List S) (before : Option (List ℕ)) (told_first : Told) (writer : IndexWriter W WriterSections) (hand : PendingEntry) (after : Option (List ℕ))
       → (merging : Merging begun now before told_first writer hand) → AppendsFront before after (settled_front merging.told) → HasMergedSome (map heading begun) before after
   merged_some begun now before told_first writer hand after merging front = record {
     shares = merging.shares;
     are = are_shares heading current yields gives lawfully begun now merging.shares merging.reading;
     told = entries_of merging.told;
-    merge = told_merge merging.shares merging.told (string_bytes hand.term) hand.next merging.has;
+    merge = told_merge merging.shares merging.told (string_bytes hand.term) hand.end merging.has;
     gained = front;
   }
 
   -- ---- a turn
 
   module _ (begun now : List S) (before : Option (List ℕ)) (told_first : Told) (writer : IndexWriter W WriterSections) (hand : PendingEntry) (merging : Merging begun now before told_first writer hand)
-      (behind : AreBehind heading current (string_bytes hand.term) hand.next now) (few : tokens_under (map heading begun) ≤ 2 ^ 28) (place : ℕ) (source : S) (within : place < length now) (here : get_or now place source ≡ source) where
+      (behind : AreBehind heading current (string_bytes hand.term) hand.end now) (few : tokens_under (map heading begun) ≤ 2 ^ 28) (place : ℕ) (source : S) (within : place < length now) (here : get_or now place source ≡ source) where
     abbrev last : List ℕ
     last = string_bytes hand.term
 
     abbrev next : ℕ
-    next = hand.next
+    next = hand.end
 
     abbrev pub share_here : Share
     share_here = get_or merging.shares place no_share
@@ -205,7 +205,7 @@ module _ {S W : Type 0} (heading : S → Heading) (current : S → Option (List 
       has_told : HasToldShares (set merging.shares place (grown share_here entry)) (told_then gave.begun share_here.heading.first gave.postings) gave.term (next_after gave.from (documents_of (shifted share_here.heading.first gave.postings)))
       has_told = told_more merging.shares place share_here (omega (arith, merging.reading.shared, merging.reading.as_many, within')) there merging.told last next merging.has gave.term (follows gave.term gave.is) some gave.postings gave.begun gave.from gave.begins under
 
-      -- a write of the turn is refused
+      -- a write of the turn fails
       pub merged_some_more : (after : Option (List ℕ)) → AppendsFront before after (settled_front (told_then gave.begun (heading source).first gave.postings)) → HasMergedSome (map heading begun) before after
       merged_some_more after front = record {
         shares = set merging.shares place (grown share_here entry);
@@ -220,7 +220,7 @@ module _ {S W : Type 0} (heading : S → Heading) (current : S → Option (List 
         gained = subst (λ (h : Heading). AppendsFront before after (settled_front (told_then gave.begun h.first gave.postings))) share_headed front;
       }
 
-    -- the turn is refused
+    -- the turn fails
     pub merged_some_then : (after : IndexWriter W WriterSections) → HasToldSome heading current contents before source share_here.entries merging.told last next after → HasMergedSome (map heading begun) before (contents (sink after))
     merged_some_then after (inl front) = merged_some begun now before told_first writer hand (contents (sink after)) merging front
     merged_some_then after (inr some) = merged_some_more some.0 (contents (sink after)) some.1
@@ -240,7 +240,7 @@ module _ {S W : Type 0} (heading : S → Heading) (current : S → Option (List 
         stop = kept.0 ∙ merging.stop;
         rows = kept.1 ∙ merging.rows;
         has =
-            subst (λ (t : List ℕ). HasToldShares (set merging.shares place (grown share_here (entry turned.gave))) (told_then turned.gave.begun (heading source).first turned.gave.postings) t then.next) (sym turned.told_of)
+            subst (λ (t : List ℕ). HasToldShares (set merging.shares place (grown share_here (entry turned.gave))) (told_then turned.gave.begun (heading source).first turned.gave.postings) t then.end) (sym turned.told_of)
             (subst (HasToldShares (set merging.shares place (grown share_here (entry turned.gave))) (told_then turned.gave.begun (heading source).first turned.gave.postings) turned.gave.term) (sym turned.told_to)
             (subst (λ (h : Heading). HasToldShares (set merging.shares place (grown share_here (entry turned.gave))) (told_then turned.gave.begun h.first turned.gave.postings) turned.gave.term (next_after turned.gave.from (documents_of (shifted h.first turned.gave.postings))))
             (sym share_headed) (has_told turned.gave)));
@@ -264,7 +264,7 @@ module _ {S W : Type 0} (heading : S → Heading) (current : S → Option (List 
           let d = b.0 in
           (omega (arith, more, e, c, d), b.1)
 
-      pub behind_then : HoldsFirst (map (key_of heading current) now) place → AreApart (map heading now) → AreBehind heading current (string_bytes then.term) then.next (set now place new)
+      pub behind_then : HoldsFirst (map (key_of heading current) now) place → AreApart (map heading now) → AreBehind heading current (string_bytes then.term) then.end (set now place new)
       behind_then first apart =
           let gave = turned.gave in
           let is = under gave in
@@ -273,8 +273,8 @@ module _ {S W : Type 0} (heading : S → Heading) (current : S → Option (List 
           let low' : next_after gave.from (documents_of (shifted (heading source).first gave.postings)) ≤ end_of (heading source) =
           subst (λ (h : Heading). next_after gave.from (documents_of (shifted h.first gave.postings)) ≤ end_of h) (sym share_headed) low in
           let n = turned.told_to in
-          subst (λ (t : List ℕ). AreBehind heading current t then.next (set now place new)) (sym turned.told_of)
-          (behind_more heading current now place source new gave.term then.next first apart here gave.is (some_row gave is) (omega arith)
+          subst (λ (t : List ℕ). AreBehind heading current t then.end (set now place new)) (sym turned.told_of)
+          (behind_more heading current now place source new gave.term then.end first apart here gave.is (some_row gave is) (omega arith)
           (λ term at. next_above heading current yields gives lawfully new share_here.entries (entry gave) turned.goes.gives_more term at))
         where
           some_row : (gave : GivesEntry heading current source share_here.entries merging.told last next) → IsListUnder share_here.heading gave.postings → (heading source).first < end_of (heading source)
@@ -294,6 +294,6 @@ module _ {S W : Type 0} (heading : S → Heading) (current : S → Option (List 
     was = was;
     stop = merging.stop;
     rows = merging.rows;
-    closable = told_closable merging.shares merging.told (string_bytes hand.term) hand.next merging.has;
-    all = merged_all heading current yields gives lawfully begun now merging.shares merging.reading merging.told (string_bytes hand.term) hand.next merging.has ended;
+    closable = told_closable merging.shares merging.told (string_bytes hand.term) hand.end merging.has;
+    all = merged_all heading current yields gives lawfully begun now merging.shares merging.reading merging.told (string_bytes hand.term) hand.end merging.has ended;
   }

@@ -113,7 +113,7 @@ module _ (shares : List Share) (place : ℕ) (share : Share) (within : place < l
   abbrev raised : List Posting
   raised = shifted share.heading.first postings
 
-  -- with the entry of the term at hand
+  -- with the entry of the current term
   record IsBegun : Type 0 where
     entry : DictionaryEntry
     at_hand : begun.at_hand ≡ Some entry

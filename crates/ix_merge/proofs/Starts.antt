@@ -82,6 +82,3 @@ module _ {S : Type 0} (heading : S → Heading) (current : S → Option (List �
     ];
     unread = λ place d low. get_or-set_other now count place new d (λ e. omega arith) ∙ begun.unread place d (omega arith);
   }
-
-  pub begun_all : (old now : List S) (count : ℕ) → length old ≤ count → HaveBegun old now count → HaveStarted heading current yields gives old now
-  begun_all old now count all begun = record { as_many = begun.as_many; each = λ place source within. begun.started place source (omega arith) within }

@@ -21,7 +21,7 @@ use Rattle.ix_merge.specs.declared.pending_entry.PendingEntry.{PendingEntry}
 use Rattle.ix_merge.proofs.GatheredLists.{documents_fit, gathered_more}
 use Rattle.ix_merge.proofs.ShiftedLists.{IsListUnder, length-shifted, list_under, position_count-shifted, raised_list}
 
--- the entry at hand, once a term was begun
+-- the pending entry, once a term was begun
 pub record HasHand (begun : Told) (term : List ℕ) (from total : ℕ) : Type 0 where
   pub entry : DictionaryEntry
   pub at_hand : begun.at_hand ≡ Some entry
@@ -62,7 +62,7 @@ has_hand told last next term begun from some at begins = ⊎_elim same new begin
 module _ {S : Type 0} (heading : S → Heading) (current : S → Option (List ℕ)) (yields : Yielding S) (gives : Giving S) (is_drained : S → Type 0)
     (lawfully : (source : S) (finished : List DictionaryEntry) (at_hand : Option DictionaryEntry) → gives source finished at_hand → IsLawfulFront (heading source) finished at_hand)
     (old : S) (given : List DictionaryEntry) (told : Told) (last : List ℕ) (next : ℕ) (may : MayTurn heading current gives old given told last next) (term : List ℕ) (at : current old ≡ Some term) where
-  -- nothing was given yet of the term at hand
+  -- nothing was given yet of the current term
   pub gives_bare : gives old given (Some (entry_with term []))
   gives_bare = subst (λ (o : Option DictionaryEntry). gives old given o) (ap bare_entry at) may.gives_these
 
@@ -141,40 +141,40 @@ module _ {S : Type 0} (heading : S → Heading) (current : S → Option (List �
     pub gave : GivesEntry heading current old given told last next
     pub of_term : gave.term ≡ term
     pub was : HasGathered contents before writer then (told_then gave.begun (heading old).first gave.postings)
-    pub told_to : then.next ≡ next_after gave.from (documents_of (shifted (heading old).first gave.postings))
+    pub told_to : then.end ≡ next_after gave.from (documents_of (shifted (heading old).first gave.postings))
     pub on_more : (new : S) (next_term : List ℕ) → is_drained mid → current new ≡ Some next_term → BeginsTerm yields gives is_drained mid new next_term
         → GoesOn current yields gives old new given (entry_with gave.term gave.postings)
     pub on_end : (new : S) → is_drained mid → current new ≡ None → EndsTerms yields gives is_drained mid new → GoesOn current yields gives old new given (entry_with gave.term gave.postings)
 
   module _ {W : Type 0} (contents : W → Option (List ℕ)) (before : Option (List ℕ)) (writer : IndexWriter W WriterSections) (hand : PendingEntry) (begins : BeginsEntry contents before writer told last next term hand)
-      (mid : S) (headed : heading mid ≡ heading old) (documents to : ℕ) (taken : List ℕ) (list : GivesList yields gives old mid (heading old).first hand.next documents to hand.list.items taken) where
+      (mid : S) (headed : heading mid ≡ heading old) (documents to : ℕ) (taken : List ℕ) (list : GivesList yields gives old mid (heading old).first hand.end documents to hand.list.items taken) where
     abbrev raised_postings : List Posting
     raised_postings = shifted (heading old).first list.postings
 
     -- the list by itself
-    abbrev list_alone : GivesList yields gives old mid (heading old).first hand.next documents to [] (list_bytes_from hand.next raised_postings)
+    abbrev list_alone : GivesList yields gives old mid (heading old).first hand.end documents to [] (list_bytes_from hand.end raised_postings)
     list_alone = record { postings = list.postings; yielded = list.yielded; given = list.given; count = list.count; last = list.last; coded = refl }
 
-    may_be_told : MayList begins.begun raised_postings documents to (list_bytes_from hand.next raised_postings)
-    may_be_told = may_list begins.begun hand.next begins.begins mid headed documents to (list_bytes_from hand.next raised_postings) list_alone
+    may_be_told : MayList begins.begun raised_postings documents to (list_bytes_from hand.end raised_postings)
+    may_be_told = may_list begins.begun hand.end begins.begins mid headed documents to (list_bytes_from hand.end raised_postings) list_alone
 
     -- its documents can be counted with those before
     pub taken_fits : hand.documents + documents < 2 ^ 32
-    taken_fits = documents_fit contents before writer hand begins.begun begins.was raised_postings documents to (list_bytes_from hand.next raised_postings) may_be_told
+    taken_fits = documents_fit contents before writer hand begins.begun begins.was raised_postings documents to (list_bytes_from hand.end raised_postings) may_be_told
 
-    pub has_taken : (then : PendingEntry) → then.documents ≡ hand.documents + documents → then.next ≡ to → then.list.items ≡ taken → HasTaken contents before writer mid then
+    pub has_taken : (then : PendingEntry) → then.documents ≡ hand.documents + documents → then.end ≡ to → then.list.items ≡ taken → HasTaken contents before writer mid then
     has_taken then count last coded =
-        let bytes : List ℕ = list_bytes_from hand.next raised_postings in
-        let is = under begins.begun hand.next begins.begins mid headed documents to bytes list_alone in
+        let bytes : List ℕ = list_bytes_from hand.end raised_postings in
+        let is = under begins.begun hand.end begins.begins mid headed documents to bytes list_alone in
         let some : 0 < documents = omega (arith, is.some, list.count) in
         record {
-          gave = record { term = term; is = at; postings = list.postings; whole = whole begins.begun hand.next begins.begins mid headed documents to bytes list_alone; begun = begins.begun; from = hand.next; begins = begins.begins };
+          gave = record { term = term; is = at; postings = list.postings; whole = whole begins.begun hand.end begins.begins mid headed documents to bytes list_alone; begun = begins.begun; from = hand.end; begins = begins.begins };
           of_term = refl;
           was =
               gathered_more contents before writer hand begins.begun begins.was raised_postings documents to bytes may_be_told then some count last (coded ∙ list.coded);
           told_to = last ∙ list.last;
-          on_more = λ new next_term drained. goes_on begins.begun hand.next begins.begins mid headed documents to bytes list_alone new drained next_term;
-          on_end = λ new drained. goes_to_end begins.begun hand.next begins.begins mid headed documents to bytes list_alone new drained;
+          on_more = λ new next_term drained. goes_on begins.begun hand.end begins.begins mid headed documents to bytes list_alone new drained next_term;
+          on_end = λ new drained. goes_to_end begins.begun hand.end begins.begins mid headed documents to bytes list_alone new drained;
         }
 
 -- what a call's answer, with its error turned, says where it is Ok

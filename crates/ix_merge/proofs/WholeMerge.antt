@@ -59,7 +59,7 @@ covered_apart hs count cover n =
       | inr behind ↦ omega (arith, cover.no_other n behind)
     ]
 
--- a refusal of a source, of a write or of memory
+-- an error of a source, of a write or of memory
 pub late_refusal : {S E : Type 0} (hs : List Heading) (faults : Faulting S E) (sources : List S) (error : MergeError E) → AreMergeable hs → length sources ≤ length hs → IsRefusalOf faults sources error → IsRefusal hs error
 late_refusal hs faults sources (Gap n) mergeable few late = absurd late
 late_refusal hs faults sources (Overlap n) mergeable few late = absurd late
@@ -69,7 +69,7 @@ late_refusal hs faults sources TooLarge mergeable few late = absurd late
 late_refusal hs faults sources Write mergeable few late = mergeable
 late_refusal hs faults sources Memory mergeable few late = tt
 
--- a refusal of a write or of memory, at the end
+-- an error of a write or of memory, at the end
 pub writer_refusal : {E : Type 0} (hs : List Heading) (error : MergeError E) → AreMergeable hs → IsOfWriter error → IsRefusal hs error
 writer_refusal hs (Gap n) mergeable late = absurd late
 writer_refusal hs (Overlap n) mergeable late = absurd late

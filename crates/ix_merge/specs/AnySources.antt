@@ -1,4 +1,4 @@
--- What a source tells that is a run text, as it is read, or an opened index: what its part tells.
+-- What is known of a source that is a run text, as it is read, or an opened index: what is known of its part.
 use Rattle.std.specs.Prelude.{◌≡◌, ◌≢◌, ℕ, ◌+◌, ◌≤◌, ⊤, List, ◌++◌, length, Option, None, option_map}
 use Rattle.ix_file.specs.Postings.{list_bytes_from, shifted}
 use Rattle.ix_text.specs.Parts.{DictionaryEntry, Posting}
@@ -20,22 +20,22 @@ abbrev pub heading_of_source : {R : Type 0} → AnySource R → Heading
 heading_of_source (Run run) = heading_read run
 heading_of_source (Index index) = index.heading
 
--- the term at hand, if one is
+-- the current term, if there is one
 abbrev pub term_of_source : {R : Type 0} → AnySource R → Option (List ℕ)
 term_of_source (Run run) = term_of run
 term_of_source (Index index) = index.term
 
--- postings of the term at hand, and entries behind it, that it may yield yet
+-- postings of the current term, and entries after it, that it may yield yet
 abbrev pub SourceMayYield : {R : Type 0} → (R → Option (List ℕ)) → AnySource R → List Posting → List DictionaryEntry → Type 0
 SourceMayYield remaining (Run run) = MayYield remaining run
 SourceMayYield remaining (Index index) = HasLeft index
 
--- finished entries, and the one at hand with the postings given of it, that it may have given so far
+-- finished entries, and the current one with the postings given of it, that it may have given so far
 abbrev pub SourceHasGiven : {R : Type 0} → AnySource R → List DictionaryEntry → Option DictionaryEntry → Type 0
 SourceHasGiven (Run run) = HasRead run
 SourceHasGiven (Index index) = HasGiven index
 
--- no posting of the term at hand is left
+-- no posting of the current term is left
 abbrev pub SourceIsDrained : {R : Type 0} → AnySource R → Type 0
 SourceIsDrained (Run run) = IsDrained run
 SourceIsDrained (Index index) = IsAtEndOfTerm index
@@ -45,23 +45,23 @@ abbrev pub SourceIsEnded : {R : Type 0} → AnySource R → Type 0
 SourceIsEnded (Run run) = IsEnded run
 SourceIsEnded (Index index) = IsAtEnd index
 
--- an error with which it may answer yet: of an index, want of memory alone, and none at its end
+-- an error that it may return yet: of an index only out of memory, and none at its end
 abbrev pub SourceMayFault : {R : Type 0} → (R → Option (List ℕ)) → AnySource R → RunTextError → Type 0
 SourceMayFault remaining (Run run) error = MayFault remaining run error
 SourceMayFault remaining (Index index) error = (¬ (IsAtEnd index)) × (error ≡ Memory)
 
--- it is a run text of which a call was refused
+-- it is a run text that has returned an error
 abbrev pub SourceHasFailed : {R : Type 0} → AnySource R → Type 0
 SourceHasFailed (Run run) = HasFailed run
 SourceHasFailed (Index index) = ⊥
 
--- What the refusal of a term or of a posting leaves: of an index the source as it was, of a run text one whose calls are refused.
+-- What an error of a term or of a posting leaves: of an index the source unchanged, of a run text one whose calls fail.
 abbrev pub IsLeftRefused : {R : Type 0} → AnySource R → AnySource R → Type 0
 IsLeftRefused (Run run) left = SourceHasFailed left
 IsLeftRefused (Index index) left = left ≡ Index index
 
--- What the refusal of a list leaves: of an index the source as it was; of a run text one whose calls are refused, but for want of
--- memory, which leaves it as it was where the list is buffered whole and nothing was taken of it.
+-- What an error of a list leaves: of an index the source unchanged; of a run text one whose calls fail, but that out of memory
+-- leaves it unchanged if the list is buffered whole and nothing was taken of it.
 abbrev pub IsLeftWithoutList : {R : Type 0} → AnySource R → AnySource R → ListError RunTextError → Type 0
 IsLeftWithoutList (Run run) (Run left) error = (error ≢ list.Memory → HasFailed left) × (IsHeldWhole run → error ≡ list.Memory → StandsStill run left)
 IsLeftWithoutList (Run run) (Index left) error = ⊥
@@ -72,12 +72,12 @@ abbrev pub IsOfRunText : {R : Type 0} → AnySource R → Type 0
 IsOfRunText (Run run) = ⊤
 IsOfRunText (Index index) = ⊥
 
--- The next posting's positions exceed this room: of an index those of its next posting, of a run text so many as were read.
+-- The next posting's positions exceed this room: of an index those of its next posting, of a run text those that were read.
 abbrev pub LacksRoom : {R : Type 0} → AnySource R → ℕ → ℕ → Type 0
 LacksRoom (Run run) room read = room ≤ read
 LacksRoom (Index index) room read = FirstExceeds room index.postings
 
--- the room that the list at hand wants at most, behind a document one below this number: of an index its bytes, of a run text
+-- the room that the current list needs at most, after a document one below this number: of an index its bytes, of a run text
 -- those that are left of it, and four more for its first gap
 abbrev pub list_room : {R : Type 0} → AnySource R → ℕ → ℕ
 list_room (Run run) next = run.bytes + 4
@@ -85,7 +85,7 @@ list_room (Index index) next = length (list_bytes_from next (shifted index.headi
 
 -- ---- its laws
 
--- where no term is at hand, no posting of one is left
+-- if there is no current term, no posting of one is left
 pub source_drained_without_term : {R : Type 0} (source : AnySource R) → term_of_source source ≡ None → SourceIsDrained source
 source_drained_without_term (Run run) none = λ some. absurd (some none)
 source_drained_without_term (Index index) none = λ some. absurd (some none)
@@ -96,7 +96,7 @@ pub source_given_lawfully : {R : Type 0} (source : AnySource R) (finished : List
 source_given_lawfully (Run run) finished at_hand read = read.lawful
 source_given_lawfully (Index index) finished at_hand given = given.lawful
 
--- the entry at hand is that of the term at hand
+-- the current entry is that of the current term
 pub source_given_of_term : {R : Type 0} (source : AnySource R) (finished : List DictionaryEntry) (at_hand : Option DictionaryEntry)
     → SourceHasGiven source finished at_hand → option_map (λ entry. entry.term) at_hand ≡ term_of_source source
 source_given_of_term (Run run) finished at_hand read = read.of_term

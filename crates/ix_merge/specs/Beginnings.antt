@@ -7,7 +7,7 @@ use Rattle.ix_file.specs.WriterSections.{WriterSections}
 use Rattle.ix_file.specs.IndexWriter.{IndexWriter}
 use Rattle.ix_run.specs.Heads.{Heading}
 
--- The writer was told these rows and the stop terms that all headings have, none where there is no heading, and no term.
+-- The writer was given these rows and the stop terms that all headings have, none if there is no heading, and no term.
 pub record BeginsWith {W : Type 0} (contents : W → Option (List ℕ)) (before : Option (List ℕ)) (writer : IndexWriter W WriterSections)
     (headings : List Heading) (rows : List DocumentRow) : Type 0 where
   pub stop : List (List ℕ)

@@ -1,4 +1,4 @@
--- The lists of the entry at hand that were gathered, one behind another, and are not told yet.
+-- The lists of the pending entry that were gathered, one after another, and are not written yet.
 use Rattle.std.specs.Prelude.{◌≡◌, ℕ, ◌<◌, List, [], Option, string_bytes}
 use Rattle.ix_text.specs.Parts.{Posting}
 use Rattle.ix_file.specs.Telling.{IsClosable, MayList}
@@ -13,18 +13,18 @@ pub record HasNothing (entry : PendingEntry) : Type 0 where
   pub documents : entry.documents ≡ 0
   pub list : entry.list.items ≡ []
 
--- There is no entry at hand yet.
+-- There is no pending entry yet.
 pub record IsNewEntry (entry : PendingEntry) : Type 0 where
   pub term : string_bytes entry.term ≡ []
   pub nothing : HasNothing entry
 
--- What was gathered is a list that may be told behind the base, which makes this of it.
+-- What was gathered is a list that may be written after the base, which makes this of it.
 pub record GathersList (base : Told) (entry : PendingEntry) (told : Told) : Type 0 where
   pub postings : List Posting
-  pub may : MayList base postings entry.documents entry.next entry.list.items
+  pub may : MayList base postings entry.documents entry.end entry.list.items
   pub told_with : told ≡ with_postings base postings
 
--- The writer was told this but for what was gathered: all of it where nothing was.
+-- The writer was given this but for what was gathered: all of it if nothing was.
 pub record HasGathered {W : Type 0} (contents : W → Option (List ℕ)) (before : Option (List ℕ))
     (writer : IndexWriter W WriterSections) (entry : PendingEntry) (told : Told) : Type 0 where
   pub base : Told
@@ -32,7 +32,7 @@ pub record HasGathered {W : Type 0} (contents : W → Option (List ℕ)) (before
   pub none : entry.documents ≡ 0 → (entry.list.items ≡ []) × (told ≡ base)
   pub some : 0 < entry.documents → GathersList base entry told
 
--- so for some that the writer was told
+-- the same for something that the writer was given
 pub record HasGatheredSome {W : Type 0} (contents : W → Option (List ℕ)) (writer : IndexWriter W WriterSections)
     (entry : PendingEntry) : Type 0 where
   pub before : Option (List ℕ)

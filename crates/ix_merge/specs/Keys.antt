@@ -6,7 +6,7 @@ use Rattle.std.specs.Ordering.{nat_cmp}
 use Rattle.std.specs.declared.cmp.Ordering.TheVariants.{Less}
 use Rattle.ix_run.specs.Heads.{Heading}
 
--- the number behind the last that a source covers
+-- the number after the last that a source covers
 abbrev pub end_of : Heading → ℕ
 end_of heading = heading.first + length heading.rows
 
@@ -23,7 +23,7 @@ key_of heading current source = option_map (λ term. record { term = term; end =
 abbrev pub IsUpTo : Key → Key → Type 0
 IsUpTo one other = (slice_cmp nat_cmp one.term other.term ≡ Less) ⊎ ((one.term ≡ other.term) × (one.end ≤ other.end))
 
--- the same, where no key is behind each one
+-- the same, and no key comes after each one
 abbrev pub ComesFirst : Option Key → Option Key → Type 0
 ComesFirst one None = ⊤
 ComesFirst one (Some other) = MatchOption one ⊥ (λ key. IsUpTo key other)

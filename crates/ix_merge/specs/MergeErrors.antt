@@ -1,4 +1,4 @@
--- The numbers of the refusals of a merge, and their names, as they are printed.
+-- The numbers of the errors of a merge, and their names, as they are printed.
 use Rattle.std.specs.Prelude.{ℕ, List, ◌++◌, Option, Some, codes, decimal, option_map}
 use Rattle.ix_merge.specs.declared.merge_error.MergeError.{MergeError}
 use Rattle.ix_merge.specs.declared.merge_error.MergeError.TheVariants.{Gap, Overlap, StopDiffers, Source, TooLarge, Write, Memory}

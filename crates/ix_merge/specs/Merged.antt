@@ -1,4 +1,4 @@
--- What was told to a writer of what sources gave: the same postings, each document under its number in the whole.
+-- What a writer was given of what sources gave: the same postings, each document under its number in the whole.
 use Rattle.std.specs.Prelude.{◌≡◌, ℕ, ◌+◌, ◌++◌, ◌↔◌, List, [], map, slice_get, Some, All, Contains, Option}
 use Rattle.ix_text.specs.ByteOrder.{IsAscending}
 use Rattle.ix_text.specs.Parts.{DictionaryEntry, AreTermPostings, HasPosition, terms_of}
@@ -39,7 +39,7 @@ pub record AreShares (headings : List Heading) (shares : List Share) : Type 0 wh
   pub headed : map (λ share. share.heading) shares ≡ headings
   pub whole : All (λ share. AreWhole share.heading share.entries) shares
 
--- The entries that were told are the merge of all that the sources, as they were when nothing was asked of them, yield.
+-- The entries that the writer was given are the merge of all that the sources yield, as they were before anything was read.
 pub record HasMergedAll {S : Type 0} (yields : Yielding S) (heading : S → Heading) (begun : List S) (told : List DictionaryEntry) : Type 0 where
   pub shares : List Share
   pub are : AreShares (map heading begun) shares

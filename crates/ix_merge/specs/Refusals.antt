@@ -41,9 +41,8 @@ pub record AreMergeable (headings : List Heading) : Type 0 where
   pub compatible : AreCompatible headings
   pub few : tokens_under headings ≤ 2 ^ 28
 
--- A merge of sources with these headings is refused for this reason: the first four say what is wrong with the
--- headings, and the others come where nothing is, but that memory may be refused at any time. A source is told by its
--- place.
+-- A merge of sources with these headings fails for this reason: `Gap`, `Overlap`, `StopDiffers` and `TooLarge` say what is
+-- wrong with the headings, and the others come if nothing is, but `Memory` at any time. A source is named by its place.
 abbrev pub IsRefusal : {E : Type 0} → List Heading → MergeError E → Type 0
 IsRefusal headings (Gap number) = IsGap headings number
 IsRefusal headings (Overlap number) = IsOverlap headings number
@@ -53,18 +52,18 @@ IsRefusal headings TooLarge = AreTooLarge headings
 IsRefusal headings Write = AreMergeable headings
 IsRefusal headings Memory = Unit {0}
 
--- The source at this place may answer with this error.
+-- The source at this place may return this error.
 pub record MayFaultAt {S E : Type 0} (faults : Faulting S E) (sources : List S) (place : ℕ) (error : E) : Type 0 where
   pub source : S
   pub is : slice_get sources place ≡ Some source
   pub may : faults source error
 
--- If a source is told by its place, then with an error with which that one may answer.
+-- If the error names a source by its place, then with an error that this source may return.
 abbrev pub TellsFault : {S E : Type 0} → Faulting S E → List S → MergeError E → Type 0
 TellsFault faults sources (Source place error) = MayFaultAt faults sources place error
 TellsFault faults sources _ = Unit {0}
 
--- the refusals that come before a byte is written
+-- the errors that come before a byte is written
 abbrev pub IsEarly : {E : Type 0} → MergeError E → Type 0
 IsEarly (Gap number) = Unit {0}
 IsEarly (Overlap number) = Unit {0}
@@ -74,6 +73,6 @@ IsEarly TooLarge = Unit {0}
 IsEarly Write = ⊥
 IsEarly Memory = ⊥
 
--- the refusal is this one, or that memory was refused
+-- the error is this one, or out of memory
 abbrev pub IsOrMemory : {T E : Type 0} → Result T (MergeError E) → MergeError E → Type 0
 IsOrMemory result error = (result ≡ Err error) ⊎ (result ≡ Err Memory)

@@ -5,7 +5,7 @@ use Rattle.ix_run.specs.Heads.{Heading}
 use Rattle.ix_run.specs.Sources.{Giving, Yielding, entry_with}
 use Rattle.ix_merge.specs.Turns.{bare_entry}
 
--- From the old state, of which nothing was asked, to the new one a source came to its first term, or to its end.
+-- From the old state, from which nothing was read, to the new one a source came to its first term, or to its end.
 pub record HasStarted {S : Type 0} (heading : S → Heading) (current : S → Option (List ℕ)) (yields : Yielding S) (gives : Giving S) (old new : S) : Type 0 where
   pub same : heading new ≡ heading old
   pub gives_none : gives new [] (bare_entry (current new))

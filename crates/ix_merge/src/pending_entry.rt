@@ -20,7 +20,7 @@ pub(crate) struct PendingEntry {
     // its term; empty before the first entry
     pub(crate) term: String,
     // one above its last document so far, written or gathered, or 0
-    pub(crate) next: u32,
+    pub(crate) end: u32,
     // the lists that were gathered and are not written yet, one after another
     pub(crate) list: Vec<u8>,
     // how many documents these have
@@ -34,7 +34,7 @@ impl PendingEntry {
     {
         PendingEntry {
             term: String::new(alloc),
-            next: 0,
+            end: 0,
             list: Vec::new(alloc),
             documents: 0,
         }
@@ -58,7 +58,7 @@ impl PendingEntry {
         ensures told { (before : Option (List ℕ)) (told : Told)
             → HasGathered W.contents before writer.old self.old told → IsClosable told
             → OnOk result (BeginsEntry W.contents before writer.new told
-            (string_bytes self.old.term) self.old.next term.now self.new) }
+            (string_bytes self.old.term) self.old.end term.now self.new) }
         ensures front { (before : Option (List ℕ)) (told : Told)
             → HasGathered W.contents before writer.old self.old told
             → AppendsFront before (W.contents (sink writer.new)) (settled_front told) }
@@ -72,7 +72,7 @@ impl PendingEntry {
         writer.term(term)?;
         self.term.clear();
         self.term.push_str(term)?;
-        self.next = 0;
+        self.end = 0;
         Ok(())
     }
 
@@ -89,7 +89,7 @@ impl PendingEntry {
         requires gathered { HasGatheredSome W.contents writer.old self.old }
         ensures same_writer { sink_name writer.new ≡ sink_name writer.old }
         ensures same_term { self.new.term ≡ self.old.term }
-        ensures same_next { self.new.next ≡ self.old.next }
+        ensures same_end { self.new.end ≡ self.old.end }
         ensures told { (before : Option (List ℕ)) (told : Told)
             → HasGathered W.contents before writer.old self.old told
             → OnOk result (HasGathered W.contents before writer.new self.new told) }
@@ -115,7 +115,7 @@ impl PendingEntry {
         requires gathered { HasGatheredSome W.contents writer.old self.old }
         ensures same_writer { sink_name writer.new ≡ sink_name writer.old }
         ensures same_term { self.new.term ≡ self.old.term }
-        ensures same_next { self.new.next ≡ self.old.next }
+        ensures same_end { self.new.end ≡ self.old.end }
         ensures nothing { OnOk result (HasNothing self.new) }
         ensures told { (before : Option (List ℕ)) (told : Told)
             → HasGathered W.contents before writer.old self.old told
@@ -129,7 +129,7 @@ impl PendingEntry {
         if self.documents == 0 {
             return Ok(());
         }
-        writer.list(self.documents, self.next, &self.list)?;
+        writer.list(self.documents, self.end, &self.list)?;
         self.list.clear();
         self.documents = 0;
         Ok(())

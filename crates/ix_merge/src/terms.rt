@@ -89,7 +89,7 @@ fn merge_by<S: Source, W: Write>(
     }
 }
 
-/// Reads the first term of each source, with an empty tree of winners.
+/// Reads the first term of each source, and makes the tree of winners, which is empty before.
 fn begin_all<S: Source>(
     sources: &mut [S],
     tree: &mut [Option<usize>],

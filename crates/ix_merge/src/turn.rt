@@ -15,8 +15,8 @@ use ix_run::{ListError, Source};
 use std::io::Write;
 
 /// Appends the source's current list to the pending entry and advances the source; returns whether it has another term.
-/// Writes the pending entry first if its term is another one, and after it what has 64 KiB or more. `place` is the
-/// source's place among those that are merged.
+/// If the pending entry has another term, it is written first; and its lists are written once they have 64 KiB or more.
+/// `place` is the source's place among those that are merged.
 ///
 /// # Errors
 ///
@@ -38,28 +38,28 @@ pub(crate) fn take_turn<S: Source, W: Write>(
     ensures turned { (before : Option (List ℕ)) (told : Told) (given : List DictionaryEntry)
         → HasGathered W.contents before writer.old entry.old told
         → MayTurn S.heading S.current S.gives source.old given told
-        (string_bytes entry.old.term) entry.old.next
+        (string_bytes entry.old.term) entry.old.end
         → OnOk result (HasTurned S.heading S.current S.yields S.gives W.contents before
-        source.old source.new given told (string_bytes entry.old.term) entry.old.next
+        source.old source.new given told (string_bytes entry.old.term) entry.old.end
         writer.new entry.new) }
     ensures some { (before : Option (List ℕ)) (told : Told) (given : List DictionaryEntry)
         → HasGathered W.contents before writer.old entry.old told
         → MayTurn S.heading S.current S.gives source.old given told
-        (string_bytes entry.old.term) entry.old.next
+        (string_bytes entry.old.term) entry.old.end
         → OnErr result (HasToldSome S.heading S.current W.contents before source.old given told
-        (string_bytes entry.old.term) entry.old.next writer.new) }
+        (string_bytes entry.old.term) entry.old.end writer.new) }
     ensures no_more_faults { OnOk result (KeepsFaults S.faults source.old source.new) }
     ensures refused { IfErr result (IsRefusalAt place (S.faults source.old)) }
 {
     if let Err(error) = entry.begin(source.term(), writer) {
         return Err(put_error(error));
     }
-    let listed = match source.take_list(entry.next, &mut entry.list) {
+    let listed = match source.take_list(entry.end, &mut entry.list) {
         Ok(listed) => listed,
         Err(error) => return Err(list_error(place, error)),
     };
     entry.documents += listed.documents;
-    entry.next = listed.next;
+    entry.end = listed.next;
     if let Err(error) = entry.send_if_full(writer) {
         return Err(put_error(error));
     }

@@ -1,4 +1,4 @@
--- From turn to turn: the sources gave what was told, and the tree holds the least of what they have at hand.
+-- From turn to turn: the sources gave what was told, and the tree holds the least of their current terms.
 use Rattle.std.proofs.Common.{◌≡◌, ◌+◌, ◌*◌, ◌-◌, ◌^◌, ◌<◌, List, length, length-set, get_or, string_bytes, refl, sym, subst, ◌∙◌, arith}
 use Rattle.std.proofs.Math.Seq.{map-set_same}
 use Rattle.std.proofs.lemmas.List.{get_or_default, length-map}
@@ -29,7 +29,7 @@ loop-place-init g c =
       no_more_faults = c.in_ok-begin_all.ensures.no_more_faults;
       same_writer = refl;
       played = c.in_ok-begin_all.ensures.tree;
-      behind = behind_first g.S.Source.heading g.S.Source.current g.S.Source.yields g.S.Source.gives g.met.S.Source.given_lawfully c.args.sources.now c.begin_all.new.sources (string_bytes c.args.entry.now.term) c.args.entry.now.next started c.requires.none.term;
+      behind = behind_first g.S.Source.heading g.S.Source.current g.S.Source.yields g.S.Source.gives g.met.S.Source.given_lawfully c.args.sources.now c.begin_all.new.sources (string_bytes c.args.entry.now.term) c.args.entry.now.end started c.requires.none.term;
       merging = λ before told was none.
           merging_first g.S.Source.heading g.S.Source.current g.S.Source.yields g.S.Source.gives g.W.Write.contents g.met.S.Source.given_lawfully c.args.sources.now c.begin_all.new.sources before told c.args.writer.now
           c.args.entry.now started was none c.requires.none;

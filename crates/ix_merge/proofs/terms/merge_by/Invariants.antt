@@ -15,7 +15,7 @@ invariant-loop-place g l = record {
   no_more_faults : KeepFaults g.S.Source.faults l.fn.sources l.sources;
   same_writer : sink_name l.writer ≡ sink_name l.fn.writer;
   played : IsWinnerTree (keys_of g.S.Source.heading g.S.Source.current l.sources) l.tree;
-  behind : AreBehind g.S.Source.heading g.S.Source.current (string_bytes l.entry.term) l.entry.next l.sources;
+  behind : AreBehind g.S.Source.heading g.S.Source.current (string_bytes l.entry.term) l.entry.end l.sources;
   merging : (before : Option (List ℕ)) (told : Told) → WasTold g.W.Write.contents before l.fn.writer told → entries_of told ≡ []
       → IsMerging g.S.Source.heading g.S.Source.current g.S.Source.yields g.S.Source.gives g.W.Write.contents l.fn.sources l.sources before told l.writer l.entry;
 }

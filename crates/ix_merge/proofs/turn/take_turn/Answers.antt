@@ -10,14 +10,14 @@ pub take_list-requires-clause-low : goal.take_list-requires-clause-low
 take_list-requires-clause-low g c =
     let m = c.requires.may in
     let begun = c.in_default.ensures.told m.before m.told m.was m.may.closable in
-    from_low g.S.Source.heading g.S.Source.current g.S.Source.yields g.S.Source.gives g.S.Source.is_drained g.met.S.Source.given_lawfully c.args.source.now m.given m.told (string_bytes c.args.entry.now.term) c.args.entry.now.next m.may
-    c.term.result.now c.term.ensures begun.begun c.begin.new.self.next begun.begins
+    from_low g.S.Source.heading g.S.Source.current g.S.Source.yields g.S.Source.gives g.S.Source.is_drained g.met.S.Source.given_lawfully c.args.source.now m.given m.told (string_bytes c.args.entry.now.term) c.args.entry.now.end m.may
+    c.term.result.now c.term.ensures begun.begun c.begin.new.self.end begun.begins
 
 pub overflow_add-entry : goal.overflow_add-entry
 overflow_add-entry g c =
     let m = c.requires.may in
     let fits : c.begin.new.self.documents + c.in-Ok.listed.documents < 2 ^ 32 =
-    taken_fits g.S.Source.heading g.S.Source.current g.S.Source.yields g.S.Source.gives g.S.Source.is_drained g.met.S.Source.given_lawfully c.args.source.now m.given m.told (string_bytes c.args.entry.now.term) c.args.entry.now.next m.may
+    taken_fits g.S.Source.heading g.S.Source.current g.S.Source.yields g.S.Source.gives g.S.Source.is_drained g.met.S.Source.given_lawfully c.args.source.now m.given m.told (string_bytes c.args.entry.now.term) c.args.entry.now.end m.may
     c.term.result.now c.term.ensures g.W.Write.contents m.before c.begin.new.writer c.begin.new.self (c.in_default.ensures.told m.before m.told m.was m.may.closable) c.take_list.new.self c.take_list.ensures.heading
     c.in-Ok.listed.documents c.in-Ok.listed.next c.take_list.new.out.items c.in-Ok.ensures.given in
     omega arith
@@ -26,38 +26,38 @@ pub send_if_full-requires : goal.send_if_full-requires
 send_if_full-requires g c =
     let m = c.requires.may in
     let taken =
-    has_taken g.S.Source.heading g.S.Source.current g.S.Source.yields g.S.Source.gives g.S.Source.is_drained g.met.S.Source.given_lawfully c.args.source.now m.given m.told (string_bytes c.args.entry.now.term) c.args.entry.now.next m.may
+    has_taken g.S.Source.heading g.S.Source.current g.S.Source.yields g.S.Source.gives g.S.Source.is_drained g.met.S.Source.given_lawfully c.args.source.now m.given m.told (string_bytes c.args.entry.now.term) c.args.entry.now.end m.may
     c.term.result.now c.term.ensures g.W.Write.contents m.before c.begin.new.writer c.begin.new.self (c.in_default.ensures.told m.before m.told m.was m.may.closable) c.take_list.new.self c.take_list.ensures.heading
     c.in-Ok.listed.documents c.in-Ok.listed.next c.take_list.new.out.items c.in-Ok.ensures.given
-    (record { term = c.begin.new.self.term; next = c.in-Ok.listed.next; list = c.take_list.new.out; documents = c.begin.new.self.documents + c.in-Ok.listed.documents }) refl refl refl in
+    (record { term = c.begin.new.self.term; end = c.in-Ok.listed.next; list = c.take_list.new.out; documents = c.begin.new.self.documents + c.in-Ok.listed.documents }) refl refl refl in
     record { gathered = record { before = m.before; told = _; has = taken.was } }
 
 pub returns-in-Err-send_if_full-clause-some : goal.returns-in-Err-send_if_full-clause-some
 returns-in-Err-send_if_full-clause-some g c before told given was may =
     let taken =
-    has_taken g.S.Source.heading g.S.Source.current g.S.Source.yields g.S.Source.gives g.S.Source.is_drained g.met.S.Source.given_lawfully c.args.source.now given told (string_bytes c.args.entry.now.term) c.args.entry.now.next may
+    has_taken g.S.Source.heading g.S.Source.current g.S.Source.yields g.S.Source.gives g.S.Source.is_drained g.met.S.Source.given_lawfully c.args.source.now given told (string_bytes c.args.entry.now.term) c.args.entry.now.end may
     c.term.result.now c.term.ensures g.W.Write.contents before c.begin.new.writer c.begin.new.self (c.in_default.ensures.told before told was may.closable) c.take_list.new.self c.take_list.ensures.heading
     c.in-Ok.listed.documents c.in-Ok.listed.next c.take_list.new.out.items c.in-Ok.ensures.given
-    (record { term = c.begin.new.self.term; next = c.in-Ok.listed.next; list = c.take_list.new.out; documents = c.begin.new.self.documents + c.in-Ok.listed.documents }) refl refl refl in
+    (record { term = c.begin.new.self.term; end = c.in-Ok.listed.next; list = c.take_list.new.out; documents = c.begin.new.self.documents + c.in-Ok.listed.documents }) refl refl refl in
     inr (taken.gave, c.send_if_full.ensures.front before _ taken.was)
 
 pub returns-clause-turned : goal.returns-clause-turned
 returns-clause-turned g c before told given was may =
     let taken =
-    has_taken g.S.Source.heading g.S.Source.current g.S.Source.yields g.S.Source.gives g.S.Source.is_drained g.met.S.Source.given_lawfully c.args.source.now given told (string_bytes c.args.entry.now.term) c.args.entry.now.next may
+    has_taken g.S.Source.heading g.S.Source.current g.S.Source.yields g.S.Source.gives g.S.Source.is_drained g.met.S.Source.given_lawfully c.args.source.now given told (string_bytes c.args.entry.now.term) c.args.entry.now.end may
     c.term.result.now c.term.ensures g.W.Write.contents before c.begin.new.writer c.begin.new.self (c.in_default.ensures.told before told was may.closable) c.take_list.new.self c.take_list.ensures.heading
     c.in-Ok.listed.documents c.in-Ok.listed.next c.take_list.new.out.items c.in-Ok.ensures.given
-    (record { term = c.begin.new.self.term; next = c.in-Ok.listed.next; list = c.take_list.new.out; documents = c.begin.new.self.documents + c.in-Ok.listed.documents }) refl refl refl in
+    (record { term = c.begin.new.self.term; end = c.in-Ok.listed.next; list = c.take_list.new.out; documents = c.begin.new.self.documents + c.in-Ok.listed.documents }) refl refl refl in
     on_ok_if c.next_term.result c.map_err.result _ _ c.map_err.ensures.cases
     (λ more is. record {
       gave = taken.gave;
       goes = on _ taken more (rw is at c.next_term.ensures.begun);
       was = c.in_default-send_if_full.ensures.told before _ taken.was;
       told_of = ap string_bytes c.in_default-send_if_full.ensures.same_term ∙ c.in_default.ensures.term ∙ sym taken.of_term;
-      told_to = c.in_default-send_if_full.ensures.same_next ∙ taken.told_to;
+      told_to = c.in_default-send_if_full.ensures.same_end ∙ taken.told_to;
     })
   where
-    on : (then : PendingEntry) (taken : HasTaken g.S.Source.heading g.S.Source.current g.S.Source.yields g.S.Source.gives g.S.Source.is_drained g.met.S.Source.given_lawfully c.args.source.now given told (string_bytes c.args.entry.now.term) c.args.entry.now.next may
+    on : (then : PendingEntry) (taken : HasTaken g.S.Source.heading g.S.Source.current g.S.Source.yields g.S.Source.gives g.S.Source.is_drained g.met.S.Source.given_lawfully c.args.source.now given told (string_bytes c.args.entry.now.term) c.args.entry.now.end may
         c.term.result.now c.term.ensures g.W.Write.contents before c.begin.new.writer c.take_list.new.self then)
         → (more : Bool) → MatchBool more ((term : List ℕ) × (g.S.Source.current c.next_term.new.self ≡ Some term) × BeginsTerm g.S.Source.yields g.S.Source.gives g.S.Source.is_drained c.take_list.new.self c.next_term.new.self term)
         ((g.S.Source.current c.next_term.new.self ≡ None) × g.S.Source.is_ended c.next_term.new.self × EndsTerms g.S.Source.yields g.S.Source.gives g.S.Source.is_drained c.take_list.new.self c.next_term.new.self)
@@ -68,8 +68,8 @@ returns-clause-turned g c before told given was may =
 pub returns-clause-some : goal.returns-clause-some
 returns-clause-some g c before told given was may =
     let taken =
-    has_taken g.S.Source.heading g.S.Source.current g.S.Source.yields g.S.Source.gives g.S.Source.is_drained g.met.S.Source.given_lawfully c.args.source.now given told (string_bytes c.args.entry.now.term) c.args.entry.now.next may
+    has_taken g.S.Source.heading g.S.Source.current g.S.Source.yields g.S.Source.gives g.S.Source.is_drained g.met.S.Source.given_lawfully c.args.source.now given told (string_bytes c.args.entry.now.term) c.args.entry.now.end may
     c.term.result.now c.term.ensures g.W.Write.contents before c.begin.new.writer c.begin.new.self (c.in_default.ensures.told before told was may.closable) c.take_list.new.self c.take_list.ensures.heading
     c.in-Ok.listed.documents c.in-Ok.listed.next c.take_list.new.out.items c.in-Ok.ensures.given
-    (record { term = c.begin.new.self.term; next = c.in-Ok.listed.next; list = c.take_list.new.out; documents = c.begin.new.self.documents + c.in-Ok.listed.documents }) refl refl refl in
+    (record { term = c.begin.new.self.term; end = c.in-Ok.listed.next; list = c.take_list.new.out; documents = c.begin.new.self.documents + c.in-Ok.listed.documents }) refl refl refl in
     on_err_if c.map_err.result _ (inr (taken.gave, c.send_if_full.ensures.front before _ taken.was))

@@ -1,4 +1,4 @@
--- The list that is left is that of the entry at hand, so that its documents can be counted from the head's first number.
+-- The list that is left is that of the current entry, so that its documents can be counted from the head's first number.
 use Rattle.std.proofs.Common.{ℕ, ◌<◌, map, drop, length, sym, subst, ◌∙◌, arith}
 use Rattle.std.specs.Option.{option_copied}
 use Rattle.ix_run.specs.Heads.{heading_of}
