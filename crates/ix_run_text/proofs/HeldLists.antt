@@ -4,13 +4,15 @@ use Rattle.std.proofs.lemmas.List.{append_assoc, append-nil, map-append}
 use Rattle.std.specs.Io.KnownBytes.{Consumes}
 use Rattle.std.specs.List.{flat_map}
 use Rattle.ix_text.specs.Parts.{DictionaryEntry, Posting}
+use Rattle.ix_text.specs.TokenMarks.{HoldsNumbers}
 use Rattle.ix_text.specs.TokenNumbers.{AreDistinct, numbers_of_entries, numbers_of_posting, numbers_of_postings}
+use Rattle.ix_text.specs.declared.token_marks.TokenMarks.{TokenMarks}
 use Rattle.ix_text.proofs.DistinctNumbers.{distinct_front}
 use Rattle.ix_vbyte.specs.Gaps.{next_after}
 use Rattle.ix_vbyte.specs.Postings.{ArePostings, documents_of, list_bytes, list_bytes_from}
 use Rattle.ix_vbyte.proofs.Postings.{list_apart}
 use Rattle.ix_run_text.specs.Heads.{Heading}
-use Rattle.ix_run_text.specs.Reading.{LieAhead, LieBehind, Looking, MayLieAhead, Standing, Told, bytes_ahead}
+use Rattle.ix_run_text.specs.Reading.{LieAhead, LieBehind, MayLieAhead, Standing, bytes_ahead}
 use Rattle.ix_run_text.specs.RunText.{term_bytes}
 use Rattle.ix_run_text.specs.Sources.{AreWhole, IsLawfulFront, closed, entry_with, extended}
 use Rattle.ix_run_text.specs.MarkedLists.{PostingsFit}
@@ -44,12 +46,8 @@ front_all heading finished entry (p ∷ ps) front fit distinct =
     let all = front_all heading finished longer ps (front_more heading finished entry p front fit.0 (distinct_front (before ++ here) later parted)) (subst (λ (n : ℕ). PostingsFit rows n ps) next fit.1) (subst (λ (ns : List ℕ). AreDistinct (ns ++ later)) told parted) in
     subst (λ (qs : List Posting). IsLawfulFront heading finished (Some (entry_with entry.term qs))) (append_assoc entry.postings (p ∷ []) ps) all
 
--- where it stands then that took a whole list
-abbrev pub emptied : Standing → ℕ → Looking → Standing
-emptied at next looking = record { heading = at.heading; place = at.place; last = at.last; next = next; documents = 0; bytes = 0; looking = looking }
-
 -- A reader that took nothing of its list takes these postings, which are the whole list.
-pub record TakesAll (at : Standing) (postings : List Posting) (next : ℕ) (looking : Looking) (left after : Option (List ℕ)) : Type 0 where
+pub record TakesAll (at : Standing) (postings : List Posting) (marks : TokenMarks) (left after : Option (List ℕ)) : Type 0 where
   pub here : at.place ≡ AtTerm
   pub fresh : at.next ≡ 0
   pub some : 0 < length postings
@@ -58,14 +56,15 @@ pub record TakesAll (at : Standing) (postings : List Posting) (next : ℕ) (look
   pub taken : Consumes left after (list_bytes postings)
   pub fit : PostingsFit at.heading.rows 0 postings
   pub are : ArePostings 0 (2 ^ 28) postings
-  pub marked : (numbers : List ℕ) → Told at numbers → AreDistinct numbers
-      → AreDistinct (numbers ++ numbers_of_postings at.heading.rows postings) × Told (emptied at next looking) (numbers ++ numbers_of_postings at.heading.rows postings)
+  pub marked : (numbers : List ℕ) → HoldsNumbers at.marks numbers → AreDistinct numbers
+      → AreDistinct (numbers ++ numbers_of_postings at.heading.rows postings) × HoldsNumbers marks (numbers ++ numbers_of_postings at.heading.rows postings)
 
-module _ (at : Standing) (postings : List Posting) (next : ℕ) (looking : Looking) (left after : Option (List ℕ)) (takes : TakesAll at postings next looking left after) (last : next ≡ next_after 0 (documents_of postings)) where
-  abbrev there : Standing
-  there = emptied at next looking
+module _ (at : Standing) (postings : List Posting) (next : ℕ) (marks : TokenMarks) (left after : Option (List ℕ)) (takes : TakesAll at postings marks left after) (last : next ≡ next_after 0 (documents_of postings)) where
+  -- where it stands then
+  abbrev pub emptied : Standing
+  emptied = record { heading = at.heading; place = at.place; last = at.last; next = next; documents = 0; bytes = 0; marks = marks }
 
-  pub behind_all : (finished : List DictionaryEntry) (entry : DictionaryEntry) → LieBehind at finished (Some entry) → LieBehind there finished (Some (extended entry postings))
+  pub behind_all : (finished : List DictionaryEntry) (entry : DictionaryEntry) → LieBehind at finished (Some entry) → LieBehind emptied finished (Some (extended entry postings))
   behind_all finished entry behind =
       let rows = at.heading.rows in
       let before : List ℕ = numbers_of_entries rows (closed finished (Some entry) []) in
@@ -81,12 +80,12 @@ module _ (at : Standing) (postings : List Posting) (next : ℕ) (looking : Looki
             last ∙ ap (λ (n : ℕ). next_after n (documents_of postings)) start
             ∙ sym (ap (next_after 0) (map-append (λ (p : Posting). p.0) entry.postings postings) ∙ next_after-append 0 (documents_of entry.postings) (documents_of postings));
         posted = λ _. (let some = takes.some in omega (arith, some, length-append entry.postings postings));
-        marked = subst (Told there) told marked.1;
+        marked = subst (HoldsNumbers marks) told marked.1;
         distinct = subst AreDistinct told marked.0;
       }
 
   -- what may lie ahead of it then lay behind the list
-  pub ahead_all : (rest : List Posting) (entries : List DictionaryEntry) → MayLieAhead there after rest entries → (rest ≡ []) × MayLieAhead at left postings entries
+  pub ahead_all : (rest : List Posting) (entries : List DictionaryEntry) → MayLieAhead emptied after rest entries → (rest ≡ []) × MayLieAhead at left postings entries
   ahead_all (p ∷ ps) entries ahead = absurd (let counted = ahead.are.counted in omega arith)
   ahead_all [] entries ahead = (
     refl,
@@ -121,10 +120,10 @@ module _ (at : Standing) (postings : List Posting) (next : ℕ) (looking : Looki
       (found.0, ap (λ (bytes : List ℕ). Some bytes) found.1)
 
   -- where a lawful dictionary lay ahead, the rest of it does then
-  pub faces_all : (others : List Posting) (entries : List DictionaryEntry) → LieAhead at left others entries → LieAhead there after [] entries
+  pub faces_all : (others : List Posting) (entries : List DictionaryEntry) → LieAhead at left others entries → LieAhead emptied after [] entries
   faces_all others entries ahead = by ahead.finished ahead.at_hand ahead.behind ahead.whole
     where
-      by : (finished : List DictionaryEntry) (at_hand : Option DictionaryEntry) → LieBehind at finished at_hand → AreWhole at.heading (closed finished at_hand others ++ entries) → LieAhead there after [] entries
+      by : (finished : List DictionaryEntry) (at_hand : Option DictionaryEntry) → LieBehind at finished at_hand → AreWhole at.heading (closed finished at_hand others ++ entries) → LieAhead emptied after [] entries
       by finished None behind whole = no_entry at.place at.last takes.here behind.of_term
       by finished (Some entry) behind whole =
           let tail : List ℕ = flat_map term_bytes entries ++ 128 ∷ [] in

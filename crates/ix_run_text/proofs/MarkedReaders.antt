@@ -26,7 +26,6 @@ use Rattle.ix_run_text.specs.Reading.{Faces, HasRead, IsHeldWhole, LieBehind, st
 use Rattle.ix_run_text.specs.MarkedLists.{ListStands, MarksList, MayShift, PostingsFit}
 use Rattle.ix_run_text.specs.declared.run_reader.Place.TheVariants.{AtTerm}
 use Rattle.ix_run_text.specs.declared.run_reader.RunReader.{RunReader}
-use Rattle.ix_run_text.proofs.FreshLists.{fresh_emptied, fresh_held, looking_with}
 use Rattle.ix_run_text.proofs.HeldLists.{TakesAll}
 use Rattle.ix_run_text.proofs.ReadSteps.{no_entry, term_at_hand}
 use Rattle.ix_run_text.proofs.FitPostings.{fit_are, near_fit}
@@ -80,8 +79,8 @@ module _ {R : Type 0} (reader : RunReader R) (after : ℕ) (marks : TokenMarks) 
 
   -- what it takes
   module _ (left behind : Option (List ℕ)) (consumes : Consumes left behind (take reader.bytes (bytes_held reader.input))) where
-    pub marked_takes : reader.looked ≡ None → (later : List ℕ) → TakesAll (standing reader) told after (looking_with reader marks later) left behind
-    marked_takes fresh later =
+    pub marked_takes : TakesAll (standing reader) told marks left behind
+    marked_takes =
         let some = held.some in
         let counted = list.counted in
         record {
@@ -93,7 +92,7 @@ module _ {R : Type 0} (reader : RunReader R) (after : ℕ) (marks : TokenMarks) 
           taken = subst (Consumes left behind) list.coded consumes;
           fit = list.fit;
           are = are_low;
-          marked = fresh_emptied reader fresh held.some told after marks later list.marked;
+          marked = list.marked;
         }
 
 -- documents are counted from a low number
@@ -102,7 +101,7 @@ first_low reader (finished, (entry, read)) = (let within = read.lawful.whole.wit
 
 -- ---- where a lawful dictionary lies ahead
 
-pub all_fit : (heading : Heading) (finished : List DictionaryEntry) (entry : DictionaryEntry) (postings : List Posting) (entries : List DictionaryEntry)
+all_fit : (heading : Heading) (finished : List DictionaryEntry) (entry : DictionaryEntry) (postings : List Posting) (entries : List DictionaryEntry)
     → AreWhole heading (closed finished (Some entry) postings ++ entries) → PostingsFit heading.rows (next_after 0 (documents_of entry.postings)) postings
 all_fit heading finished entry [] entries whole = tt
 all_fit heading finished entry (p ∷ ps) entries whole =
@@ -131,20 +130,20 @@ pub held_narrow : {R : Type 0} (input : Input R) → (passed input).left < 2 ^ 3
 unfolding passed
 held_narrow input = (let inside = input.within in let narrow = input.narrow in omega (arith, inside, narrow))
 
-pub held_front : {R : Type 0} (remaining : R → Option (List ℕ)) (input : Input R) (list tail : List ℕ) → known_left remaining input ≡ Some (list ++ tail) → length list ≤ (passed input).left
+held_front : {R : Type 0} (remaining : R → Option (List ℕ)) (input : Input R) (list tail : List ℕ) → known_left remaining input ≡ Some (list ++ tail) → length list ≤ (passed input).left
     → bytes_held input ≡ list ++ drop (length list) (bytes_held input)
 unfolding known_left bytes_held
 held_front remaining input list tail e within = held_parts (bytes_held input) list tail (remaining input.reader) e (omega (arith, within, held_size input))
 
-pub all_free : (heading : Heading) (finished : List DictionaryEntry) (entry : DictionaryEntry) (postings : List Posting) (entries : List DictionaryEntry) → AreWhole heading (closed finished (Some entry) postings ++ entries)
+all_free : (heading : Heading) (finished : List DictionaryEntry) (entry : DictionaryEntry) (postings : List Posting) (entries : List DictionaryEntry) → AreWhole heading (closed finished (Some entry) postings ++ entries)
     → AreDistinct (numbers_of_entries heading.rows (closed finished (Some entry) []) ++ numbers_of_postings heading.rows postings)
 all_free heading finished entry postings entries whole =
     let front = whole_front heading (closed finished (Some entry) postings) entries whole in
     subst AreDistinct (numbers_more heading.rows finished entry postings) (lawful_distinct (parts_with heading (closed finished (Some entry) postings)) front.lawful)
 
-pub list_stands : {R : Type 0} (remaining : R → Option (List ℕ)) (reader : RunReader R) (held : IsHeldWhole reader) → reader.looked ≡ None → (others : List Posting) (entries : List DictionaryEntry) → Faces remaining reader others entries
+pub list_stands : {R : Type 0} (remaining : R → Option (List ℕ)) (reader : RunReader R) (held : IsHeldWhole reader) (others : List Posting) (entries : List DictionaryEntry) → Faces remaining reader others entries
     → ListStands (heading_of reader.head).rows (bytes_held reader.input) reader.bytes reader.documents reader.marks
-list_stands remaining reader held fresh others entries ahead = by ahead.finished ahead.at_hand ahead.behind ahead.whole
+list_stands remaining reader held others entries ahead = by ahead.finished ahead.at_hand ahead.behind ahead.whole
   where
     here : reader.place ≡ AtTerm
     here = term_at_hand reader.place reader.documents reader.drained held.some
@@ -163,7 +162,7 @@ list_stands remaining reader held fresh others entries ahead = by ahead.finished
     by finished None behind whole = no_entry reader.place (string_bytes reader.term) here behind.of_term
     by finished (Some entry) behind whole = record {
       numbers = numbers_of_entries (heading_of reader.head).rows (closed finished (Some entry) []);
-      held = fresh_held reader fresh held.some _ behind.marked;
+      held = behind.marked;
       postings = others;
       behind = drop (length (list_bytes others)) (bytes_held reader.input);
       fit = subst (λ (n : ℕ). PostingsFit (heading_of reader.head).rows n others) (sym behind.next ∙ held.fresh) (all_fit (heading_of reader.head) finished entry others entries whole);

@@ -20,7 +20,7 @@ use Rattle.ix_run_text.specs.declared.run_text_error.RunTextError.{RunTextError}
 
 -- ---- the position that stands behind others
 
-pub ascends_middle : (low top : ℕ) (xs : List ℕ) (x : ℕ) (ys : List ℕ) → Ascends low top (xs ++ x ∷ ys) → (next_after low xs ≤ x) × (x < top)
+ascends_middle : (low top : ℕ) (xs : List ℕ) (x : ℕ) (ys : List ℕ) → Ascends low top (xs ++ x ∷ ys) → (next_after low xs ≤ x) × (x < top)
 ascends_middle low top [] x ys up = (up.0, up.1)
 ascends_middle low top (y ∷ xs) x ys up = ascends_middle (y + 1) top xs x ys up.2
 

@@ -3,13 +3,14 @@ use Rattle.std.proofs.Common.{◌≡◌, ◌≢◌, ℕ, List, [], ◌∷◌, �
 use Rattle.std.proofs.lemmas.List.{append_assoc, append-nil}
 use Rattle.std.specs.Io.KnownBytes.{Consumes, IsAtEnd}
 use Rattle.ix_text.specs.Parts.{DictionaryEntry, Posting, terms_of}
+use Rattle.ix_text.specs.TokenMarks.{HoldsNumbers}
 use Rattle.ix_text.specs.TokenNumbers.{AreDistinct, numbers_of_entries}
 use Rattle.ix_text.proofs.TokensApart.{numbers_of_entries-push}
 use Rattle.ix_vbyte.specs.Code.{code_of}
 use Rattle.ix_vbyte.specs.Postings.{list_bytes}
 use Rattle.ix_vbyte.specs.Texts.{counted}
 use Rattle.ix_run_text.specs.ReadTerms.{TermFits}
-use Rattle.ix_run_text.specs.Reading.{LieAhead, LieBehind, Looking, MayLieAhead, Standing, Told, bytes_ahead, last_text}
+use Rattle.ix_run_text.specs.Reading.{LieAhead, LieBehind, MayLieAhead, Standing, bytes_ahead, last_text}
 use Rattle.ix_run_text.specs.Sources.{AreWhole, closed, entry_with}
 use Rattle.ix_run_text.specs.declared.run_reader.Place.TheVariants.{AtTerm, Ended}
 use Rattle.ix_run_text.proofs.ReadFronts.{front_begun, front_closed, last_text-push, terms_push}
@@ -42,12 +43,12 @@ pub record TakesTerm (at : Standing) (term : List ℕ) (documents bytes : ℕ) (
   pub fits : TermFits at.heading.stop at.last term documents bytes
   pub taken : Consumes left after (counted term ++ (code_of documents ++ code_of bytes))
 
-module _ (at : Standing) (term : List ℕ) (documents bytes : ℕ) (looking : Looking) where
+module _ (at : Standing) (term : List ℕ) (documents bytes : ℕ) where
   -- where it stands then
   abbrev pub begun : Standing
-  begun = record { heading = at.heading; place = AtTerm; last = term; next = 0; documents = documents; bytes = bytes; looking = looking }
+  begun = record { heading = at.heading; place = AtTerm; last = term; next = 0; documents = documents; bytes = bytes; marks = at.marks }
 
-  module _ (left after : Option (List ℕ)) (takes : TakesTerm at term documents bytes left after) (told : (numbers : List ℕ) → Told at numbers → Told begun numbers) where
+  module _ (left after : Option (List ℕ)) (takes : TakesTerm at term documents bytes left after) where
     pub behind_begun : (finished : List DictionaryEntry) (at_hand : Option DictionaryEntry) → LieBehind at finished at_hand → LieBehind begun (closed finished at_hand []) (Some (entry_with term []))
     behind_begun finished at_hand behind =
         let before : List DictionaryEntry = closed finished at_hand [] in
@@ -61,7 +62,7 @@ module _ (at : Standing) (term : List ℕ) (documents bytes : ℕ) (looking : Lo
           last = sym (ap last_text (terms_push before (entry_with term [])) ∙ last_text-push (terms_of before) term);
           next = refl;
           posted = λ zero. absurd (let some = takes.fits.some in omega arith);
-          marked = subst (Told begun) none (told _ behind.marked);
+          marked = subst (HoldsNumbers at.marks) none behind.marked;
           distinct = subst AreDistinct none behind.distinct;
         }
 
@@ -97,19 +98,19 @@ pub record TakesEnd (at : Standing) (left after : Option (List ℕ)) : Type 0 wh
   pub taken : Consumes left after (128 ∷ [])
   pub end : IsAtEnd after
 
-module _ (at : Standing) (last : List ℕ) (stays : last ≡ at.last) (looking : Looking) where
+module _ (at : Standing) (last : List ℕ) (stays : last ≡ at.last) where
   -- where it stands then
   abbrev pub over : Standing
-  over = record { heading = at.heading; place = Ended; last = last; next = at.next; documents = at.documents; bytes = at.bytes; looking = looking }
+  over = record { heading = at.heading; place = Ended; last = last; next = at.next; documents = at.documents; bytes = at.bytes; marks = at.marks }
 
-  pub behind_over : ((numbers : List ℕ) → Told at numbers → Told over numbers) → at.documents ≡ 0 → (finished : List DictionaryEntry) (at_hand : Option DictionaryEntry) → LieBehind at finished at_hand → LieBehind over (closed finished at_hand []) None
-  behind_over told drained finished at_hand behind = record {
+  pub behind_over : at.documents ≡ 0 → (finished : List DictionaryEntry) (at_hand : Option DictionaryEntry) → LieBehind at finished at_hand → LieBehind over (closed finished at_hand []) None
+  behind_over drained finished at_hand behind = record {
     lawful = front_closed at.heading finished at_hand behind.lawful (behind.posted drained);
     of_term = refl;
     last = stays ∙ behind.last;
     next = tt;
     posted = λ _. tt;
-    marked = told _ behind.marked;
+    marked = behind.marked;
     distinct = behind.distinct;
   }
 
@@ -122,11 +123,11 @@ module _ (at : Standing) (last : List ℕ) (stays : last ≡ at.last) (looking :
         (front_closed at.heading finished at_hand behind.lawful (behind.posted takes.drained)).whole;
   }
 
-  pub over_ahead : ((numbers : List ℕ) → Told at numbers → Told over numbers) → (left after : Option (List ℕ)) → TakesEnd at left after → LieAhead at left [] [] → LieAhead over after [] []
-  over_ahead told left after takes ahead = record {
+  pub over_ahead : (left after : Option (List ℕ)) → TakesEnd at left after → LieAhead at left [] [] → LieAhead over after [] []
+  over_ahead left after takes ahead = record {
     finished = closed ahead.finished ahead.at_hand [];
     at_hand = None;
-    behind = behind_over told takes.drained ahead.finished ahead.at_hand ahead.behind;
+    behind = behind_over takes.drained ahead.finished ahead.at_hand ahead.behind;
     are = record { counted = sym takes.drained; sized = sym takes.empty; ended = λ _. refl };
     whole = ahead.whole;
     going = λ e. cc;

@@ -1,30 +1,21 @@
 -- What a reader of a run text has read of its terms, and what it has left of them.
-use Rattle.std.specs.Prelude.{◌≡◌, ◌≢◌, ℕ, ◌+◌, List, [], ◌∷◌, ◌++◌, length, drop, flat_map, string_bytes, slice_index_or, ◌-◌, ◌<◌, ◌≤◌, Option, Some, None, IfSome, option_map}
-use Rattle.ix_text.specs.Parts.{DictionaryEntry, DocumentRow, Parts, Posting, terms_of}
+use Rattle.std.specs.Prelude.{◌≡◌, ◌≢◌, ℕ, ◌+◌, List, [], ◌∷◌, ◌++◌, length, flat_map, string_bytes, slice_index_or, ◌-◌, ◌<◌, ◌≤◌, Option, Some, None, IfSome, option_map}
+use Rattle.ix_text.specs.Parts.{DictionaryEntry, Parts, Posting, terms_of}
+use Rattle.ix_text.specs.TokenMarks.{HoldsNumbers}
 use Rattle.ix_text.specs.TokenNumbers.{AreDistinct, numbers_of_entries}
 use Rattle.ix_text.specs.declared.token_marks.TokenMarks.{TokenMarks}
 use Rattle.ix_vbyte.specs.Gaps.{next_after}
 use Rattle.ix_vbyte.specs.Postings.{documents_of, list_bytes_from, posting_bytes}
-use Rattle.ix_run_text.specs.Ahead.{AreLooked, IsLooked}
 use Rattle.ix_run_text.specs.Heads.{Heading, heading_of}
-use Rattle.ix_run_text.specs.Inputs.{Passes, bytes_held, known_left, passed}
+use Rattle.ix_run_text.specs.Inputs.{Passes, known_left, passed}
 use Rattle.ix_run_text.specs.RunText.{term_bytes}
 use Rattle.ix_run_text.specs.Sources.{AreWhole, IsLawfulFront, closed, extended}
-use Rattle.ix_run_text.specs.declared.ahead.Looked.{Looked}
 use Rattle.ix_run_text.specs.declared.run_reader.Place.{Place}
 use Rattle.ix_run_text.specs.declared.run_reader.Place.TheVariants.{AtTerm, Ended, Failed}
 use Rattle.ix_run_text.specs.declared.run_reader.RunReader.{RunReader}
 
--- What a reader has looked at: the tokens that it marked; what it found of the list at hand, where it has looked at that; what it
--- found of the entries behind it; and the bytes that are buffered.
-pub record Looking : Type 0 where
-  pub marks : TokenMarks
-  pub at_hand : Option Looked
-  pub ahead : List Looked
-  pub held : List ℕ
-
 -- Where a reader stands: the term that it read last, or none; one above the last document given of it; how many of its
--- postings are left, and their bytes; and what it has looked at.
+-- postings are left, and their bytes; and the tokens that were told.
 pub record Standing : Type 0 where
   pub heading : Heading
   pub place : Place
@@ -32,10 +23,7 @@ pub record Standing : Type 0 where
   pub next : ℕ
   pub documents : ℕ
   pub bytes : ℕ
-  pub looking : Looking
-
-abbrev pub looking_of : {R : Type 0} → RunReader R → Looking
-looking_of reader = record { marks = reader.marks; at_hand = reader.looked; ahead = drop reader.reached reader.ahead.items; held = bytes_held reader.input }
+  pub marks : TokenMarks
 
 abbrev pub standing : {R : Type 0} → RunReader R → Standing
 standing reader = record {
@@ -45,17 +33,8 @@ standing reader = record {
   next = reader.next;
   documents = reader.documents;
   bytes = reader.bytes;
-  looking = looking_of reader;
+  marks = reader.marks;
 }
-
--- The numbers are those of exactly the tokens that were told: with those of what was looked at they are the marked ones. A list
--- that was not looked at is the last of what is buffered that anything is known of.
-abbrev pub ToldBy : List DocumentRow → Looking → ℕ → ℕ → ℕ → List ℕ → Option Looked → Type 0
-ToldBy rows looking next documents bytes numbers None = (0 < documents → looking.ahead ≡ []) × AreLooked rows looking.marks looking.ahead looking.held numbers
-ToldBy rows looking next documents bytes numbers (Some looked) = IsLooked rows looked next documents bytes looking.held numbers (AreLooked rows looking.marks looking.ahead)
-
-abbrev pub Told : Standing → List ℕ → Type 0
-Told at numbers = ToldBy at.heading.rows at.looking at.next at.documents at.bytes numbers at.looking.at_hand
 
 -- the term at hand, if one is; where a call was refused, the text that was read last
 abbrev pub term_at : Place → List ℕ → Option (List ℕ)
@@ -74,7 +53,7 @@ pub record LieBehind (at : Standing) (finished : List DictionaryEntry) (at_hand 
   pub last : at.last ≡ last_text (terms_of (closed finished at_hand []))
   pub next : IfSome at_hand (λ entry. at.next ≡ next_after 0 (documents_of entry.postings))
   pub posted : at.documents ≡ 0 → IfSome at_hand (λ entry. 0 < length entry.postings)
-  pub marked : Told at (numbers_of_entries at.heading.rows (closed finished at_hand []))
+  pub marked : HoldsNumbers at.marks (numbers_of_entries at.heading.rows (closed finished at_hand []))
   pub distinct : AreDistinct (numbers_of_entries at.heading.rows (closed finished at_hand []))
 
 -- what a reader may have given: finished entries, and the one at hand with the postings given of it
@@ -174,12 +153,6 @@ pub record IsHeldWhole {R : Type 0} (reader : RunReader R) : Type 0 where
 pub record StandsStill {R : Type 0} (old new : RunReader R) : Type 0 where
   pub stands : standing new ≡ standing old
   pub input : new.input ≡ old.input
-
--- A reader that may give and yield what another may, and faces what it faces.
-pub record StandsAlike {R : Type 0} (remaining : R → Option (List ℕ)) (old new : RunReader R) : Type 0 where
-  pub yielded : (postings : List Posting) (entries : List DictionaryEntry) → MayYield remaining new postings entries → MayYield remaining old postings entries
-  pub given : (finished : List DictionaryEntry) (at_hand : Option DictionaryEntry) → HasRead old finished at_hand → HasRead new finished at_hand
-  pub faced : (postings : List Posting) (entries : List DictionaryEntry) → Faces remaining old postings entries → Faces remaining new postings entries
 
 -- From the old state to the new one a reader took the bytes of this posting from its list, in which its document is
 -- counted from the one before.

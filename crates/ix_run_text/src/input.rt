@@ -1,5 +1,5 @@
 //! What is left of a reader, buffered.
-ghost use Rattle.std.specs.Prelude.{◌≡◌, ◌≢◌, ◌^◌, ◌<◌, ◌≤◌, ◌++◌, ◌+◌, List, [], ℕ, length, take, drop, vec_len, ◌∷◌, ◌↔◌, IfOk, IfErr, IfNone, IfSome, IsTrue, OnOk, MatchBool};
+ghost use Rattle.std.specs.Prelude.{◌≡◌, ◌≢◌, ◌^◌, ◌<◌, ◌≤◌, ◌++◌, ◌+◌, List, [], ℕ, length, take, vec_len, ◌∷◌, ◌↔◌, IfOk, IfErr, IfNone, IfSome, IsTrue, OnOk, MatchBool};
 ghost use Rattle.std.specs.Io.{ReadsAtMost};
 ghost use Rattle.std.specs.Io.KnownBytes.{Consumes, IsAtEnd, Keeps};
 ghost use Rattle.std.specs.Option.{option_to_list};
@@ -279,10 +279,7 @@ impl<R: Read> Input<R> {
     #[inline(always)]
     pub(crate) fn pass(&mut self, count: usize)
         requires { count ≤ (passed self.old).left }
-        ensures taken { Consumes (known_left R.remaining self.old) (known_left R.remaining self.new)
-            (take count (bytes_held self.old)) }
-        ensures held { bytes_held self.new ≡ drop count (bytes_held self.old) }
-        ensures passed { Passes (passed self.old) (passed self.new)
+        ensures { Consumes (known_left R.remaining self.old) (known_left R.remaining self.new)
             (take count (bytes_held self.old)) }
     {
         self.start += count;

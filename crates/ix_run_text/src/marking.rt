@@ -35,7 +35,6 @@ pub(crate) fn mark_list(
     ensures room { room marks.new ≡ room marks.old }
     ensures accepted { (rows : List DocumentRow) → HasTokens tokens.now rows
         → ListStands rows bytes.now size documents marks.old → IfErr result IsRefusal }
-    ensures sparing { IfErr result (λ error. error ≢ Memory) }
 {
     let mut rest = bytes;
     let mut left = size;
@@ -78,7 +77,6 @@ pub(crate) fn mark_posting(
         → length (posting_bytes (posting.0 + 1 - next) posting) ≤ limit
         → bytes.now ≡ posting_bytes (posting.0 + 1 - next) posting ++ rest
         → IfErr result IsRefusal }
-    ensures sparing { IfErr result (λ error. error ≢ Memory) }
 {
     match short_posting(bytes) {
         Some(posting) if posting.size <= limit => {
@@ -108,7 +106,6 @@ fn mark_any_posting(
         → PostingFits rows next posting → IsFree rows numbers posting
         → bytes.now ≡ posting_bytes (posting.0 + 1 - next) posting ++ rest
         → IfErr result IsRefusal }
-    ensures sparing { IfErr result (λ error. error ≢ Memory) }
 {
     let (gap, gap_bytes) = some_number(bytes)?;
     let Some((document, span)) = document_behind(tokens, next, gap) else {
@@ -196,7 +193,6 @@ pub(crate) fn mark_positions(
     ensures accepted { (numbers all rest : List ℕ)
         → StandNext span.0 span.1 count (length bytes.now) marks.old (Some bytes.now) numbers all
         rest → MatchResult result (λ size. drop size bytes.now ≡ rest) IsRefusal }
-    ensures sparing { IfErr result (λ error. error ≢ Memory) }
 {
     let mut rest = bytes;
     let mut next = 0;
@@ -232,7 +228,6 @@ fn mark_position(
         → bytes.now ≡ code_of (position + 1 - next) ++ rest
         → MatchResult result (λ found. (found.0 ≡ position)
         × (drop found.1 bytes.now ≡ rest)) IsRefusal }
-    ensures sparing { IfErr result (λ error. error ≢ Memory) }
 {
     let (gap, size) = some_number(bytes)?;
     let (first, count) = span;
@@ -249,13 +244,12 @@ fn mark_position(
 /// The number above 0 whose code the bytes begin with, and how many bytes the code takes: `Zero` where it is 0, `ListLength`
 /// where the bytes do not end the code, `Number` where it is faulty.
 #[inline(always)]
-pub(crate) fn some_number(bytes: &[u8]) -> Result<(u32, usize), RunTextError>
+fn some_number(bytes: &[u8]) -> Result<(u32, usize), RunTextError>
     ensures found { IfOk result (λ found. BeginsWithShort bytes.now found.0 found.1) }
     ensures accepted { (number : ℕ) (rest : List ℕ) → 0 < number → number < 2 ^ 32
         → bytes.now ≡ code_of number ++ rest
         → MatchResult result (λ found. (found.0 ≡ number)
         × (drop found.1 bytes.now ≡ rest)) IsRefusal }
-    ensures sparing { IfErr result (λ error. error ≢ Memory) }
 {
     match short_number(bytes) {
         Some(found) => Ok(found),
@@ -272,7 +266,6 @@ fn long_number(bytes: &[u8]) -> Result<(u32, usize), RunTextError>
         → bytes.now ≡ code_of number ++ rest
         → MatchResult result (λ found. (found.0 ≡ number)
         × (drop found.1 bytes.now ≡ rest)) IsRefusal }
-    ensures sparing { IfErr result (λ error. error ≢ Memory) }
 {
     match decode(bytes) {
         Ok((0, _)) => Err(RunTextError::Zero),

@@ -1,16 +1,15 @@
 //! The exact reader of a run text: it takes the bytes of a run as they come, and accepts no others.
-ghost use Rattle.std.specs.Prelude.{◌≡◌, ◌≢◌, ◌+◌, ◌<◌, ◌≤◌, ◌^◌, ℕ, IsSome, length, map, sum_by};
+ghost use Rattle.std.specs.Prelude.{◌≡◌, ◌≢◌, ◌+◌, ◌<◌, ◌≤◌, ◌^◌, ℕ, length, map, sum_by};
 ghost use Rattle.ix_text.specs.TokenMarks.{room};
 ghost use Rattle.ix_text.specs.TokenTables.{HasTokens};
 ghost use Rattle.ix_run_text.specs.Heads.{row_of_doc};
 ghost use Rattle.ix_run_text.specs.ReadTables.{HasTokens-prop};
 ghost use Rattle.ix_run_text.specs.declared.run_reader.Place.TheVariants.{AtTerm};
 
-use crate::ahead::{Looked, look_ahead, tell_posting};
 use crate::heading::read_head;
 use crate::input::Input;
 use crate::list::read_posting;
-use crate::term::{read_term, take_head};
+use crate::term::read_term;
 use crate::token_counts::{table_of, token_total};
 use crate::{RunHead, RunTextError};
 use ix_text::{TokenMarks, TokenTable};
@@ -34,9 +33,6 @@ enum Place {
 ///
 /// The errors come in the order of the bytes, as `next_term` and `next_posting` list them. After an error each later
 /// call is refused as `Failed`; an error of `next_posting` leaves the term at hand.
-///
-/// Where a list is taken whole, the entries that are buffered whole behind it are looked at too, and their tokens marked, in
-/// one go. They are given in their turn. Of a list that was found to have a fault no posting is given, but its error at once.
 #[derive(Drop)]
 pub struct RunReader<R> {
     alloc: Global,
@@ -58,11 +54,6 @@ pub struct RunReader<R> {
     documents: u32,
     // how many bytes they have
     bytes: usize,
-    // what a look ahead found of the list at hand, where it was looked at
-    looked: Option<Looked>,
-    // what it found of entries, of which those from `reached` on were not taken yet: they are buffered next
-    ahead: Vec<Looked>,
-    reached: usize,
     // last, since its stop terms take 4 KiB: so its first number lies beside what each list wants
     head: RunHead,
     ghost table: { HasTokens tokens (map row_of_doc head.docs.items) } by { HasTokens-prop tokens (map row_of_doc head.docs.items) },
@@ -73,7 +64,6 @@ pub struct RunReader<R> {
     ghost near: { next ≤ 2 ^ 28 },
     ghost listed: { documents ≡ 0 → bytes ≡ 0 },
     ghost drained: { place ≢ AtTerm → documents ≡ 0 },
-    ghost some: { IsSome looked → 0 < documents },
 }
 
 impl<R: Read + Drop> RunReader<R> {
@@ -85,7 +75,7 @@ impl<R: Read + Drop> RunReader<R> {
     ghost use Rattle.ix_run_text.specs.RunReaders.{bytes_left, heading_read};
     ghost use Rattle.ix_run_text.specs.RunText.{IsRunText, heading_bytes, run_layout};
     ghost use Rattle.ix_run_text.specs.RunTextErrors.{IsRefusal};
-    ghost use Rattle.ix_run_text.specs.Reading.{BeginsFirst, Faces, GivesFirst, HasFailed, HasRead, IsDrained, MayYield, Skips, StandsAlike, TookPosting, heading_from, postings_left, term_of};
+    ghost use Rattle.ix_run_text.specs.Reading.{BeginsFirst, Faces, GivesFirst, HasFailed, HasRead, IsDrained, MayYield, Skips, TookPosting, heading_from, postings_left, term_of};
     ghost use Rattle.ix_run_text.specs.declared.run_reader.Place.TheVariants.{AtTerm, Ended, Failed};
     ghost use Rattle.ix_run_text.specs.declared.run_text_error.RunTextError.TheVariants.{Failed as Refused, Memory};
     ghost use Rattle.ix_run_text.specs.Sources.{AreWhole, BeginsTerm, EndsPostings, EndsTerms, GivesPosting, IsUnread, KeepsFaults};
@@ -141,9 +131,6 @@ impl<R: Read + Drop> RunReader<R> {
             next: 0,
             documents: 0,
             bytes: 0,
-            looked: None,
-            ahead: Vec::new(alloc),
-            reached: 0,
             head,
         })
     }
@@ -183,34 +170,6 @@ impl<R: Read + Drop> RunReader<R> {
         ensures full { IfErr result (λ error. error ≡ Memory
             → vec_capacity positions.old ≤ vec_len positions.new) }
     {
-        match self.looked {
-            None => self.fresh_posting(positions),
-            Some(looked) => self.looked_posting(looked, positions),
-        }
-    }
-
-    /// The same of a list that was not looked at.
-    #[inline(always)]
-    fn fresh_posting(&mut self, positions: &mut Vec<u32>) -> Result<u32, RunTextError>
-        requires some { 0 < self.old.documents }
-        requires fresh { self.old.looked ≡ None }
-        ensures heading { heading_of self.new.head ≡ heading_of self.old.head }
-        ensures place { self.new.place ≡ self.old.place }
-        ensures term { self.new.term ≡ self.old.term }
-        ensures counted { OnOk result (self.new.documents + 1 ≡ self.old.documents) }
-        ensures given { IfOk result (λ document.
-            GivesPosting (MayYield R.remaining) HasRead self.old self.new
-            (document, positions.new.items)) }
-        ensures taken { IfOk result (λ document.
-            TookPosting self.old self.new (document, positions.new.items)) }
-        ensures accepted { (postings : List Posting) (entries : List DictionaryEntry)
-            → Faces R.remaining self.old postings entries
-            → MatchResult result (λ document. (rest : List Posting)
-            × (postings ≡ (document, positions.new.items) ∷ rest)
-            × Faces R.remaining self.new rest entries) IsRefusal }
-        ensures full { IfErr result (λ error. error ≡ Memory
-            → vec_capacity positions.old ≤ vec_len positions.new) }
-    {
         let (document, taken) = read_posting(
             &mut self.input,
             self.bytes,
@@ -227,61 +186,6 @@ impl<R: Read + Drop> RunReader<R> {
         self.next = document + 1;
         self.documents = documents;
         self.bytes = bytes;
-        Ok(document)
-    }
-
-    /// The same of a list that was looked at, whose tokens are marked already. Of a list with a fault none is given.
-    #[cold]
-    #[inline(never)]
-    fn looked_posting(
-        &mut self,
-        looked: Looked,
-        positions: &mut Vec<u32>,
-    ) -> Result<u32, RunTextError>
-        requires some { 0 < self.old.documents }
-        requires looked { self.old.looked ≡ Some looked }
-        ensures heading { heading_of self.new.head ≡ heading_of self.old.head }
-        ensures place { self.new.place ≡ self.old.place }
-        ensures term { self.new.term ≡ self.old.term }
-        ensures counted { OnOk result (self.new.documents + 1 ≡ self.old.documents) }
-        ensures given { IfOk result (λ document.
-            GivesPosting (MayYield R.remaining) HasRead self.old self.new
-            (document, positions.new.items)) }
-        ensures taken { IfOk result (λ document.
-            TookPosting self.old self.new (document, positions.new.items)) }
-        ensures accepted { (postings : List Posting) (entries : List DictionaryEntry)
-            → Faces R.remaining self.old postings entries
-            → MatchResult result (λ document. (rest : List Posting)
-            × (postings ≡ (document, positions.new.items) ∷ rest)
-            × Faces R.remaining self.new rest entries) IsRefusal }
-        ensures full { IfErr result (λ error. error ≡ Memory
-            → vec_capacity positions.old ≤ vec_len positions.new) }
-    {
-        if let Looked::Faulty(fault) = looked {
-            return Err(fault.error);
-        }
-        let held = self.input.held();
-        if self.bytes > held.len() {
-            return Err(RunTextError::ListLength);
-        }
-        let (document, taken) = tell_posting(
-            &held[..self.bytes],
-            self.next,
-            &self.tokens,
-            positions,
-        )?;
-        let documents = self.documents - 1;
-        let bytes = self.bytes - taken;
-        if documents == 0 && bytes > 0 {
-            return Err(RunTextError::ListLength);
-        }
-        self.input.pass(taken);
-        self.next = document + 1;
-        self.documents = documents;
-        self.bytes = bytes;
-        if documents == 0 {
-            self.looked = None;
-        }
         Ok(document)
     }
 
@@ -320,17 +224,6 @@ impl<R: Read + Drop> RunReader<R> {
             MatchBool more (BeginsFirst R.remaining self.new entries) (entries ≡ [])) IsRefusal }
     {
         self.skip()?;
-        if let Some(looked) = self.ahead.get(self.reached) {
-            let looked = *looked;
-            let counts = take_head(&mut self.input, &self.head.stop, &mut self.term)?;
-            self.place = Place::AtTerm;
-            self.next = 0;
-            self.documents = counts.documents;
-            self.bytes = counts.bytes as usize;
-            self.looked = Some(looked);
-            self.reached += 1;
-            return Ok(true);
-        }
         let found = read_term(
             &mut self.input,
             &self.head.stop,
@@ -402,28 +295,6 @@ impl<R: Read + Drop> RunReader<R> {
         }
     }
 
-    /// Looks at the entries that are buffered whole behind the list at hand, of which nothing is left, where none of them was
-    /// looked at.
-    fn look_on(&mut self)
-        requires { (self.old.documents ≡ 0) × (self.old.looked ≡ None) }
-        ensures place { self.new.place ≡ self.old.place }
-        ensures term { self.new.term ≡ self.old.term }
-        ensures heading { heading_of self.new.head ≡ heading_of self.old.head }
-        ensures documents { self.new.documents ≡ self.old.documents }
-        ensures stands { StandsAlike R.remaining self.old self.new }
-    {
-        if self.reached < self.ahead.len() {
-            return;
-        }
-        self.reached = 0;
-        look_ahead(
-            self.input.held(),
-            &self.tokens,
-            &mut self.marks,
-            &mut self.ahead,
-        );
-    }
-
     /// From now on each call is refused.
     fn fail(&mut self)
         ensures place { self.new.place ≡ Failed }
@@ -433,7 +304,6 @@ impl<R: Read + Drop> RunReader<R> {
         self.place = Place::Failed;
         self.documents = 0;
         self.bytes = 0;
-        self.looked = None;
     }
 }
 

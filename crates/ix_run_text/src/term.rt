@@ -1,19 +1,17 @@
 //! Reading what stands before a term's list of postings in a run text.
-ghost use Rattle.std.specs.Prelude.{◌≡◌, ◌<◌, ◌≤◌, ◌^◌, ◌++◌, List, [], ◌∷◌, ℕ, length, string_bytes, Some, None, IfOk, IfErr, OnOk, IfNone, IfSome, MatchOption, MatchResult};
+ghost use Rattle.std.specs.Prelude.{◌≡◌, ◌<◌, ◌^◌, ◌++◌, List, [], ◌∷◌, ℕ, length, string_bytes, Some, None, IfOk, OnOk, IfNone, IfSome, MatchOption, MatchResult};
 ghost use Rattle.std.specs.Io.KnownBytes.{Consumes, IsAtEnd};
 ghost use Rattle.ix_vbyte.specs.Code.{code_of};
 ghost use Rattle.ix_vbyte.specs.Texts.{counted};
-ghost use Rattle.ix_run_text.specs.Inputs.{bytes_held, known_left};
+ghost use Rattle.ix_run_text.specs.Inputs.{known_left};
 ghost use Rattle.ix_run_text.specs.ReadTerms.{TermFits, TextFits};
 ghost use Rattle.ix_run_text.specs.RunTextErrors.{IsRefusal};
 
 use crate::RunTextError;
-use crate::ahead::entry_head;
 use crate::heading::CODE_LIMIT;
 use crate::input::Input;
 use crate::list::read_positive;
 use ix_text::{MAX_TERM_BYTES, StopList};
-use ix_vbyte::VbError;
 use std::io::Read;
 use std::str::from_utf8;
 
@@ -66,43 +64,6 @@ pub(crate) fn read_term<R: Read>(
     Ok(Some(counts))
 }
 
-/// Takes the next term into `term`, in place of the one before, and the two numbers behind it, where they are buffered whole; as
-/// `read_term` does it, but for `Number` where they are not.
-pub(crate) fn take_head<R: Read>(
-    input: &mut Input<R>,
-    stop: &StopList,
-    term: &mut String,
-) -> Result<TermCounts, RunTextError>
-    ensures taken { IfOk result (λ counts. Consumes (known_left R.remaining input.old)
-        (known_left R.remaining input.new)
-        (counted (string_bytes term.new) ++ (code_of counts.documents ++ code_of counts.bytes))) }
-    ensures held { IfOk result (λ counts. bytes_held input.old
-        ≡ counted (string_bytes term.new)
-        ++ (code_of counts.documents ++ (code_of counts.bytes ++ bytes_held input.new))) }
-    ensures fits { IfOk result (λ counts. TermFits stop.now (string_bytes term.old)
-        (string_bytes term.new) counts.documents counts.bytes) }
-    ensures accepted { (text : List ℕ) (documents bytes : ℕ) (rest : List ℕ)
-        → TermFits stop.now (string_bytes term.old) text documents bytes
-        → bytes_held input.old ≡ counted text ++ (code_of documents ++ (code_of bytes ++ rest))
-        → MatchResult result (λ counts. (string_bytes term.new ≡ text)
-        × (counts.documents ≡ documents) × (counts.bytes ≡ bytes)) IsRefusal }
-{
-    let held = input.held();
-    let Some(head) = entry_head(held) else {
-        return Err(RunTextError::Number(VbError::Cut));
-    };
-    let text = &held[head.start..head.end];
-    if text.len() > MAX_TERM_BYTES as usize {
-        return Err(RunTextError::TermSize);
-    }
-    set_term(text, stop, term)?;
-    input.pass(head.list);
-    Ok(TermCounts {
-        documents: head.documents,
-        bytes: head.bytes,
-    })
-}
-
 /// Sees that no byte is left: `Extra` where one is.
 fn check_end<R: Read>(input: &mut Input<R>) -> Result<(), RunTextError>
     ensures taken { OnOk result (Consumes (known_left R.remaining input.old)
@@ -140,21 +101,7 @@ fn read_text<R: Read>(
         return Err(RunTextError::TermSize);
     }
     input.take(size as usize, scratch)?;
-    set_term(scratch, stop, term)
-}
-
-/// Puts the term of these bytes into `term`, in place of the one before: `Text` where they are not UTF-8, `TermOrder` where it
-/// does not stand above the one before, `StopIndexed` where it is a stop term. After an error any text may stand in `term`.
-#[inline]
-pub(crate) fn set_term(bytes: &[u8], stop: &StopList, term: &mut String) -> Result<(), RunTextError>
-    requires some { 0 < length bytes.now }
-    requires short { length bytes.now ≤ 255 }
-    ensures set { OnOk result (string_bytes term.new ≡ bytes.now) }
-    ensures fits { OnOk result (TextFits stop.now (string_bytes term.old) (string_bytes term.new)) }
-    ensures accepted { TextFits stop.now (string_bytes term.old) bytes.now
-        → IfErr result IsRefusal }
-{
-    let Ok(text) = from_utf8(bytes) else {
+    let Ok(text) = from_utf8(scratch) else {
         return Err(RunTextError::Text);
     };
     if text <= term.as_str() {

@@ -5,7 +5,6 @@ use Rattle.ix_run_text.specs.Heads.{Heading, heading_of}
 use Rattle.ix_run_text.specs.Inputs.{known_left}
 use Rattle.ix_run_text.specs.Reading.{bytes_ahead, heading_from}
 use Rattle.ix_run_text.specs.Sources.{AreWhole}
-use Rattle.ix_run_text.proofs.LooksOn.{looking_opened, told_opened}
 use Rattle.ix_run_text.proofs.ReadOpen.{opened_faces, opened_yields, text_heading, text_parts, text_whole, unread}
 use Rattle.ix_run_text.specs.RunReaders.{bytes_left}
 use Rattle.ix_run_text.proofs.run_reader.RunReader.open.Goals as goal
@@ -23,27 +22,13 @@ returns-clause-accepted g c heading rest lawful e = c.in_ok-head.ensures.accepte
 
 pub returns-clause-unread : goal.returns-clause-unread
 returns-clause-unread g c =
-    let heading = heading_of c.in_ok-head.head in
-    let marks = c.in_ok-marks.marks in
-    let ahead = c.new-6.result.items in
-    let input = c.read_head.new.input in
-    let last = string_bytes c.new-3.result in
-    let none = c.new-3.ensures.bytes in
-    let told = told_opened heading marks ahead input last none c.new-6.ensures.items c.in_ok-marks.ensures.none in
-    unread heading (looking_opened marks ahead input) last none c.in_ok-head.ensures.lawful told
+    unread (heading_of c.in_ok-head.head) c.in_ok-marks.marks (string_bytes c.new-3.result) c.new-3.ensures.bytes c.in_ok-head.ensures.lawful c.in_ok-marks.ensures.none
 
 pub returns-clause-yields : goal.returns-clause-yields
 returns-clause-yields g c bytes entries known may =
-    let heading = heading_of c.in_ok-head.head in
-    let marks = c.in_ok-marks.marks in
-    let ahead = c.new-6.result.items in
-    let input = c.read_head.new.input in
-    let last = string_bytes c.new-3.result in
-    let none = c.new-3.ensures.bytes in
-    let told = told_opened heading marks ahead input last none c.new-6.ensures.items c.in_ok-marks.ensures.none in
-    opened_yields heading (looking_opened marks ahead input) last none
-    (known_left g.R.Read.remaining c.in_ok-input.input) (known_left g.R.Read.remaining input) bytes entries
-    c.in_ok-head.ensures.lawful told c.in_ok-head.ensures.taken (c.in_ok-input.ensures ∙ known) may
+    opened_yields (heading_of c.in_ok-head.head) c.in_ok-marks.marks (string_bytes c.new-3.result) c.new-3.ensures.bytes
+    (known_left g.R.Read.remaining c.in_ok-input.input) (known_left g.R.Read.remaining c.read_head.new.input) bytes entries
+    c.in_ok-head.ensures.lawful c.in_ok-marks.ensures.none c.in_ok-head.ensures.taken (c.in_ok-input.ensures ∙ known) may
 
 pub returns-in_err-head-clause-faced : goal.returns-in_err-head-clause-faced
 returns-in_err-head-clause-faced g c first collection bytes is known =
@@ -53,18 +38,11 @@ returns-in_err-head-clause-faced g c first collection bytes is known =
 
 pub returns-clause-faced : goal.returns-clause-faced
 returns-clause-faced g c first collection bytes is known =
-    let heading = heading_of c.in_ok-head.head in
-    let marks = c.in_ok-marks.marks in
-    let ahead = c.new-6.result.items in
-    let input = c.read_head.new.input in
-    let last = string_bytes c.new-3.result in
-    let none = c.new-3.ensures.bytes in
-    let told = told_opened heading marks ahead input last none c.new-6.ensures.items c.in_ok-marks.ensures.none in
     let found = c.in_ok-head.ensures.accepted (heading_from first is.parts) (bytes_ahead [] is.parts.entries) (text_heading first collection bytes is)
     (c.in_ok-input.ensures ∙ known ∙ ap (λ (bs : List ℕ). Some bs) (text_parts first collection bytes is)) in (
       found.0,
-      opened_faces heading (looking_opened marks ahead input) last none (known_left g.R.Read.remaining input) is.parts.entries
-          c.in_ok-head.ensures.lawful told
+      opened_faces (heading_of c.in_ok-head.head) c.in_ok-marks.marks (string_bytes c.new-3.result) c.new-3.ensures.bytes (known_left g.R.Read.remaining c.read_head.new.input) is.parts.entries
+          c.in_ok-head.ensures.lawful c.in_ok-marks.ensures.none
           (subst (λ (h : Heading). AreWhole h is.parts.entries) (sym found.0) (text_whole first collection bytes is)) found.1,
     )
 

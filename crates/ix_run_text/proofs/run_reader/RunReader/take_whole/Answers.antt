@@ -1,15 +1,14 @@
 -- The list that was gone over is the one that is copied, and with it what lay behind it is what lies ahead.
-use Rattle.std.proofs.Common.{ℕ, ◌≡◌, false, true, length, take, subst, ◌+◌, ◌++◌, List, [], inr, sym, ap, ◌∙◌, arith, length-append}
+use Rattle.std.proofs.Common.{ℕ, ◌≡◌, length, take, subst, ◌+◌, ◌++◌, List, [], inr, sym, ap, ◌∙◌, arith, length-append}
 use Rattle.ix_vbyte.specs.Postings.{list_bytes_from, shifted}
 use Rattle.ix_text.specs.Parts.{Posting}
 use Rattle.ix_run_text.specs.Heads.{heading_of}
-use Rattle.ix_run_text.specs.Inputs.{bytes_held, known_left}
+use Rattle.ix_run_text.specs.Inputs.{known_left}
 use Rattle.ix_run_text.specs.MarkedLists.{ListStands, MayShift}
 use Rattle.ix_run_text.specs.declared.run_reader.Place.TheVariants.{AtTerm}
 use Rattle.ix_run_text.proofs.ReadSteps.{term_at_hand}
 use Rattle.ix_run_text.specs.Reading.{standing}
 use Rattle.ix_run_text.proofs.Faulting.{going_begun, keeps_faults, may_fault, well_begun}
-use Rattle.ix_run_text.proofs.FreshLists.{looking_with}
 use Rattle.ix_run_text.proofs.HeldLists.{ahead_all, behind_all, faces_all}
 use Rattle.ix_run_text.proofs.MarkedReaders.{first_low, held_narrow, held_size, list_stands, marked_here, marked_list, marked_may, marked_near, marked_takes}
 use Rattle.ix_run_text.proofs.WholeLists.{shift_after}
@@ -30,7 +29,7 @@ returns-in-Err-clause-fault g c =
     may_fault g.R.Read.remaining self (going_begun g.R.Read.remaining self (inr here)) (well_begun g.R.Read.remaining self (inr here)) c.in-Err.error
     (λ postings entries faces.
     c.in-Err.ensures.accepted rows self.table
-    (subst (λ (bytes : List ℕ). ListStands rows bytes self.bytes self.documents self.marks) (sym c.held.ensures) (list_stands g.R.Read.remaining self whole c.requires.fresh postings entries faces)))
+    (subst (λ (bytes : List ℕ). ListStands rows bytes self.bytes self.documents self.marks) (sym c.held.ensures) (list_stands g.R.Read.remaining self whole postings entries faces)))
 
 pub push_list-requires-clause-within : goal.push_list-requires-clause-within
 push_list-requires-clause-within g c =
@@ -67,7 +66,6 @@ invariant_of-self-2 g c =
       near = marked_near self after marks whole list;
       listed = λ none. omega arith;
       drained = λ not. omega arith;
-      some = λ has. (let wrong : false ≡ true = rw c.requires.fresh at has in absurd (cc));
     }
 
 pub returns-clause-given : goal.returns-clause-given
@@ -81,20 +79,14 @@ returns-clause-given g c =
     let told : List Posting = list.postings in
     let left = known_left g.R.Read.remaining self.input in
     let behind = known_left g.R.Read.remaining c.pass.new.self in
-    let later = bytes_held c.pass.new.self in
-    let looking = looking_with self marks later in
-    let takes = marked_takes self after marks whole list left behind c.pass.ensures.taken c.requires.fresh later in
+    let takes = marked_takes self after marks whole list left behind c.pass.ensures in
     let some = takes.some in
-    let stands = c.look_on.ensures.stands in
     let may = subst (λ (bytes : List ℕ). MayShift self.head.first c.args.next (take self.bytes bytes) told) (sym c.held-2.ensures)
     (marked_may self after marks whole list c.args.next (omega (arith, c.requires.low)) (first_low self c.requires.begun)) in
     record {
       postings = told;
-      yielded = λ rest entries may. ahead_all (standing self) told after looking left behind takes list.next_is rest entries (stands.yielded rest entries may);
-      given = λ finished entry has. (
-        stands.given finished _ (behind_all (standing self) told after looking left behind takes list.next_is finished entry has),
-        omega (arith, some, length-append entry.postings told),
-      );
+      yielded = ahead_all (standing self) told after marks left behind takes list.next_is;
+      given = λ finished entry has. (behind_all (standing self) told after marks left behind takes list.next_is finished entry has, omega (arith, some, length-append entry.postings told));
       count = sym list.counted;
       last = ap (λ (n : ℕ). first + n) list.next_is ∙ sym (shift_after first c.args.next 0 told takes.some);
       coded = c.in-Ok-push_list.ensures.ok told may ∙ ap (λ (xs : List ℕ). xs ++ list_bytes_from c.args.next (shifted first told)) c.try_reserve.ensures.items;
@@ -110,11 +102,9 @@ returns-clause-no_more_faults g c =
     let here = marked_here self after marks whole list in
     let left = known_left g.R.Read.remaining self.input in
     let behind = known_left g.R.Read.remaining c.pass.new.self in
-    let later = bytes_held c.pass.new.self in
-    let looking = looking_with self marks later in
-    let takes = marked_takes self after marks whole list left behind c.pass.ensures.taken c.requires.fresh later in
+    let takes = marked_takes self after marks whole list left behind c.pass.ensures in
     keeps_faults g.R.Read.remaining self (going_begun g.R.Read.remaining self (inr here)) (well_begun g.R.Read.remaining self (inr here)) _
-    (λ postings entries faces. ([], (entries, c.look_on.ensures.stands.faced [] entries (faces_all (standing self) list.postings after looking left behind takes list.next_is postings entries faces))))
+    (λ postings entries faces. ([], (entries, faces_all (standing self) list.postings after marks left behind takes list.next_is postings entries faces)))
 
 pub overflow_add-size : goal.overflow_add-size
 overflow_add-size g c = (let within = c.requires.whole.held in omega (arith, within, held_narrow c.args.self.now.input))
