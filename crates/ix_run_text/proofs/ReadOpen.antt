@@ -8,11 +8,9 @@ use Rattle.std.specs.List.Sorted.{IsStrictlySortedBy}
 use Rattle.ix_text.specs.Collections.{Collection}
 use Rattle.ix_text.specs.Parts.{DictionaryEntry, Parts, row_of}
 use Rattle.ix_text.specs.PartsLaws.{IsLawfulTerm}
-use Rattle.ix_text.specs.TokenMarks.{HoldsNumbers}
-use Rattle.ix_text.specs.declared.token_marks.TokenMarks.{TokenMarks}
 use Rattle.ix_text.proofs.PartsLawful.{lawful_parts}
 use Rattle.ix_run_text.specs.Heads.{Heading, IsLawfulHeading, parts_with}
-use Rattle.ix_run_text.specs.Reading.{LieAhead, LieBehind, MayLieAhead, Standing, bytes_ahead, heading_from}
+use Rattle.ix_run_text.specs.Reading.{LieAhead, LieBehind, Checked, MayLieAhead, Standing, Told, bytes_ahead, heading_from}
 use Rattle.ix_run_text.specs.RunText.{IsRunText, head_bytes, heading_bytes, run_layout, term_bytes}
 use Rattle.ix_run_text.specs.Sources.{AreWhole}
 use Rattle.ix_run_text.specs.declared.run_reader.Place.TheVariants.{Begun}
@@ -40,12 +38,12 @@ pub layout_parts : (first : ℕ) (parts : Parts) → run_layout first parts ≡ 
 unfolding run_layout head_bytes
 layout_parts first parts = append_assoc (heading_bytes (heading_from first parts)) (flat_map term_bytes parts.entries) (128 ∷ [])
 
-module _ (heading : Heading) (marks : TokenMarks) (last : List ℕ) (none : last ≡ []) where
+module _ (heading : Heading) (checked : Checked) (last : List ℕ) (none : last ≡ []) where
   -- where it stands
   abbrev pub opened : Standing
-  opened = record { heading = heading; place = Begun; last = last; next = 0; documents = 0; bytes = 0; marks = marks }
+  opened = record { heading = heading; place = Begun; last = last; next = 0; documents = 0; bytes = 0; checked = checked }
 
-  pub unread : IsLawfulHeading heading → HoldsNumbers marks [] → LieBehind opened [] None
+  pub unread : IsLawfulHeading heading → Told opened [] → LieBehind opened [] None
   unread lawful held = record {
     lawful = record { whole = whole_none heading lawful; begun = tt };
     of_term = refl;
@@ -57,7 +55,7 @@ module _ (heading : Heading) (marks : TokenMarks) (last : List ℕ) (none : last
   }
 
   -- what it yields is what the bytes spell
-  pub opened_yields : (source left : Option (List ℕ)) (bytes : List ℕ) (entries : List DictionaryEntry) → IsLawfulHeading heading → HoldsNumbers marks [] → Consumes source left (heading_bytes heading) → source ≡ Some bytes
+  pub opened_yields : (source left : Option (List ℕ)) (bytes : List ℕ) (entries : List DictionaryEntry) → IsLawfulHeading heading → Told opened [] → Consumes source left (heading_bytes heading) → source ≡ Some bytes
       → MayLieAhead opened left [] entries → (bytes ≡ run_layout heading.first (parts_with heading entries)) × AreWhole heading entries
   opened_yields source left bytes entries lawful held consumes known ahead =
       (by left (subst (λ (s : Option (List ℕ)). Consumes s left (heading_bytes heading)) known consumes) (ahead.spelled (λ e. cc)), ahead.whole [] None (unread lawful held))
@@ -67,7 +65,7 @@ module _ (heading : Heading) (marks : TokenMarks) (last : List ℕ) (none : last
       by (Some rest) taken spelled = taken ∙ ap (λ (r : List ℕ). heading_bytes heading ++ r) spelled ∙ sym (layout_parts heading.first (parts_with heading entries))
 
   -- and what they spell lies ahead
-  pub opened_faces : (left : Option (List ℕ)) (entries : List DictionaryEntry) → IsLawfulHeading heading → HoldsNumbers marks [] → AreWhole heading entries → left ≡ Some (bytes_ahead [] entries) → LieAhead opened left [] entries
+  pub opened_faces : (left : Option (List ℕ)) (entries : List DictionaryEntry) → IsLawfulHeading heading → Told opened [] → AreWhole heading entries → left ≡ Some (bytes_ahead [] entries) → LieAhead opened left [] entries
   opened_faces left entries lawful held whole known = record {
     finished = [];
     at_hand = None;

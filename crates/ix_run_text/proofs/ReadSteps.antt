@@ -6,14 +6,12 @@ use Rattle.std.proofs.lemmas.Option.{slice_get_within}
 use Rattle.std.specs.Io.KnownBytes.{Consumes}
 use Rattle.std.specs.List.{flat_map}
 use Rattle.ix_text.specs.Parts.{DictionaryEntry, DocumentRow, Posting, terms_of}
-use Rattle.ix_text.specs.TokenMarks.{HoldsNumbers}
 use Rattle.ix_text.specs.TokenNumbers.{AreDistinct, numbers_of_entries, numbers_of_posting}
-use Rattle.ix_text.specs.declared.token_marks.TokenMarks.{TokenMarks}
 use Rattle.ix_vbyte.specs.Gaps.{next_after}
 use Rattle.ix_vbyte.specs.Postings.{documents_of, list_bytes_from, posting_bytes}
 use Rattle.ix_vbyte.proofs.Gaps.{next_after-push}
 use Rattle.ix_run_text.specs.ReadPostings.{IsFree, PostingFits}
-use Rattle.ix_run_text.specs.Reading.{LieAhead, LieBehind, MayLieAhead, Standing, bytes_ahead, last_text, term_at}
+use Rattle.ix_run_text.specs.Reading.{LieAhead, LieBehind, Checked, MayLieAhead, Standing, Told, bytes_ahead, last_text, term_at}
 use Rattle.ix_run_text.specs.RunText.{term_bytes}
 use Rattle.ix_run_text.specs.Sources.{AreWhole, closed, entry_with, extended}
 use Rattle.ix_run_text.specs.declared.run_reader.Place.{Place}
@@ -28,7 +26,7 @@ term_at_hand AtTerm documents drained some = refl
 term_at_hand Ended documents drained some = absurd (let none = drained (λ e. cc) in omega arith)
 term_at_hand Failed documents drained some = absurd (let none = drained (λ e. cc) in omega arith)
 
-not_ended : (place : Place) → place ≡ AtTerm → place ≢ Ended
+pub not_ended : (place : Place) → place ≡ AtTerm → place ≢ Ended
 not_ended place here ended = cc
 
 not_failed : (place : Place) → place ≡ AtTerm → place ≢ Failed
@@ -58,23 +56,26 @@ spelled_before (Some xs) (Some ys) taken list entries consumes spelled =
 pub last_stays : (finished : List DictionaryEntry) (term : List ℕ) (one other : List Posting) → last_text (terms_of (finished ++ entry_with term one ∷ [])) ≡ last_text (terms_of (finished ++ entry_with term other ∷ []))
 last_stays finished term one other = ap last_text (terms_push finished (entry_with term one) ∙ sym (terms_push finished (entry_with term other)))
 
+-- where it stands then that took a posting
+abbrev pub on : Standing → Posting → ℕ → ℕ → Checked → Standing
+on at posting documents bytes checked = record { heading = at.heading; place = at.place; last = at.last; next = posting.0 + 1; documents = documents; bytes = bytes; checked = checked }
+
 -- A reader that stands there takes this posting.
-pub record TakesPosting (at : Standing) (posting : Posting) (documents bytes : ℕ) (marks : TokenMarks) (left after : Option (List ℕ)) : Type 0 where
+pub record TakesPosting (at : Standing) (posting : Posting) (documents bytes : ℕ) (checked : Checked) (left after : Option (List ℕ)) : Type 0 where
   pub here : at.place ≡ AtTerm
   pub counted : documents + 1 ≡ at.documents
   pub sized : bytes + length (posting_bytes (posting.0 + 1 - at.next) posting) ≡ at.bytes
   pub taken : Consumes left after (posting_bytes (posting.0 + 1 - at.next) posting)
   pub fits : PostingFits at.heading.rows at.next posting
-  pub marked : (numbers : List ℕ) → HoldsNumbers at.marks numbers → AreDistinct numbers
-      → IsFree at.heading.rows numbers posting × HoldsNumbers marks (numbers ++ numbers_of_posting at.heading.rows posting)
+  pub marked : (numbers : List ℕ) → Told at numbers → AreDistinct numbers
+      → IsFree at.heading.rows numbers posting × Told (on at posting documents bytes checked) (numbers ++ numbers_of_posting at.heading.rows posting)
 
-module _ (at : Standing) (posting : Posting) (documents bytes : ℕ) (marks : TokenMarks) where
-  -- where it stands then
-  abbrev pub on : Standing
-  on = record { heading = at.heading; place = at.place; last = at.last; next = posting.0 + 1; documents = documents; bytes = bytes; marks = marks }
+module _ (at : Standing) (posting : Posting) (documents bytes : ℕ) (checked : Checked) where
+  abbrev there : Standing
+  there = on at posting documents bytes checked
 
-  module _ (left after : Option (List ℕ)) (takes : TakesPosting at posting documents bytes marks left after) where
-    pub behind_more : (finished : List DictionaryEntry) (entry : DictionaryEntry) → LieBehind at finished (Some entry) → LieBehind on finished (Some (extended entry (posting ∷ [])))
+  module _ (left after : Option (List ℕ)) (takes : TakesPosting at posting documents bytes checked left after) where
+    pub behind_more : (finished : List DictionaryEntry) (entry : DictionaryEntry) → LieBehind at finished (Some entry) → LieBehind there finished (Some (extended entry (posting ∷ [])))
     behind_more finished entry behind =
         let rows = at.heading.rows in
         let before : List ℕ = numbers_of_entries rows (closed finished (Some entry) []) in
@@ -89,11 +90,11 @@ module _ (at : Standing) (posting : Posting) (documents bytes : ℕ) (marks : To
           last = behind.last ∙ last_stays finished entry.term (entry.postings ++ []) ((entry.postings ++ posting ∷ []) ++ []);
           next = sym (ap (next_after 0) (map-append (λ (p : Posting). p.0) entry.postings (posting ∷ [])) ∙ next_after-push 0 (documents_of entry.postings) posting.0);
           posted = λ _. omega (arith, length-append entry.postings (posting ∷ []));
-          marked = subst (HoldsNumbers marks) told marked.1;
+          marked = subst (Told there) told marked.1;
           distinct = subst AreDistinct told marked.0;
         }
 
-    pub ahead_more : (postings : List Posting) (entries : List DictionaryEntry) → MayLieAhead on after postings entries → MayLieAhead at left (posting ∷ postings) entries
+    pub ahead_more : (postings : List Posting) (entries : List DictionaryEntry) → MayLieAhead there after postings entries → MayLieAhead at left (posting ∷ postings) entries
     ahead_more postings entries ahead = record {
       are = record {
         counted = (let counted = ahead.are.counted in let one = takes.counted in omega arith);
@@ -113,10 +114,10 @@ module _ (at : Standing) (posting : Posting) (documents bytes : ℕ) (marks : To
 
     -- what lies ahead of it then
     pub ahead_on : (postings : List Posting) (entries : List DictionaryEntry) → LieAhead at left (posting ∷ postings) entries
-        → after ≡ Some (bytes_ahead (list_bytes_from (posting.0 + 1) postings) entries) → LieAhead on after postings entries
+        → after ≡ Some (bytes_ahead (list_bytes_from (posting.0 + 1) postings) entries) → LieAhead there after postings entries
     ahead_on postings entries ahead known = by ahead.finished ahead.at_hand ahead.behind ahead.whole
       where
-        by : (finished : List DictionaryEntry) (at_hand : Option DictionaryEntry) → LieBehind at finished at_hand → AreWhole at.heading (closed finished at_hand (posting ∷ postings) ++ entries) → LieAhead on after postings entries
+        by : (finished : List DictionaryEntry) (at_hand : Option DictionaryEntry) → LieBehind at finished at_hand → AreWhole at.heading (closed finished at_hand (posting ∷ postings) ++ entries) → LieAhead there after postings entries
         by finished None behind whole = no_entry at.place at.last takes.here behind.of_term
         by finished (Some entry) behind whole = record {
           finished = finished;
@@ -136,7 +137,7 @@ module _ (at : Standing) (posting : Posting) (documents bytes : ℕ) (marks : To
 -- What a posting that lies ahead is, and what stands behind it.
 pub record LiesNext (at : Standing) (left : Option (List ℕ)) (posting : Posting) (postings : List Posting) (entries : List DictionaryEntry) : Type 0 where
   pub numbers : List ℕ
-  pub held : HoldsNumbers at.marks numbers
+  pub held : Told at numbers
   pub fits : PostingFits at.heading.rows at.next posting
   pub free : IsFree at.heading.rows numbers posting
   pub within : length (posting_bytes (posting.0 + 1 - at.next) posting) ≤ at.bytes
@@ -186,12 +187,12 @@ pub same_posting : (document : ℕ) (positions : List ℕ) (posting : Posting) �
 same_posting document positions posting one two = ap₂ (λ (d : ℕ) (ps : List ℕ). let made : Posting = (d, ps) in made) one two
 
 -- by what the call that takes it says
-pub takes_posting : (at : Standing) (posting : Posting) (taken : ℕ) (marks : TokenMarks) (left after : Option (List ℕ)) → at.place ≡ AtTerm → 0 < at.documents
+pub takes_posting : (at : Standing) (posting : Posting) (taken : ℕ) (checked : Checked) (left after : Option (List ℕ)) → at.place ≡ AtTerm → 0 < at.documents
     → (taken ≡ length (posting_bytes (posting.0 + 1 - at.next) posting)) × (taken ≤ at.bytes) → Consumes left after (posting_bytes (posting.0 + 1 - at.next) posting)
     → PostingFits at.heading.rows at.next posting
-    → ((numbers : List ℕ) → HoldsNumbers at.marks numbers → AreDistinct numbers → IsFree at.heading.rows numbers posting × HoldsNumbers marks (numbers ++ numbers_of_posting at.heading.rows posting))
-    → TakesPosting at posting (at.documents - 1) (at.bytes - taken) marks left after
-takes_posting at posting taken marks left after here some size consumes fits marked = record {
+    → ((numbers : List ℕ) → Told at numbers → AreDistinct numbers → IsFree at.heading.rows numbers posting × Told (on at posting (at.documents - 1) (at.bytes - taken) checked) (numbers ++ numbers_of_posting at.heading.rows posting))
+    → TakesPosting at posting (at.documents - 1) (at.bytes - taken) checked left after
+takes_posting at posting taken checked left after here some size consumes fits marked = record {
   here = here;
   counted = omega arith;
   sized = (let one = size.0 in let within = size.1 in omega arith);
@@ -200,14 +201,14 @@ takes_posting at posting taken marks left after here some size consumes fits mar
   marked = marked;
 }
 
-module _ (at : Standing) (posting : Posting) (documents bytes : ℕ) (marks : TokenMarks) (left after : Option (List ℕ)) (takes : TakesPosting at posting documents bytes marks left after) where
+module _ (at : Standing) (posting : Posting) (documents bytes : ℕ) (checked : Checked) (left after : Option (List ℕ)) (takes : TakesPosting at posting documents bytes checked left after) where
   -- the posting that was taken is the one that lay ahead
   pub ahead_taken : (first : Posting) (rest : List Posting) (entries : List DictionaryEntry) → LieAhead at left (first ∷ rest) entries → posting ≡ first
-      → after ≡ Some (bytes_ahead (list_bytes_from (first.0 + 1) rest) entries) → LieAhead (on at posting documents bytes marks) after rest entries
+      → after ≡ Some (bytes_ahead (list_bytes_from (first.0 + 1) rest) entries) → LieAhead (on at posting documents bytes checked) after rest entries
   ahead_taken first rest entries ahead same known =
       let P : Posting → Type 0 = λ p. LieAhead at left (p ∷ rest) entries in
       let Q : Posting → Type 0 = λ p. after ≡ Some (bytes_ahead (list_bytes_from (p.0 + 1) rest) entries) in
-      ahead_on at posting documents bytes marks left after takes rest entries (subst P (sym same) ahead) (subst Q (sym same) known)
+      ahead_on at posting documents bytes checked left after takes rest entries (subst P (sym same) ahead) (subst Q (sym same) known)
 
   pub nothing_more : (first : Posting) (rest : List Posting) (entries : List DictionaryEntry) → LieAhead at left (first ∷ rest) entries → posting ≡ first
       → after ≡ Some (bytes_ahead (list_bytes_from (first.0 + 1) rest) entries) → documents ≡ 0 → 0 < bytes → ⊥

@@ -1,5 +1,5 @@
 -- A term and the numbers behind it at the front of what is left.
-use Rattle.std.proofs.Common.{◌≡◌, ℕ, ◌^◌, ◌<◌, ◌≤◌, List, [], ◌∷◌, ◌++◌, Option, Some, IfSome, Bool, true, false, Ordering, Less, Equal, Greater, length, refl, sym, ap, ◌∙◌, subst, arith, append_assoc, append-nil}
+use Rattle.std.proofs.Common.{◌≡◌, ℕ, ◌^◌, ◌<◌, ◌≤◌, List, [], ◌∷◌, ◌++◌, Option, Some, IfSome, Bool, true, false, Ordering, Less, Equal, Greater, Result, Ok, Err, OnOk, IfErr, MatchResult, length, refl, sym, ap, ◌∙◌, subst, arith, append_assoc, append-nil}
 use Rattle.std.proofs.KnownBytes.{Consumes-trans}
 use Rattle.std.proofs.lemmas.Cmp.{nat_list_cmp_total}
 use Rattle.std.specs.Cmp.Lexicographic.{slice_cmp}
@@ -63,3 +63,8 @@ term_taken a b c d size documents bytes text len one two three =
     let same : code_of size ++ (text ++ numbers) ≡ counted text ++ numbers =
     ap (λ (n : ℕ). code_of n ++ (text ++ numbers)) (sym len) ∙ sym (append_assoc (code_of (length text)) text numbers) in
     subst (Consumes a d) same (Consumes-trans a b d (code_of size) (text ++ numbers) one (Consumes-trans b c d text numbers two three))
+
+-- what was done, where no error stands for a fault
+pub done_or_refused : {T : Type 0} {P Q : Type 0} (result : Result T RunTextError) → OnOk result P → IfErr result IsRefusal → (P → Q) → MatchResult result (λ _. Q) IsRefusal
+done_or_refused (Ok x) done refused onward = onward done
+done_or_refused (Err error) done refused onward = refused

@@ -1,21 +1,28 @@
 -- What a reader of a run text has read of its terms, and what it has left of them.
-use Rattle.std.specs.Prelude.{◌≡◌, ◌≢◌, ℕ, ◌+◌, List, [], ◌∷◌, ◌++◌, length, flat_map, string_bytes, slice_index_or, ◌-◌, ◌<◌, ◌≤◌, Option, Some, None, IfSome, option_map}
-use Rattle.ix_text.specs.Parts.{DictionaryEntry, Parts, Posting, terms_of}
-use Rattle.ix_text.specs.TokenMarks.{HoldsNumbers}
+use Rattle.std.specs.Prelude.{◌≡◌, ◌≢◌, ℕ, ◌+◌, List, [], ◌∷◌, ◌++◌, length, drop, flat_map, string_bytes, slice_index_or, ◌-◌, ◌<◌, ◌≤◌, Option, Some, None, IfSome, option_map}
+use Rattle.ix_text.specs.Parts.{DictionaryEntry, DocumentRow, Parts, Posting, terms_of}
 use Rattle.ix_text.specs.TokenNumbers.{AreDistinct, numbers_of_entries}
 use Rattle.ix_text.specs.declared.token_marks.TokenMarks.{TokenMarks}
 use Rattle.ix_vbyte.specs.Gaps.{next_after}
-use Rattle.ix_vbyte.specs.Postings.{documents_of, list_bytes_from, posting_bytes}
+use Rattle.ix_vbyte.specs.Postings.{documents_of, list_bytes_from, shifted}
 use Rattle.ix_run_text.specs.Heads.{Heading, heading_of}
-use Rattle.ix_run_text.specs.Inputs.{Passes, known_left, passed}
+use Rattle.ix_run_text.specs.Inputs.{bytes_held, known_left}
+use Rattle.ix_run_text.specs.MarkedLists.{IsChecked}
 use Rattle.ix_run_text.specs.RunText.{term_bytes}
 use Rattle.ix_run_text.specs.Sources.{AreWhole, IsLawfulFront, closed, extended}
 use Rattle.ix_run_text.specs.declared.run_reader.Place.{Place}
 use Rattle.ix_run_text.specs.declared.run_reader.Place.TheVariants.{AtTerm, Ended, Failed}
 use Rattle.ix_run_text.specs.declared.run_reader.RunReader.{RunReader}
 
--- Where a reader stands: the term that it read last, or none; one above the last document given of it; how many of its
--- postings are left, and their bytes; and the tokens that were told.
+-- What a reader knows of the current list: the tokens that it marked; one above the last document; and the bytes that are buffered,
+-- with the list's in front.
+pub record Checked : Type 0 where
+  pub marks : TokenMarks
+  pub after : ℕ
+  pub held : List ℕ
+
+-- The state of a reader: the term that it read last, or none; one above the last document given of it; how many of its postings
+-- are left, and their bytes; and what it knows of its list.
 pub record Standing : Type 0 where
   pub heading : Heading
   pub place : Place
@@ -23,7 +30,10 @@ pub record Standing : Type 0 where
   pub next : ℕ
   pub documents : ℕ
   pub bytes : ℕ
-  pub marks : TokenMarks
+  pub checked : Checked
+
+abbrev pub checked_of : {R : Type 0} → RunReader R → Checked
+checked_of reader = record { marks = reader.marks; after = reader.after; held = bytes_held reader.input }
 
 abbrev pub standing : {R : Type 0} → RunReader R → Standing
 standing reader = record {
@@ -33,8 +43,13 @@ standing reader = record {
   next = reader.next;
   documents = reader.documents;
   bytes = reader.bytes;
-  marks = reader.marks;
+  checked = checked_of reader;
 }
+
+-- The numbers are those of the tokens of all postings that were given: with those of the list that is left they are exactly the
+-- marked ones.
+abbrev pub Told : Standing → List ℕ → Type 0
+Told at numbers = IsChecked at.heading.rows at.checked.marks at.checked.after at.next at.documents at.bytes at.checked.held numbers
 
 -- the term at hand, if one is; where a call was refused, the text that was read last
 abbrev pub term_at : Place → List ℕ → Option (List ℕ)
@@ -53,7 +68,7 @@ pub record LieBehind (at : Standing) (finished : List DictionaryEntry) (at_hand 
   pub last : at.last ≡ last_text (terms_of (closed finished at_hand []))
   pub next : IfSome at_hand (λ entry. at.next ≡ next_after 0 (documents_of entry.postings))
   pub posted : at.documents ≡ 0 → IfSome at_hand (λ entry. 0 < length entry.postings)
-  pub marked : HoldsNumbers at.marks (numbers_of_entries at.heading.rows (closed finished at_hand []))
+  pub marked : Told at (numbers_of_entries at.heading.rows (closed finished at_hand []))
   pub distinct : AreDistinct (numbers_of_entries at.heading.rows (closed finished at_hand []))
 
 -- what a reader may have given: finished entries, and the one at hand with the postings given of it
@@ -143,21 +158,18 @@ pub record GivesFirst {R : Type 0} (remaining : R → Option (List ℕ)) (reader
 abbrev pub heading_from : ℕ → Parts → Heading
 heading_from first parts = record { first = first; stop = parts.stop; rows = parts.rows }
 
--- Postings are left of the list at hand, none of it was taken, and its bytes are buffered.
+-- Postings are left of the current list, none of it was taken, and its bytes are buffered.
 pub record IsHeldWhole {R : Type 0} (reader : RunReader R) : Type 0 where
   pub some : 0 < reader.documents
   pub fresh : reader.next ≡ 0
-  pub held : reader.bytes ≤ (passed reader.input).left
+  pub held : reader.bytes ≤ length (bytes_held reader.input)
 
--- The reader stands where it stood, and the same bytes are before it.
+-- The reader is in the same state, and the same bytes are before it.
 pub record StandsStill {R : Type 0} (old new : RunReader R) : Type 0 where
   pub stands : standing new ≡ standing old
   pub input : new.input ≡ old.input
 
--- From the old state to the new one a reader took the bytes of this posting from its list, in which its document is
--- counted from the one before.
-pub record TookPosting {R : Type 0} (old new : RunReader R) (posting : Posting) : Type 0 where
-  pub above : old.next ≤ posting.0
-  pub next : new.next ≡ posting.0 + 1
-  pub sized : new.bytes + length (posting_bytes (posting.0 + 1 - old.next) posting) ≡ old.bytes
-  pub passed : Passes (passed old.input) (passed new.input) (posting_bytes (posting.0 + 1 - old.next) posting)
+-- The reader gave the list of exactly the postings that lay ahead, and the entries behind them lie ahead.
+pub record GivesAll {R : Type 0} (remaining : R → Option (List ℕ)) (reader : RunReader R) (first next : ℕ) (before after : List ℕ) (postings : List Posting) (entries : List DictionaryEntry) : Type 0 where
+  pub coded : after ≡ before ++ list_bytes_from next (shifted first postings)
+  pub ahead : Faces remaining reader [] entries

@@ -11,6 +11,7 @@ mod laws;
 mod list;
 mod listed;
 mod marking;
+mod posting;
 mod rows;
 mod run_reader;
 mod run_text_error;

@@ -1,5 +1,5 @@
 //! Reading what stands before a term's list of postings in a run text.
-ghost use Rattle.std.specs.Prelude.{◌≡◌, ◌<◌, ◌^◌, ◌++◌, List, [], ◌∷◌, ℕ, length, string_bytes, Some, None, IfOk, OnOk, IfNone, IfSome, MatchOption, MatchResult};
+ghost use Rattle.std.specs.Prelude.{◌≡◌, ◌<◌, ◌≤◌, ◌^◌, ◌++◌, List, [], ◌∷◌, ℕ, length, string_bytes, Some, None, IfOk, IfErr, OnOk, IfNone, IfSome, MatchOption, MatchResult};
 ghost use Rattle.std.specs.Io.KnownBytes.{Consumes, IsAtEnd};
 ghost use Rattle.ix_vbyte.specs.Code.{code_of};
 ghost use Rattle.ix_vbyte.specs.Texts.{counted};
@@ -10,7 +10,6 @@ ghost use Rattle.ix_run_text.specs.RunTextErrors.{IsRefusal};
 use crate::RunTextError;
 use crate::heading::CODE_LIMIT;
 use crate::input::Input;
-use crate::list::read_positive;
 use ix_text::{MAX_TERM_BYTES, StopList};
 use std::io::Read;
 use std::str::from_utf8;
@@ -101,7 +100,21 @@ fn read_text<R: Read>(
         return Err(RunTextError::TermSize);
     }
     input.take(size as usize, scratch)?;
-    let Ok(text) = from_utf8(scratch) else {
+    set_term(scratch, stop, term)
+}
+
+/// Puts the term of these bytes into `term`, in place of the one before: `Text` where they are not UTF-8, `TermOrder` where it
+/// does not stand above the one before, `StopIndexed` where it is a stop term. After an error any text may stand in `term`.
+#[inline]
+fn set_term(bytes: &[u8], stop: &StopList, term: &mut String) -> Result<(), RunTextError>
+    requires some { 0 < length bytes.now }
+    requires short { length bytes.now ≤ 255 }
+    ensures set { OnOk result (string_bytes term.new ≡ bytes.now) }
+    ensures fits { OnOk result (TextFits stop.now (string_bytes term.old) (string_bytes term.new)) }
+    ensures accepted { TextFits stop.now (string_bytes term.old) bytes.now
+        → IfErr result IsRefusal }
+{
+    let Ok(text) = from_utf8(bytes) else {
         return Err(RunTextError::Text);
     };
     if text <= term.as_str() {
@@ -131,4 +144,26 @@ fn read_counts<R: Read>(input: &mut Input<R>) -> Result<TermCounts, RunTextError
     let (documents, _) = read_positive(input, CODE_LIMIT)?;
     let (bytes, _) = input.code(CODE_LIMIT)?;
     Ok(TermCounts { documents, bytes })
+}
+
+/// Takes a number of at most `limit` bytes. Returns it and how many bytes it has.
+///
+/// # Errors
+/// `Zero` if it is 0; the errors of `Input::code`.
+fn read_positive<R: Read>(input: &mut Input<R>, limit: usize) -> Result<(u32, usize), RunTextError>
+    ensures taken { IfOk result (λ found.
+        Consumes (known_left R.remaining input.old) (known_left R.remaining input.new)
+        (code_of found.0)) }
+    ensures some { IfOk result (λ found. 0 < found.0) }
+    ensures accepted { (number : ℕ) (rest : List ℕ) → 0 < number → number < 2 ^ 32
+        → length (code_of number) ≤ limit
+        → known_left R.remaining input.old ≡ Some (code_of number ++ rest)
+        → MatchResult result (λ found. (found.0 ≡ number)
+        × (known_left R.remaining input.new ≡ Some rest)) IsRefusal }
+{
+    let (number, bytes) = input.code(limit)?;
+    if number == 0 {
+        return Err(RunTextError::Zero);
+    }
+    Ok((number, bytes))
 }

@@ -2,9 +2,10 @@
 use Rattle.std.proofs.Common.{ℕ, List, [], Some, string_bytes, ap, subst, sym, ◌∙◌, rules}
 use Rattle.std.proofs.lemmas.Result.{err_from_is_err_and}
 use Rattle.ix_run_text.specs.Heads.{Heading, heading_of}
-use Rattle.ix_run_text.specs.Inputs.{known_left}
+use Rattle.ix_run_text.specs.Inputs.{bytes_held, known_left}
 use Rattle.ix_run_text.specs.Reading.{bytes_ahead, heading_from}
 use Rattle.ix_run_text.specs.Sources.{AreWhole}
+use Rattle.ix_run_text.proofs.CheckedLists.{checked_none}
 use Rattle.ix_run_text.proofs.ReadOpen.{opened_faces, opened_yields, text_heading, text_parts, text_whole, unread}
 use Rattle.ix_run_text.specs.RunReaders.{bytes_left}
 use Rattle.ix_run_text.proofs.run_reader.RunReader.open.Goals as goal
@@ -22,13 +23,25 @@ returns-clause-accepted g c heading rest lawful e = c.in_ok-head.ensures.accepte
 
 pub returns-clause-unread : goal.returns-clause-unread
 returns-clause-unread g c =
-    unread (heading_of c.in_ok-head.head) c.in_ok-marks.marks (string_bytes c.new-3.result) c.new-3.ensures.bytes c.in_ok-head.ensures.lawful c.in_ok-marks.ensures.none
+    let heading = heading_of c.in_ok-head.head in
+    let marks = c.in_ok-marks.marks in
+    let input = c.read_head.new.input in
+    let last = string_bytes c.new-3.result in
+    let none = c.new-3.ensures.bytes in
+    let told = checked_none heading.rows marks 0 (bytes_held input) [] c.in_ok-marks.ensures.none tt in
+    unread heading (record { marks = marks; after = 0; held = bytes_held input }) last none c.in_ok-head.ensures.lawful told
 
 pub returns-clause-yields : goal.returns-clause-yields
 returns-clause-yields g c bytes entries known may =
-    opened_yields (heading_of c.in_ok-head.head) c.in_ok-marks.marks (string_bytes c.new-3.result) c.new-3.ensures.bytes
-    (known_left g.R.Read.remaining c.in_ok-input.input) (known_left g.R.Read.remaining c.read_head.new.input) bytes entries
-    c.in_ok-head.ensures.lawful c.in_ok-marks.ensures.none c.in_ok-head.ensures.taken (c.in_ok-input.ensures ∙ known) may
+    let heading = heading_of c.in_ok-head.head in
+    let marks = c.in_ok-marks.marks in
+    let input = c.read_head.new.input in
+    let last = string_bytes c.new-3.result in
+    let none = c.new-3.ensures.bytes in
+    let told = checked_none heading.rows marks 0 (bytes_held input) [] c.in_ok-marks.ensures.none tt in
+    opened_yields heading (record { marks = marks; after = 0; held = bytes_held input }) last none
+    (known_left g.R.Read.remaining c.in_ok-input.input) (known_left g.R.Read.remaining input) bytes entries
+    c.in_ok-head.ensures.lawful told c.in_ok-head.ensures.taken (c.in_ok-input.ensures ∙ known) may
 
 pub returns-in_err-head-clause-faced : goal.returns-in_err-head-clause-faced
 returns-in_err-head-clause-faced g c first collection bytes is known =
@@ -38,11 +51,17 @@ returns-in_err-head-clause-faced g c first collection bytes is known =
 
 pub returns-clause-faced : goal.returns-clause-faced
 returns-clause-faced g c first collection bytes is known =
+    let heading = heading_of c.in_ok-head.head in
+    let marks = c.in_ok-marks.marks in
+    let input = c.read_head.new.input in
+    let last = string_bytes c.new-3.result in
+    let none = c.new-3.ensures.bytes in
+    let told = checked_none heading.rows marks 0 (bytes_held input) [] c.in_ok-marks.ensures.none tt in
     let found = c.in_ok-head.ensures.accepted (heading_from first is.parts) (bytes_ahead [] is.parts.entries) (text_heading first collection bytes is)
     (c.in_ok-input.ensures ∙ known ∙ ap (λ (bs : List ℕ). Some bs) (text_parts first collection bytes is)) in (
       found.0,
-      opened_faces (heading_of c.in_ok-head.head) c.in_ok-marks.marks (string_bytes c.new-3.result) c.new-3.ensures.bytes (known_left g.R.Read.remaining c.read_head.new.input) is.parts.entries
-          c.in_ok-head.ensures.lawful c.in_ok-marks.ensures.none
+      opened_faces heading (record { marks = marks; after = 0; held = bytes_held input }) last none (known_left g.R.Read.remaining input) is.parts.entries
+          c.in_ok-head.ensures.lawful told
           (subst (λ (h : Heading). AreWhole h is.parts.entries) (sym found.0) (text_whole first collection bytes is)) found.1,
     )
 
