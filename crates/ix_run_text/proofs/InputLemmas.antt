@@ -31,7 +31,7 @@ held-byte buffer start end lt le =
 pub held-moved : (known : Option (List ℕ)) (old front new : List ℕ) → old ≡ front ++ new → Consumes (prepend_known old known) (prepend_known new known) front
 held-moved known old front new e = (prepend_known-read (prepend_known old known) known old new front (⊥) (Keeps-refl (prepend_known old known)) e (λ no. absurd no)).0
 
-drop-nothing : (xs : List ℕ) → drop 0 xs ≡ xs
+pub drop-nothing : (xs : List ℕ) → drop 0 xs ≡ xs
 drop-nothing [] = refl
 drop-nothing (x ∷ xs) = refl
 

@@ -1,6 +1,6 @@
 -- A list whose tokens are marked as it is gone over, posting by posting.
-use Rattle.std.proofs.Common.{◌≡◌, ℕ, ◌+◌, ◌-◌, ◌<◌, ◌≤◌, List, [], ◌∷◌, ◌++◌, length, take, drop, sum_by, refl, sym, ap, subst, ◌∙◌, arith, append_assoc, append-nil, length-append}
-use Rattle.std.proofs.Math.Seq.{drop-append_seam, take-append_seam}
+use Rattle.std.proofs.Common.{◌≡◌, ℕ, ◌+◌, ◌-◌, ◌<◌, ◌≤◌, List, [], ◌∷◌, ◌++◌, length, take, drop, sum_by, refl, sym, ap, subst, ◌∙◌, arith, append_assoc, append-nil, length-append, length-take}
+use Rattle.std.proofs.Math.Seq.{drop-append_seam, take-append-add, take-append_seam}
 use Rattle.std.proofs.lemmas.List.{map-append}
 use Rattle.std.proofs.lemmas.List.Elements.{All-head}
 use Rattle.ix_text.specs.Parts.{DocumentRow, Posting}
@@ -16,7 +16,8 @@ use Rattle.ix_vbyte.specs.Postings.{IsPosting, documents_of, list_bytes, list_by
 use Rattle.ix_vbyte.proofs.Gaps.{next_after-push}
 use Rattle.ix_vbyte.proofs.Postings.{list_bytes_from-push, posting_apart}
 use Rattle.ix_run_text.specs.ReadPostings.{IsFree, PostingFits}
-use Rattle.ix_run_text.specs.MarkedLists.{ListStands, MarksList, MarksPosting, PostingsFit}
+use Rattle.ix_run_text.specs.MarkedLists.{IsCutShort, ListStands, MarksList, MarksPosting, PostingsFit}
+use Rattle.ix_run_text.specs.declared.run_text_error.RunTextError.{RunTextError}
 use Rattle.ix_run_text.proofs.FitPostings.{fit_are}
 
 -- ---- lists of postings, parted
@@ -62,16 +63,17 @@ gone_none rows bytes size documents marks = record {
   stood = λ stands. (stands.postings, refl);
 }
 
--- The posting that stands next, of tokens that are not marked.
-pub record StandsNext (rows : List DocumentRow) (next left : ℕ) (rest : List ℕ) (now : TokenMarks) : Type 0 where
+-- The posting that comes next, or its first bytes, of tokens that are not marked. If the bytes end within it, they end within the list.
+pub record StandsNext (rows : List DocumentRow) (next left : ℕ) (rest front whole : List ℕ) (now : TokenMarks) : Type 0 where
   pub numbers : List ℕ
   pub held : HoldsNumbers now numbers
   pub posting : Posting
+  pub missing : List ℕ
   pub behind : List ℕ
   pub fits : PostingFits rows next posting
   pub free : IsFree rows numbers posting
-  pub short : length (posting_bytes (posting.0 + 1 - next) posting) ≤ left
-  pub spelled : rest ≡ posting_bytes (posting.0 + 1 - next) posting ++ behind
+  pub spelled : take left rest ++ missing ≡ posting_bytes (posting.0 + 1 - next) posting ++ behind
+  pub cut : (error : RunTextError) → IsCutShort (take left rest) (posting_bytes (posting.0 + 1 - next) posting) error → IsCutShort front whole error
 
 module _ (rows : List DocumentRow) (bytes rest : List ℕ) (size left documents place next : ℕ) (old now : TokenMarks) (gone : GoneOver rows bytes rest size left documents place next old now) where
   abbrev gone_bytes : List ℕ
@@ -79,6 +81,10 @@ module _ (rows : List DocumentRow) (bytes rest : List ℕ) (size left documents 
 
   abbrev gone_numbers : List ℕ
   gone_numbers = numbers_of_postings rows gone.front
+
+  -- the list's bytes
+  front_is : take size bytes ≡ gone_bytes ++ take left rest
+  front_is = ap (λ (n : ℕ). take n bytes) (sym gone.sized) ∙ ap (take (length gone_bytes + left)) gone.coded ∙ take-append-add gone_bytes rest left
 
   module _ (stands : ListStands rows bytes size documents old) (posting : Posting) (others : List Posting) (is : stands.postings ≡ gone.front ++ posting ∷ others) where
     abbrev first : List ℕ
@@ -92,12 +98,11 @@ module _ (rows : List DocumentRow) (bytes rest : List ℕ) (size left documents 
         ap list_bytes is ∙ list_bytes_from-append 0 gone.front (posting ∷ others)
         ∙ ap (λ (n : ℕ). gone_bytes ++ (posting_bytes (posting.0 + 1 - n) posting ++ later)) (sym gone.next_is)
 
-    next_spelled : rest ≡ first ++ (later ++ stands.behind)
+    next_spelled : take left rest ++ stands.missing ≡ first ++ later
     next_spelled =
-        let whole : gone_bytes ++ rest ≡ gone_bytes ++ (first ++ (later ++ stands.behind)) =
-        sym gone.coded ∙ stands.spelled ∙ ap (λ (bs : List ℕ). bs ++ stands.behind) parted ∙ append_assoc gone_bytes (first ++ later) stands.behind
-        ∙ ap (λ (bs : List ℕ). gone_bytes ++ bs) (append_assoc first later stands.behind) in
-        sym (drop-append_seam gone_bytes rest) ∙ ap (drop (length gone_bytes)) whole ∙ drop-append_seam gone_bytes (first ++ (later ++ stands.behind))
+        let whole : gone_bytes ++ (take left rest ++ stands.missing) ≡ gone_bytes ++ (first ++ later) =
+        sym (append_assoc gone_bytes (take left rest) stands.missing) ∙ ap (λ (bs : List ℕ). bs ++ stands.missing) (sym front_is) ∙ stands.spelled ∙ parted in
+        sym (drop-append_seam gone_bytes (take left rest ++ stands.missing)) ∙ ap (drop (length gone_bytes)) whole ∙ drop-append_seam gone_bytes (first ++ later)
 
     told : AreDistinct ((stands.numbers ++ gone_numbers) ++ numbers_of_posting rows posting)
     told =
@@ -112,38 +117,57 @@ module _ (rows : List DocumentRow) (bytes rest : List ℕ) (size left documents 
     next_fits : PostingFits rows next posting
     next_fits = subst (λ (n : ℕ). PostingFits rows n posting) (sym gone.next_is) (fit_behind rows 0 gone.front (posting ∷ others) (subst (PostingsFit rows 0) is stands.fit)).0
 
-    next_stands : StandsNext rows next left rest now
+    next_stands : StandsNext rows next left rest (take size bytes) (list_bytes stands.postings) now
     next_stands = record {
       numbers = stands.numbers ++ gone_numbers;
       held = (gone.marked stands.numbers stands.held (distinct_front stands.numbers (numbers_of_postings rows stands.postings) stands.free)).1;
       posting = posting;
-      behind = later ++ stands.behind;
+      missing = stands.missing;
+      behind = later;
       fits = next_fits;
       free = told;
-      short = (let sized = stands.sized in let so_far = gone.sized in omega (arith, ap length parted, length-append gone_bytes (first ++ later), length-append first later, sized, so_far));
       spelled = next_spelled;
+      cut = λ error short. (
+        short.0,
+        (let less = short.1 in omega (arith, ap length front_is, length-append gone_bytes (take left rest), ap length parted, length-append gone_bytes (first ++ later), length-append first later, less)),
+      );
     }
 
   -- where such a list stands, a posting stands next
-  pub stands_next : (stands : ListStands rows bytes size documents old) → place < documents → StandsNext rows next left rest now
+  pub stands_next : (stands : ListStands rows bytes size documents old) → place < documents → StandsNext rows next left rest (take size bytes) (list_bytes stands.postings) now
   stands_next stands few = by (gone.stood stands).0 (gone.stood stands).1
     where
-      by : (behind : List Posting) → stands.postings ≡ gone.front ++ behind → StandsNext rows next left rest now
+      by : (behind : List Posting) → stands.postings ≡ gone.front ++ behind → StandsNext rows next left rest (take size bytes) (list_bytes stands.postings) now
       by [] is = absurd (let counted = stands.counted in let so_far = gone.counted in omega (arith, ap length is, length-append gone.front [], counted, so_far, few))
       by (posting ∷ others) is = next_stands stands posting others is
 
   -- none of the list is left
-  pub nothing_left : (stands : ListStands rows bytes size documents old) → place ≡ documents → left ≡ 0
-  nothing_left stands all = by (gone.stood stands).0 (gone.stood stands).1
+  pub nothing_left : (stands : ListStands rows bytes size documents old) → place ≡ documents → left ≤ length rest → left ≡ 0
+  nothing_left stands all within = by (gone.stood stands).0 (gone.stood stands).1
     where
       by : (behind : List Posting) → stands.postings ≡ gone.front ++ behind → left ≡ 0
-      by [] is = (let sized = stands.sized in let so_far = gone.sized in omega (arith, ap (λ (ps : List Posting). length (list_bytes ps)) (is ∙ append-nil gone.front), sized, so_far))
+      by [] is =
+          omega (
+            arith,
+            ap length stands.spelled,
+            ap length front_is,
+            length-append (take size bytes) stands.missing,
+            length-append gone_bytes (take left rest),
+            length-take left rest,
+            ap (λ (ps : List Posting). length (list_bytes ps)) (is ∙ append-nil gone.front),
+            within,
+          )
       by (posting ∷ others) is = absurd (let counted = stands.counted in let so_far = gone.counted in omega (arith, ap length is, length-append gone.front (posting ∷ others), counted, so_far, all))
 
   -- one posting more
   module _ (tokens : TokenTable) (has : HasTokens tokens rows) (document taken : ℕ) (new : TokenMarks) (marks : MarksPosting tokens next rest document taken now new) (within : taken ≤ left) (few : place < documents) where
     abbrev spells : List ℕ
     spells = posting_bytes (document + 1 - next) (document, marks.positions)
+
+    here_first : take left rest ≡ spells ++ take (left - taken) (drop taken rest)
+    here_first =
+        let parts : left ≡ length spells + (left - taken) = (let sized = marks.sized in omega (arith, sized, within)) in
+        ap (take left) marks.spelled ∙ ap (λ (n : ℕ). take n (spells ++ drop taken rest)) parts ∙ take-append-add spells (drop taken rest) (left - taken)
 
     fits_here : PostingFits rows next (document, marks.positions)
     fits_here = marks.fits rows has
@@ -162,8 +186,9 @@ module _ (rows : List DocumentRow) (bytes rest : List ℕ) (size left documents 
         by : (behind : List Posting) → stands.postings ≡ gone.front ++ behind → (after : List Posting) × (stands.postings ≡ (gone.front ++ (document, marks.positions) ∷ []) ++ after)
         by [] is = absurd (let counted = stands.counted in let so_far = gone.counted in omega (arith, ap length is, length-append gone.front [], counted, so_far, few))
         by (q ∷ qs) is =
-            let same = posting_apart next (length rows + sum_by (λ row. row.tokens) rows) (document, marks.positions) q (drop taken rest) (list_bytes_from (q.0 + 1) qs ++ stands.behind) fits_here.above (next_fits stands q qs is).above
-            (is_posting (document, marks.positions) fits_here) (is_posting q (next_fits stands q qs is)) (sym marks.spelled ∙ next_spelled stands q qs is) in
+            let same = posting_apart next (length rows + sum_by (λ row. row.tokens) rows) (document, marks.positions) q (take (left - taken) (drop taken rest) ++ stands.missing) (list_bytes_from (q.0 + 1) qs) fits_here.above (next_fits stands q qs is).above
+            (is_posting (document, marks.positions) fits_here) (is_posting q (next_fits stands q qs is))
+            (sym (append_assoc spells (take (left - taken) (drop taken rest)) stands.missing) ∙ ap (λ (bs : List ℕ). bs ++ stands.missing) (sym here_first) ∙ next_spelled stands q qs is) in
             (qs, is ∙ ap (λ (p : Posting). gone.front ++ p ∷ qs) (sym same.0) ∙ sym (append_assoc gone.front ((document, marks.positions) ∷ []) qs))
 
     pub gone_more : GoneOver rows bytes (drop taken rest) size (left - taken) documents (place + 1) (document + 1) old new

@@ -1,6 +1,5 @@
 -- A posting that may come next at the front of what is left.
-use Rattle.std.proofs.Common.{◌≡◌, ℕ, ◌+◌, ◌-◌, ◌^◌, ◌<◌, ◌≤◌, List, [], ◌∷◌, ◌++◌, Option, Some, None, length, get_or, sum_by, sym, ap, ap₂, ◌∙◌, subst, arith, append_assoc, append-nil}
-use Rattle.std.specs.Io.KnownBytes.{Consumes}
+use Rattle.std.proofs.Common.{◌≡◌, ℕ, ◌+◌, ◌-◌, ◌^◌, ◌<◌, ◌≤◌, List, [], ◌∷◌, ◌++◌, length, get_or, sum_by, sym, ap, ap₂, ◌∙◌, subst, arith, append_assoc, append-nil}
 use Rattle.std.proofs.lemmas.List.{length-append}
 use Rattle.std.proofs.lemmas.List.Elements.{All-contains, All-from_get_or, Contains-get_or}
 use Rattle.std.proofs.lemmas.List.Sums.{sum_by-take-le}
@@ -90,40 +89,26 @@ behind_gap posting rest = code_of (length posting.1) ++ (codes_of (gaps_of posti
 abbrev pub behind_count : Posting → List ℕ → List ℕ
 behind_count posting rest = codes_of (gaps_of posting.1) ++ rest
 
-pub posting_parts : (a : Option (List ℕ)) (gap : ℕ) (posting : Posting) (rest : List ℕ) → a ≡ Some (posting_bytes gap posting ++ rest) → a ≡ Some (code_of gap ++ behind_gap posting rest)
-posting_parts a gap posting rest e =
-    e ∙ ap (λ (bytes : List ℕ). Some bytes)
-    (append_assoc (code_of gap ++ code_of (length posting.1)) (codes_of (gaps_of posting.1)) rest
-    ∙ append_assoc (code_of gap) (code_of (length posting.1)) (codes_of (gaps_of posting.1) ++ rest))
-
-length-posting : (gap : ℕ) (posting : Posting) → length (posting_bytes gap posting) ≡ length (code_of gap) + (length (code_of (length posting.1)) + length (codes_of (gaps_of posting.1)))
-length-posting gap posting =
-    omega (arith, length-append (code_of gap ++ code_of (length posting.1)) (codes_of (gaps_of posting.1)), length-append (code_of gap) (code_of (length posting.1)))
-
-module _ (gap limit : ℕ) (posting : Posting) (short : length (posting_bytes gap posting) ≤ limit) where
-  pub gap_short : length (code_of gap) ≤ limit
-  gap_short = omega (arith, length-posting gap posting, short)
-
-  pub count_short : (gap_read bytes : ℕ) → gap_read ≡ gap → bytes ≡ length (code_of gap_read) → length (code_of (length posting.1)) ≤ limit - bytes
-  count_short gap_read bytes same size = omega (arith, length-posting gap posting, short, size, ap (λ (n : ℕ). length (code_of n)) same)
-
-  pub positions_short : (gap_read bytes count_read more : ℕ) → gap_read ≡ gap → bytes ≡ length (code_of gap_read) → count_read ≡ length posting.1 → more ≡ length (code_of count_read)
-      → length (codes_of (gaps_of posting.1)) ≤ limit - (bytes + more)
-  positions_short gap_read bytes count_read more same size same_number size_number =
-      omega (arith, length-posting gap posting, short, size, ap (λ (n : ℕ). length (code_of n)) same, size_number, ap (λ (n : ℕ). length (code_of n)) same_number)
-
--- its positions stand next
+-- its positions come next
 pub positions_next : (tokens : TokenTable) (marks : TokenMarks) (ready : HaveRoom tokens marks) (rows : List DocumentRow) (has : HasTokens tokens rows) (next : ℕ) (posting : Posting) → PostingFits rows next posting
-    → (span : ℕ × ℕ) → IsSpan rows posting.0 span → (count limit : ℕ) (numbers rest : List ℕ) (known : Option (List ℕ)) → HoldsNumbers marks numbers → IsFree rows numbers posting → count ≡ length posting.1
-    → length (codes_of (gaps_of posting.1)) ≤ limit → known ≡ Some (behind_count posting rest) → StandNext span.0 span.1 count limit marks known numbers posting.1 rest
-positions_next tokens marks ready rows has next posting fits span is count limit numbers rest known held free counted short e = record {
+    → (span : ℕ × ℕ) → IsSpan rows posting.0 span → (count : ℕ) (numbers rest bytes : List ℕ) → HoldsNumbers marks numbers → IsFree rows numbers posting → count ≡ length posting.1
+    → bytes ≡ behind_count posting rest → StandNext span.0 span.1 count marks bytes numbers posting.1 rest
+positions_next tokens marks ready rows has next posting fits span is count numbers rest bytes held free counted e = record {
   held = held;
   counted = sym counted;
   ascend = ascends tokens marks ready rows has next posting fits span is;
   free = subst (λ (first : ℕ). AreDistinct (numbers ++ numbers_at first posting.1)) (sym is.first) free;
-  short = short;
   spelled = e;
 }
+
+pub posting_parts : (gap : ℕ) (posting : Posting) (rest : List ℕ) → posting_bytes gap posting ++ rest ≡ code_of gap ++ behind_gap posting rest
+posting_parts gap posting rest =
+    append_assoc (code_of gap ++ code_of (length posting.1)) (codes_of (gaps_of posting.1)) rest
+    ∙ append_assoc (code_of gap) (code_of (length posting.1)) (codes_of (gaps_of posting.1) ++ rest)
+
+pub length-posting : (gap : ℕ) (posting : Posting) → length (posting_bytes gap posting) ≡ length (code_of gap) + (length (code_of (length posting.1)) + length (codes_of (gaps_of posting.1)))
+length-posting gap posting =
+    omega (arith, length-append (code_of gap ++ code_of (length posting.1)) (codes_of (gaps_of posting.1)), length-append (code_of gap) (code_of (length posting.1)))
 
 -- ---- a posting of one position
 
@@ -137,20 +122,15 @@ one_left (x ∷ []) position behind rest some count e =
     (ap (λ (n : ℕ). n ∷ []) same, apart.1)
 one_left (x ∷ z ∷ more) position behind rest some count e = absurd (omega (arith, count))
 
--- what was taken is the posting that stands first
-pub single_accepted : (a b : Option (List ℕ)) (rest : List ℕ) (taken position gap : ℕ) (posting : Posting) → 0 < position → Consumes a b (single_bytes taken position) → a ≡ Some (posting_bytes gap posting ++ rest)
-    → (taken ≡ gap) × (posting.1 ≡ (position - 1) ∷ []) × (b ≡ Some rest)
-single_accepted None b rest taken position gap posting some h e = absurd cc
-single_accepted (Some x) None rest taken position gap posting some h e = absurd h
-single_accepted (Some x) (Some y) rest taken position gap posting some h e =
-    let spelled : Some x ≡ Some (code_of gap ++ behind_gap posting rest) = posting_parts (Some x) gap posting rest e in
-    let same : x ≡ code_of gap ++ behind_gap posting rest = cc in
-    let parts : x ≡ code_of taken ++ (code_of 1 ++ (code_of position ++ y)) =
-    h ∙ append_assoc (code_of taken) (code_of 1 ++ code_of position) y ∙ ap (λ (xs : List ℕ). code_of taken ++ xs) (append_assoc (code_of 1) (code_of position) y) in
-    let one = code_of-apart taken gap (code_of 1 ++ (code_of position ++ y)) (behind_gap posting rest) (sym parts ∙ same) in
-    let two = code_of-apart 1 (length posting.1) (code_of position ++ y) (behind_count posting rest) one.1 in
-    let three = one_left posting.1 position y rest some two.0 two.1 in
-    (one.0, three.0, ap (λ (bytes : List ℕ). Some bytes) three.1)
+-- what was taken is the posting that comes first
+pub single_is : (taken position gap : ℕ) (posting : Posting) (behind rest : List ℕ) → 0 < position → single_bytes taken position ++ behind ≡ posting_bytes gap posting ++ rest
+    → (taken ≡ gap) × (posting.1 ≡ (position - 1) ∷ [])
+single_is taken position gap posting behind rest some e =
+    let parts : single_bytes taken position ++ behind ≡ code_of taken ++ (code_of 1 ++ (code_of position ++ behind)) =
+    append_assoc (code_of taken) (code_of 1 ++ code_of position) behind ∙ ap (λ (xs : List ℕ). code_of taken ++ xs) (append_assoc (code_of 1) (code_of position) behind) in
+    let one = code_of-apart taken gap (code_of 1 ++ (code_of position ++ behind)) (behind_gap posting rest) (sym parts ∙ e ∙ posting_parts gap posting rest) in
+    let two = code_of-apart 1 (length posting.1) (code_of position ++ behind) (behind_count posting rest) one.1 in
+    (one.0, (one_left posting.1 position behind rest some two.0 two.1).0)
 
 -- and its bytes are those of the posting
 pub single_spelled : (gap position next document : ℕ) (positions : List ℕ) → 0 < position → document + 1 ≡ next + gap → positions ≡ (position - 1) ∷ []

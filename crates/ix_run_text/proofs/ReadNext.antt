@@ -1,17 +1,19 @@
 -- A reader of a run text that goes on to the next term, or to the end.
 use Rattle.std.proofs.Common.{◌≡◌, ◌≢◌, ℕ, List, [], ◌∷◌, ◌++◌, length, Option, Some, None, IfSome, refl, sym, ap, subst, ◌∙◌, arith}
 use Rattle.std.proofs.lemmas.List.{append_assoc, append-nil}
-use Rattle.std.specs.Io.KnownBytes.{Consumes, IsAtEnd}
+use Rattle.std.specs.Io.KnownBytes.{Consumes, IsAtEnd, Keeps}
 use Rattle.ix_text.specs.Parts.{DictionaryEntry, Posting, terms_of}
-use Rattle.ix_text.specs.TokenNumbers.{AreDistinct, numbers_of_entries}
+use Rattle.ix_text.specs.TokenNumbers.{AreDistinct, numbers_of_entries, numbers_of_postings}
 use Rattle.ix_text.proofs.TokensApart.{numbers_of_entries-push}
 use Rattle.ix_vbyte.specs.Code.{code_of}
 use Rattle.ix_vbyte.specs.Postings.{list_bytes}
 use Rattle.ix_vbyte.specs.Texts.{counted}
+use Rattle.ix_run_text.specs.MarkedLists.{PostingsFit}
 use Rattle.ix_run_text.specs.ReadTerms.{TermFits}
-use Rattle.ix_run_text.specs.Reading.{LieAhead, LieBehind, Looking, MayLieAhead, Standing, Told, bytes_ahead, last_text}
+use Rattle.ix_run_text.specs.Reading.{LieAhead, LieBehind, Checked, MayLieAhead, Standing, Told, bytes_ahead, last_text}
 use Rattle.ix_run_text.specs.Sources.{AreWhole, closed, entry_with}
 use Rattle.ix_run_text.specs.declared.run_reader.Place.TheVariants.{AtTerm, Ended}
+use Rattle.ix_run_text.proofs.MarkedReaders.{all_fit, all_free}
 use Rattle.ix_run_text.proofs.ReadFronts.{front_begun, front_closed, last_text-push, terms_push}
 use Rattle.ix_run_text.proofs.ReadWholes.{closed-begun, term_fits}
 
@@ -42,10 +44,10 @@ pub record TakesTerm (at : Standing) (term : List ℕ) (documents bytes : ℕ) (
   pub fits : TermFits at.heading.stop at.last term documents bytes
   pub taken : Consumes left after (counted term ++ (code_of documents ++ code_of bytes))
 
-module _ (at : Standing) (term : List ℕ) (documents bytes : ℕ) (looking : Looking) where
+module _ (at : Standing) (term : List ℕ) (documents bytes : ℕ) (checked : Checked) where
   -- where it stands then
   abbrev pub begun : Standing
-  begun = record { heading = at.heading; place = AtTerm; last = term; next = 0; documents = documents; bytes = bytes; looking = looking }
+  begun = record { heading = at.heading; place = AtTerm; last = term; next = 0; documents = documents; bytes = bytes; checked = checked }
 
   module _ (left after : Option (List ℕ)) (takes : TakesTerm at term documents bytes left after) (told : (numbers : List ℕ) → Told at numbers → Told begun numbers) where
     pub behind_begun : (finished : List DictionaryEntry) (at_hand : Option DictionaryEntry) → LieBehind at finished at_hand → LieBehind begun (closed finished at_hand []) (Some (entry_with term []))
@@ -97,10 +99,10 @@ pub record TakesEnd (at : Standing) (left after : Option (List ℕ)) : Type 0 wh
   pub taken : Consumes left after (128 ∷ [])
   pub end : IsAtEnd after
 
-module _ (at : Standing) (last : List ℕ) (stays : last ≡ at.last) (looking : Looking) where
+module _ (at : Standing) (last : List ℕ) (stays : last ≡ at.last) (checked : Checked) where
   -- where it stands then
   abbrev pub over : Standing
-  over = record { heading = at.heading; place = Ended; last = last; next = at.next; documents = at.documents; bytes = at.bytes; looking = looking }
+  over = record { heading = at.heading; place = Ended; last = last; next = at.next; documents = at.documents; bytes = at.bytes; checked = checked }
 
   pub behind_over : ((numbers : List ℕ) → Told at numbers → Told over numbers) → at.documents ≡ 0 → (finished : List DictionaryEntry) (at_hand : Option DictionaryEntry) → LieBehind at finished at_hand → LieBehind over (closed finished at_hand []) None
   behind_over told drained finished at_hand behind = record {
@@ -156,3 +158,22 @@ entry_lies_next at left entry entries ahead = record {
 -- the end mark alone, where no entry lies ahead
 pub end_lies_next : (at : Standing) (left : Option (List ℕ)) → at.place ≢ Ended → LieAhead at left [] [] → left ≡ Some (128 ∷ [])
 end_lies_next at left going ahead = ahead.spelled going
+
+-- its list fits, and no token of it was told
+pub list_lies_next : (at : Standing) (left : Option (List ℕ)) (entry : DictionaryEntry) (entries : List DictionaryEntry) (ahead : LieAhead at left [] (entry ∷ entries))
+    → PostingsFit at.heading.rows 0 entry.postings × AreDistinct (numbers_of_entries at.heading.rows (closed ahead.finished ahead.at_hand []) ++ numbers_of_postings at.heading.rows entry.postings)
+list_lies_next at left entry entries ahead =
+    let before : List DictionaryEntry = closed ahead.finished ahead.at_hand [] in
+    let begun : DictionaryEntry = entry_with entry.term [] in
+    let whole : AreWhole at.heading (closed before (Some begun) entry.postings ++ entries) = subst (AreWhole at.heading) (sym (closed-begun before entry.term entry.postings entries)) ahead.whole in
+    let none : numbers_of_entries at.heading.rows (closed before (Some begun) []) ≡ numbers_of_entries at.heading.rows before =
+    numbers_of_entries-push at.heading.rows before begun ∙ append-nil (numbers_of_entries at.heading.rows before) in (
+      all_fit at.heading before begun entry.postings entries whole,
+      subst (λ (numbers : List ℕ). AreDistinct (numbers ++ numbers_of_postings at.heading.rows entry.postings)) none (all_free at.heading before begun entry.postings entries whole),
+    )
+
+-- what is known of what is kept
+pub known_kept : (a b : Option (List ℕ)) (bytes : List ℕ) → Keeps a b → a ≡ Some bytes → b ≡ Some bytes
+known_kept None b bytes kept is = absurd (cc)
+known_kept (Some x) None bytes kept is = absurd kept
+known_kept (Some x) (Some y) bytes kept is = ap (λ (xs : List ℕ). Some xs) kept ∙ is

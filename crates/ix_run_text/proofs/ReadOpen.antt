@@ -10,7 +10,7 @@ use Rattle.ix_text.specs.Parts.{DictionaryEntry, Parts, row_of}
 use Rattle.ix_text.specs.PartsLaws.{IsLawfulTerm}
 use Rattle.ix_text.proofs.PartsLawful.{lawful_parts}
 use Rattle.ix_run_text.specs.Heads.{Heading, IsLawfulHeading, parts_with}
-use Rattle.ix_run_text.specs.Reading.{LieAhead, LieBehind, Looking, MayLieAhead, Standing, Told, bytes_ahead, heading_from}
+use Rattle.ix_run_text.specs.Reading.{LieAhead, LieBehind, Checked, MayLieAhead, Standing, Told, bytes_ahead, heading_from}
 use Rattle.ix_run_text.specs.RunText.{IsRunText, head_bytes, heading_bytes, run_layout, term_bytes}
 use Rattle.ix_run_text.specs.Sources.{AreWhole}
 use Rattle.ix_run_text.specs.declared.run_reader.Place.TheVariants.{Begun}
@@ -38,10 +38,10 @@ pub layout_parts : (first : ℕ) (parts : Parts) → run_layout first parts ≡ 
 unfolding run_layout head_bytes
 layout_parts first parts = append_assoc (heading_bytes (heading_from first parts)) (flat_map term_bytes parts.entries) (128 ∷ [])
 
-module _ (heading : Heading) (looking : Looking) (last : List ℕ) (none : last ≡ []) where
+module _ (heading : Heading) (checked : Checked) (last : List ℕ) (none : last ≡ []) where
   -- where it stands
   abbrev pub opened : Standing
-  opened = record { heading = heading; place = Begun; last = last; next = 0; documents = 0; bytes = 0; looking = looking }
+  opened = record { heading = heading; place = Begun; last = last; next = 0; documents = 0; bytes = 0; checked = checked }
 
   pub unread : IsLawfulHeading heading → Told opened [] → LieBehind opened [] None
   unread lawful held = record {

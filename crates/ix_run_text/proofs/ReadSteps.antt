@@ -11,7 +11,7 @@ use Rattle.ix_vbyte.specs.Gaps.{next_after}
 use Rattle.ix_vbyte.specs.Postings.{documents_of, list_bytes_from, posting_bytes}
 use Rattle.ix_vbyte.proofs.Gaps.{next_after-push}
 use Rattle.ix_run_text.specs.ReadPostings.{IsFree, PostingFits}
-use Rattle.ix_run_text.specs.Reading.{LieAhead, LieBehind, Looking, MayLieAhead, Standing, Told, bytes_ahead, last_text, term_at}
+use Rattle.ix_run_text.specs.Reading.{LieAhead, LieBehind, Checked, MayLieAhead, Standing, Told, bytes_ahead, last_text, term_at}
 use Rattle.ix_run_text.specs.RunText.{term_bytes}
 use Rattle.ix_run_text.specs.Sources.{AreWhole, closed, entry_with, extended}
 use Rattle.ix_run_text.specs.declared.run_reader.Place.{Place}
@@ -57,24 +57,24 @@ pub last_stays : (finished : List DictionaryEntry) (term : List ℕ) (one other 
 last_stays finished term one other = ap last_text (terms_push finished (entry_with term one) ∙ sym (terms_push finished (entry_with term other)))
 
 -- where it stands then that took a posting
-abbrev pub on : Standing → Posting → ℕ → ℕ → Looking → Standing
-on at posting documents bytes looking = record { heading = at.heading; place = at.place; last = at.last; next = posting.0 + 1; documents = documents; bytes = bytes; looking = looking }
+abbrev pub on : Standing → Posting → ℕ → ℕ → Checked → Standing
+on at posting documents bytes checked = record { heading = at.heading; place = at.place; last = at.last; next = posting.0 + 1; documents = documents; bytes = bytes; checked = checked }
 
 -- A reader that stands there takes this posting.
-pub record TakesPosting (at : Standing) (posting : Posting) (documents bytes : ℕ) (looking : Looking) (left after : Option (List ℕ)) : Type 0 where
+pub record TakesPosting (at : Standing) (posting : Posting) (documents bytes : ℕ) (checked : Checked) (left after : Option (List ℕ)) : Type 0 where
   pub here : at.place ≡ AtTerm
   pub counted : documents + 1 ≡ at.documents
   pub sized : bytes + length (posting_bytes (posting.0 + 1 - at.next) posting) ≡ at.bytes
   pub taken : Consumes left after (posting_bytes (posting.0 + 1 - at.next) posting)
   pub fits : PostingFits at.heading.rows at.next posting
   pub marked : (numbers : List ℕ) → Told at numbers → AreDistinct numbers
-      → IsFree at.heading.rows numbers posting × Told (on at posting documents bytes looking) (numbers ++ numbers_of_posting at.heading.rows posting)
+      → IsFree at.heading.rows numbers posting × Told (on at posting documents bytes checked) (numbers ++ numbers_of_posting at.heading.rows posting)
 
-module _ (at : Standing) (posting : Posting) (documents bytes : ℕ) (looking : Looking) where
+module _ (at : Standing) (posting : Posting) (documents bytes : ℕ) (checked : Checked) where
   abbrev there : Standing
-  there = on at posting documents bytes looking
+  there = on at posting documents bytes checked
 
-  module _ (left after : Option (List ℕ)) (takes : TakesPosting at posting documents bytes looking left after) where
+  module _ (left after : Option (List ℕ)) (takes : TakesPosting at posting documents bytes checked left after) where
     pub behind_more : (finished : List DictionaryEntry) (entry : DictionaryEntry) → LieBehind at finished (Some entry) → LieBehind there finished (Some (extended entry (posting ∷ [])))
     behind_more finished entry behind =
         let rows = at.heading.rows in
@@ -187,12 +187,12 @@ pub same_posting : (document : ℕ) (positions : List ℕ) (posting : Posting) �
 same_posting document positions posting one two = ap₂ (λ (d : ℕ) (ps : List ℕ). let made : Posting = (d, ps) in made) one two
 
 -- by what the call that takes it says
-pub takes_posting : (at : Standing) (posting : Posting) (taken : ℕ) (looking : Looking) (left after : Option (List ℕ)) → at.place ≡ AtTerm → 0 < at.documents
+pub takes_posting : (at : Standing) (posting : Posting) (taken : ℕ) (checked : Checked) (left after : Option (List ℕ)) → at.place ≡ AtTerm → 0 < at.documents
     → (taken ≡ length (posting_bytes (posting.0 + 1 - at.next) posting)) × (taken ≤ at.bytes) → Consumes left after (posting_bytes (posting.0 + 1 - at.next) posting)
     → PostingFits at.heading.rows at.next posting
-    → ((numbers : List ℕ) → Told at numbers → AreDistinct numbers → IsFree at.heading.rows numbers posting × Told (on at posting (at.documents - 1) (at.bytes - taken) looking) (numbers ++ numbers_of_posting at.heading.rows posting))
-    → TakesPosting at posting (at.documents - 1) (at.bytes - taken) looking left after
-takes_posting at posting taken looking left after here some size consumes fits marked = record {
+    → ((numbers : List ℕ) → Told at numbers → AreDistinct numbers → IsFree at.heading.rows numbers posting × Told (on at posting (at.documents - 1) (at.bytes - taken) checked) (numbers ++ numbers_of_posting at.heading.rows posting))
+    → TakesPosting at posting (at.documents - 1) (at.bytes - taken) checked left after
+takes_posting at posting taken checked left after here some size consumes fits marked = record {
   here = here;
   counted = omega arith;
   sized = (let one = size.0 in let within = size.1 in omega arith);
@@ -201,14 +201,14 @@ takes_posting at posting taken looking left after here some size consumes fits m
   marked = marked;
 }
 
-module _ (at : Standing) (posting : Posting) (documents bytes : ℕ) (looking : Looking) (left after : Option (List ℕ)) (takes : TakesPosting at posting documents bytes looking left after) where
+module _ (at : Standing) (posting : Posting) (documents bytes : ℕ) (checked : Checked) (left after : Option (List ℕ)) (takes : TakesPosting at posting documents bytes checked left after) where
   -- the posting that was taken is the one that lay ahead
   pub ahead_taken : (first : Posting) (rest : List Posting) (entries : List DictionaryEntry) → LieAhead at left (first ∷ rest) entries → posting ≡ first
-      → after ≡ Some (bytes_ahead (list_bytes_from (first.0 + 1) rest) entries) → LieAhead (on at posting documents bytes looking) after rest entries
+      → after ≡ Some (bytes_ahead (list_bytes_from (first.0 + 1) rest) entries) → LieAhead (on at posting documents bytes checked) after rest entries
   ahead_taken first rest entries ahead same known =
       let P : Posting → Type 0 = λ p. LieAhead at left (p ∷ rest) entries in
       let Q : Posting → Type 0 = λ p. after ≡ Some (bytes_ahead (list_bytes_from (p.0 + 1) rest) entries) in
-      ahead_on at posting documents bytes looking left after takes rest entries (subst P (sym same) ahead) (subst Q (sym same) known)
+      ahead_on at posting documents bytes checked left after takes rest entries (subst P (sym same) ahead) (subst Q (sym same) known)
 
   pub nothing_more : (first : Posting) (rest : List Posting) (entries : List DictionaryEntry) → LieAhead at left (first ∷ rest) entries → posting ≡ first
       → after ≡ Some (bytes_ahead (list_bytes_from (first.0 + 1) rest) entries) → documents ≡ 0 → 0 < bytes → ⊥

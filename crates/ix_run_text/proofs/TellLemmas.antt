@@ -1,7 +1,7 @@
--- Postings that are told from bytes whose tokens are marked.
-use Rattle.std.proofs.Common.{◌≡◌, ℕ, ◌+◌, ◌-◌, ◌^◌, ◌<◌, ◌≤◌, List, [], ◌∷◌, ◌++◌, Some, length, take, drop, get_or, refl, sym, ap, ap₂, ◌∙◌, subst, arith, append_assoc, take-append-drop}
+-- Postings that are decoded from a list that was checked.
+use Rattle.std.proofs.Common.{◌≡◌, ℕ, ◌+◌, ◌-◌, ◌^◌, ◌<◌, ◌≤◌, List, [], ◌∷◌, ◌++◌, length, take, drop, get_or, refl, sym, ap, ap₂, ◌∙◌, subst, arith, append_assoc, append-nil, take-append-drop}
 use Rattle.std.proofs.Math.Seq.{drop-append_seam}
-use Rattle.std.proofs.lemmas.List.{drop-drop, drop_more, take_all, take_more, length-append, length-drop}
+use Rattle.std.proofs.lemmas.List.{drop-drop, drop_more, take_all, take_more, length-append}
 use Rattle.std.proofs.lemmas.List.Elements.{Contains-get_or}
 use Rattle.std.proofs.lemmas.Option.{slice_get_within}
 use Rattle.ix_text.specs.Parts.{DocumentRow, Posting}
@@ -11,11 +11,11 @@ use Rattle.ix_vbyte.specs.Gaps.{Ascends, gaps_from, gaps_of}
 use Rattle.ix_vbyte.specs.Postings.{codes_of, posting_bytes}
 use Rattle.ix_vbyte.specs.ShortPostings.{BeginsWithShort}
 use Rattle.ix_vbyte.proofs.Gaps.{length-Ascends}
-use Rattle.ix_run_text.specs.Ahead.{TellsPosting}
+use Rattle.ix_run_text.specs.MarkedLists.{IsCutShort, TellsPosting}
 use Rattle.ix_run_text.specs.ReadPostings.{PostingFits}
 use Rattle.ix_run_text.specs.RunTextErrors.{IsRefusal}
 use Rattle.ix_run_text.specs.declared.run_text_error.RunTextError.{RunTextError}
-use Rattle.ix_run_text.proofs.MarkLemmas.{short_is}
+use Rattle.ix_run_text.proofs.MarkLemmas.{number_is}
 use Rattle.ix_run_text.proofs.PositionLemmas.{AreTaken, ascends_middle, taken_more, taken_none}
 use Rattle.ix_run_text.proofs.PostingLemmas.{positions_ascend, posting_fits}
 
@@ -24,21 +24,22 @@ use Rattle.ix_run_text.proofs.PostingLemmas.{positions_ascend, posting_fits}
 -- So many positions were told, these, and these bytes are left; the next position is not below `next`. Where positions stood that
 -- may, these are the first of them.
 pub record ToldSoFar (end count place : ℕ) (bytes rest : List ℕ) (next : ℕ) (read : List ℕ) : Type 0 where
-  pub taken : AreTaken (Some bytes) (Some rest) end next (length bytes - length rest) (length bytes) read
+  pub taken : AreTaken bytes rest end next read
   pub first : (all behind : List ℕ) → length all ≡ count → Ascends 0 end all → bytes ≡ codes_of (gaps_of all) ++ behind
       → (read ≡ take (length read) all) × (rest ≡ codes_of (gaps_from next (drop (length read) all)) ++ behind)
   pub counted : length read ≡ place
-  pub short : length rest ≤ length bytes
 
 pub told_none : (end count : ℕ) (bytes : List ℕ) → ToldSoFar end count 0 bytes bytes 0 []
-told_none end count bytes =
-    let none : 0 ≡ length bytes - length bytes = omega arith in
-    record {
-      taken = subst (λ (used : ℕ). AreTaken (Some bytes) (Some bytes) end 0 used (length bytes) []) none (taken_none (Some bytes) end (length bytes));
-      first = λ all behind counted up e. (refl, e);
-      counted = refl;
-      short = omega arith;
-    }
+told_none end count bytes = record { taken = taken_none bytes end; first = λ all behind counted up e. (refl, e); counted = refl }
+
+-- a number that comes first whole is not cut
+pub not_cut : {P : Type 0} (bytes code behind : List ℕ) (error : RunTextError) → bytes ≡ code ++ behind → IsCutShort bytes code error → P
+not_cut bytes code behind error e cut = absurd (let less = cut.1 in omega (arith, ap length e, length-append code behind, less))
+
+number_first : (bytes : List ℕ) (found size number : ℕ) (rest : List ℕ) → BeginsWithShort bytes found size → bytes ≡ code_of number ++ rest → (found ≡ number) × (drop size bytes ≡ rest)
+number_first bytes found size number rest begins e =
+    let is = number_is bytes [] found size number rest begins.spelled (append-nil bytes ∙ e) in
+    (is.0, sym (append-nil (drop size bytes)) ∙ is.1)
 
 -- the position that stands next
 record IsNext (end next : ℕ) (rest : List ℕ) (x : ℕ) (behind : List ℕ) : Type 0 where
@@ -89,7 +90,7 @@ module _ (end count place : ℕ) (bytes rest : List ℕ) (next : ℕ) (read : Li
         let is = next_stands all behind counted up e in
         let above = is.above in
         let below = is.below in
-        let same = short_is rest gap size (x + 1 - next) (codes_of (gaps_from (x + 1) (drop (length read + 1) all)) ++ behind) begins is.spelled in
+        let same = number_first rest gap size (x + 1 - next) (codes_of (gaps_from (x + 1) (drop (length read + 1) all)) ++ behind) begins is.spelled in
         omega (arith, above, below, same.0)
 
     module _ (low : gap ≤ end - next) where
@@ -102,18 +103,6 @@ module _ (end count place : ℕ) (bytes rest : List ℕ) (next : ℕ) (read : Li
       spelled : rest ≡ code_of (position + 1 - next) ++ drop size rest
       spelled = begins.spelled ∙ ap (λ (n : ℕ). code_of n ++ drop size rest) same_gap
 
-      sized : size ≡ length (code_of (position + 1 - next))
-      sized = begins.sized ∙ ap (λ (n : ℕ). length (code_of n)) same_gap
-
-      inside : size ≤ length rest
-      inside = omega (arith, ap length spelled, length-append (code_of (position + 1 - next)) (drop size rest), sized)
-
-      left_is : length (drop size rest) ≡ length rest - size
-      left_is = length-drop size rest
-
-      more : length bytes - length rest + size ≡ length bytes - length (drop size rest)
-      more = (let short = so_far.short in omega (arith, left_is, inside, short))
-
       first_of : (all behind : List ℕ) → length all ≡ count → Ascends 0 end all → bytes ≡ codes_of (gaps_of all) ++ behind
           → (read ++ position ∷ [] ≡ take (length (read ++ position ∷ [])) all) × (drop size rest ≡ codes_of (gaps_from (position + 1) (drop (length (read ++ position ∷ [])) all)) ++ behind)
       first_of all behind counted up e =
@@ -121,7 +110,7 @@ module _ (end count place : ℕ) (bytes rest : List ℕ) (next : ℕ) (read : Li
           let is = next_stands all behind counted up e in
           let above = is.above in
           let some = begins.some in
-          let known = short_is rest gap size (x + 1 - next) (codes_of (gaps_from (x + 1) (drop (length read + 1) all)) ++ behind) begins is.spelled in
+          let known = number_first rest gap size (x + 1 - next) (codes_of (gaps_from (x + 1) (drop (length read + 1) all)) ++ behind) begins is.spelled in
           let same : position ≡ x = omega (arith, known.0, above, some) in
           let lt : length read < length all = within all behind counted up e in
           let long : length (read ++ position ∷ []) ≡ length read + 1 = length-append read (position ∷ []) in (
@@ -131,13 +120,9 @@ module _ (end count place : ℕ) (bytes rest : List ℕ) (next : ℕ) (read : Li
 
       pub told_more : ToldSoFar end count (place + 1) bytes (drop size rest) (position + 1) (read ++ position ∷ [])
       told_more = record {
-        taken =
-            subst (λ (n : ℕ). AreTaken (Some bytes) (Some (drop size rest)) end (position + 1) n (length bytes) (read ++ position ∷ [])) more
-            (taken_more (Some bytes) (Some rest) (Some (drop size rest)) end next (length bytes - length rest) (length bytes) read position size so_far.taken spelled sized
-            (let short = so_far.short in omega (arith, inside, short)) (omega arith) (let some = begins.some in omega (arith, low, some)));
+        taken = taken_more bytes rest (drop size rest) end next read position so_far.taken spelled (omega arith) (let some = begins.some in omega (arith, low, some));
         first = first_of;
         counted = (let known = so_far.counted in omega (arith, known, length-append read (position ∷ [])));
-        short = (let short = so_far.short in omega (arith, left_is, short));
       }
 
 -- the bytes begin with so many positions, these, in so many of them
@@ -147,12 +132,18 @@ AreTold end count bytes size positions =
 
 -- all were told
 module _ (end count place : ℕ) (bytes rest : List ℕ) (next : ℕ) (read : List ℕ) (so_far : ToldSoFar end count place bytes rest next read) (full : place ≡ count) where
+  size_is : length bytes - length rest ≡ length (codes_of (gaps_of read))
+  size_is = omega (arith, ap length so_far.taken.taken, length-append (codes_of (gaps_of read)) rest)
+
   pub told_all : AreTold end count bytes (length bytes - length rest) read
   told_all =
       let spells : bytes ≡ codes_of (gaps_of read) ++ rest = so_far.taken.taken in
       let left : drop (length bytes - length rest) bytes ≡ rest =
-      ap (λ (n : ℕ). drop n bytes) so_far.taken.size ∙ ap (drop (length (codes_of (gaps_of read)))) spells ∙ drop-append_seam (codes_of (gaps_of read)) rest in
-      (so_far.taken.ascend, (so_far.counted ∙ full, (spells ∙ ap (λ (more : List ℕ). codes_of (gaps_of read) ++ more) (sym left), so_far.taken.size)))
+      ap (λ (n : ℕ). drop n bytes) size_is ∙ ap (drop (length (codes_of (gaps_of read)))) spells ∙ drop-append_seam (codes_of (gaps_of read)) rest in
+      (so_far.taken.ascend, (so_far.counted ∙ full, (spells ∙ ap (λ (more : List ℕ). codes_of (gaps_of read) ++ more) (sym left), size_is)))
+
+  pub told_short : length rest ≤ length bytes
+  told_short = omega (arith, ap length so_far.taken.taken, length-append (codes_of (gaps_of read)) rest)
 
   pub told_are : (all behind : List ℕ) → length all ≡ count → Ascends 0 end all → bytes ≡ codes_of (gaps_of all) ++ behind → read ≡ all
   told_are all behind counted up e =

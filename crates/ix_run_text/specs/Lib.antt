@@ -1,4 +1,3 @@
-pub mod Ahead
 pub mod CodeFaults
 pub mod Faults
 pub mod Heads

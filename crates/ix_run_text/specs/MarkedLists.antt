@@ -8,8 +8,11 @@ use Rattle.ix_text.specs.TokenTables.{HasTokens}
 use Rattle.ix_text.specs.declared.token_table.TokenTable.{TokenTable}
 use Rattle.ix_vbyte.specs.Code.{code_of}
 use Rattle.ix_vbyte.specs.Gaps.{Ascends, gaps_of, next_after}
-use Rattle.ix_vbyte.specs.Postings.{ArePostings, codes_of, documents_of, list_bytes, posting_bytes, shifted}
+use Rattle.ix_vbyte.specs.Postings.{ArePostings, codes_of, documents_of, list_bytes, list_bytes_from, posting_bytes, shifted}
+use Rattle.ix_vbyte.specs.declared.errors.VbError.TheVariants.{Cut}
 use Rattle.ix_run_text.specs.ReadPostings.{IsFree, PostingFits, numbers_at}
+use Rattle.ix_run_text.specs.declared.run_text_error.RunTextError.{RunTextError}
+use Rattle.ix_run_text.specs.declared.run_text_error.RunTextError.TheVariants.{Number}
 
 -- postings that may come next in a list, one behind another
 abbrev pub PostingsFit : List DocumentRow → ℕ → List Posting → Type 0
@@ -56,17 +59,44 @@ pub record MarksList (rows : List DocumentRow) (bytes : List ℕ) (size document
   pub marked : (numbers : List ℕ) → HoldsNumbers old numbers → AreDistinct numbers
       → AreDistinct (numbers ++ numbers_of_postings rows postings) × HoldsNumbers new (numbers ++ numbers_of_postings rows postings)
 
--- Such a list stands first, of tokens that are not marked.
+-- The first bytes, `size` of them, are those of such a list, or begin one, of tokens that are not marked.
 pub record ListStands (rows : List DocumentRow) (bytes : List ℕ) (size documents : ℕ) (marks : TokenMarks) : Type 0 where
   pub numbers : List ℕ
   pub held : HoldsNumbers marks numbers
   pub postings : List Posting
-  pub behind : List ℕ
+  pub missing : List ℕ
   pub fit : PostingsFit rows 0 postings
   pub free : AreDistinct (numbers ++ numbers_of_postings rows postings)
   pub counted : length postings ≡ documents
-  pub sized : length (list_bytes postings) ≡ size
-  pub spelled : bytes ≡ list_bytes postings ++ behind
+  pub spelled : take size bytes ++ missing ≡ list_bytes postings
+
+-- The bytes end within these: an error of their end alone comes.
+abbrev pub IsCutShort : List ℕ → List ℕ → RunTextError → Type 0
+IsCutShort bytes whole error = (error ≡ Number Cut) × (length bytes < length whole)
+
+-- So many postings that may come next are the first of the bytes, in so many of them, and none of the numbers is one of their
+-- tokens; other bytes come behind them.
+pub record ListLies (rows : List DocumentRow) (next documents size : ℕ) (bytes numbers : List ℕ) (postings : List Posting) (behind : List ℕ) : Type 0 where
+  pub fit : PostingsFit rows next postings
+  pub counted : length postings ≡ documents
+  pub sized : length (list_bytes_from next postings) ≡ size
+  pub spelled : bytes ≡ list_bytes_from next postings ++ behind
+  pub free : AreDistinct (numbers ++ numbers_of_postings rows postings)
+
+-- Such postings are the first of the bytes, one above the last of them is `after`, and exactly their tokens and those of the numbers
+-- are marked.
+pub record IsChecked (rows : List DocumentRow) (marks : TokenMarks) (after next documents size : ℕ) (bytes numbers : List ℕ) : Type 0 where
+  pub postings : List Posting
+  pub behind : List ℕ
+  pub lies : ListLies rows next documents size bytes numbers postings behind
+  pub last : after ≡ next_after next (documents_of postings)
+  pub marked : HoldsNumbers marks (numbers ++ numbers_of_postings rows postings)
+
+-- The bytes begin with a posting of this document at these positions, in so many of them, that may come next.
+pub record TellsPosting (rows : List DocumentRow) (next : ℕ) (bytes : List ℕ) (document size : ℕ) (positions : List ℕ) : Type 0 where
+  pub fits : PostingFits rows next (document, positions)
+  pub spelled : bytes ≡ posting_bytes (document + 1 - next) (document, positions) ++ drop size bytes
+  pub sized : size ≡ length (posting_bytes (document + 1 - next) (document, positions))
 
 -- The bytes are the list of these postings, of which there is one; their documents may be counted from another number, behind a
 -- document one below `next`.

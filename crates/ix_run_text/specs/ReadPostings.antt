@@ -1,5 +1,5 @@
 -- A posting that may come next in a list of a run text, and the positions of one.
-use Rattle.std.specs.Prelude.{◌≡◌, ℕ, ◌+◌, ◌^◌, ◌≤◌, List, ◌++◌, length, map, sum_by, Option, Some}
+use Rattle.std.specs.Prelude.{◌≡◌, ℕ, ◌+◌, ◌^◌, ◌≤◌, List, ◌++◌, length, map, sum_by}
 use Rattle.ix_text.specs.Parts.{DocumentRow, Posting}
 use Rattle.ix_text.specs.TokenLaws.{IsPostingIn}
 use Rattle.ix_text.specs.TokenMarks.{HoldsNumbers, room}
@@ -31,11 +31,10 @@ pub record HaveRoom (tokens : TokenTable) (marks : TokenMarks) : Type 0 where
 abbrev pub numbers_at : ℕ → List ℕ → List ℕ
 numbers_at first positions = map (λ position. first + position) positions
 
--- So many positions stand next, in at most so many bytes, below the end; none of their tokens is marked yet.
-pub record StandNext (first end count limit : ℕ) (marks : TokenMarks) (known : Option (List ℕ)) (numbers positions rest : List ℕ) : Type 0 where
+-- So many positions stand next, below the end; none of their tokens is marked yet.
+pub record StandNext (first end count : ℕ) (marks : TokenMarks) (bytes numbers positions rest : List ℕ) : Type 0 where
   pub held : HoldsNumbers marks numbers
   pub counted : length positions ≡ count
   pub ascend : Ascends 0 end positions
   pub free : AreDistinct (numbers ++ numbers_at first positions)
-  pub short : length (codes_of (gaps_of positions)) ≤ limit
-  pub spelled : known ≡ Some (codes_of (gaps_of positions) ++ rest)
+  pub spelled : bytes ≡ codes_of (gaps_of positions) ++ rest

@@ -4,27 +4,25 @@ use Rattle.ix_text.specs.Parts.{DictionaryEntry, DocumentRow, Parts, Posting, te
 use Rattle.ix_text.specs.TokenNumbers.{AreDistinct, numbers_of_entries}
 use Rattle.ix_text.specs.declared.token_marks.TokenMarks.{TokenMarks}
 use Rattle.ix_vbyte.specs.Gaps.{next_after}
-use Rattle.ix_vbyte.specs.Postings.{documents_of, list_bytes_from, posting_bytes}
-use Rattle.ix_run_text.specs.Ahead.{AreLooked, IsLooked}
+use Rattle.ix_vbyte.specs.Postings.{documents_of, list_bytes_from, shifted}
 use Rattle.ix_run_text.specs.Heads.{Heading, heading_of}
-use Rattle.ix_run_text.specs.Inputs.{Passes, bytes_held, known_left, passed}
+use Rattle.ix_run_text.specs.Inputs.{bytes_held, known_left}
+use Rattle.ix_run_text.specs.MarkedLists.{IsChecked}
 use Rattle.ix_run_text.specs.RunText.{term_bytes}
 use Rattle.ix_run_text.specs.Sources.{AreWhole, IsLawfulFront, closed, extended}
-use Rattle.ix_run_text.specs.declared.ahead.Looked.{Looked}
 use Rattle.ix_run_text.specs.declared.run_reader.Place.{Place}
 use Rattle.ix_run_text.specs.declared.run_reader.Place.TheVariants.{AtTerm, Ended, Failed}
 use Rattle.ix_run_text.specs.declared.run_reader.RunReader.{RunReader}
 
--- What a reader has looked at: the tokens that it marked; what it found of the list at hand, where it has looked at that; what it
--- found of the entries behind it; and the bytes that are buffered.
-pub record Looking : Type 0 where
+-- What a reader knows of the current list: the tokens that it marked; one above the last document; and the bytes that are buffered,
+-- with the list's in front.
+pub record Checked : Type 0 where
   pub marks : TokenMarks
-  pub at_hand : Option Looked
-  pub ahead : List Looked
+  pub after : ℕ
   pub held : List ℕ
 
--- Where a reader stands: the term that it read last, or none; one above the last document given of it; how many of its
--- postings are left, and their bytes; and what it has looked at.
+-- The state of a reader: the term that it read last, or none; one above the last document given of it; how many of its postings
+-- are left, and their bytes; and what it knows of its list.
 pub record Standing : Type 0 where
   pub heading : Heading
   pub place : Place
@@ -32,10 +30,10 @@ pub record Standing : Type 0 where
   pub next : ℕ
   pub documents : ℕ
   pub bytes : ℕ
-  pub looking : Looking
+  pub checked : Checked
 
-abbrev pub looking_of : {R : Type 0} → RunReader R → Looking
-looking_of reader = record { marks = reader.marks; at_hand = reader.looked; ahead = drop reader.reached reader.ahead.items; held = bytes_held reader.input }
+abbrev pub checked_of : {R : Type 0} → RunReader R → Checked
+checked_of reader = record { marks = reader.marks; after = reader.after; held = bytes_held reader.input }
 
 abbrev pub standing : {R : Type 0} → RunReader R → Standing
 standing reader = record {
@@ -45,17 +43,13 @@ standing reader = record {
   next = reader.next;
   documents = reader.documents;
   bytes = reader.bytes;
-  looking = looking_of reader;
+  checked = checked_of reader;
 }
 
--- The numbers are those of exactly the tokens that were told: with those of what was looked at they are the marked ones. A list
--- that was not looked at is the last of what is buffered that anything is known of.
-abbrev pub ToldBy : List DocumentRow → Looking → ℕ → ℕ → ℕ → List ℕ → Option Looked → Type 0
-ToldBy rows looking next documents bytes numbers None = (0 < documents → looking.ahead ≡ []) × AreLooked rows looking.marks looking.ahead looking.held numbers
-ToldBy rows looking next documents bytes numbers (Some looked) = IsLooked rows looked next documents bytes looking.held numbers (AreLooked rows looking.marks looking.ahead)
-
+-- The numbers are those of the tokens of all postings that were given: with those of the list that is left they are exactly the
+-- marked ones.
 abbrev pub Told : Standing → List ℕ → Type 0
-Told at numbers = ToldBy at.heading.rows at.looking at.next at.documents at.bytes numbers at.looking.at_hand
+Told at numbers = IsChecked at.heading.rows at.checked.marks at.checked.after at.next at.documents at.bytes at.checked.held numbers
 
 -- the term at hand, if one is; where a call was refused, the text that was read last
 abbrev pub term_at : Place → List ℕ → Option (List ℕ)
@@ -164,27 +158,18 @@ pub record GivesFirst {R : Type 0} (remaining : R → Option (List ℕ)) (reader
 abbrev pub heading_from : ℕ → Parts → Heading
 heading_from first parts = record { first = first; stop = parts.stop; rows = parts.rows }
 
--- Postings are left of the list at hand, none of it was taken, and its bytes are buffered.
+-- Postings are left of the current list, none of it was taken, and its bytes are buffered.
 pub record IsHeldWhole {R : Type 0} (reader : RunReader R) : Type 0 where
   pub some : 0 < reader.documents
   pub fresh : reader.next ≡ 0
-  pub held : reader.bytes ≤ (passed reader.input).left
+  pub held : reader.bytes ≤ length (bytes_held reader.input)
 
--- The reader stands where it stood, and the same bytes are before it.
+-- The reader is in the same state, and the same bytes are before it.
 pub record StandsStill {R : Type 0} (old new : RunReader R) : Type 0 where
   pub stands : standing new ≡ standing old
   pub input : new.input ≡ old.input
 
--- A reader that may give and yield what another may, and faces what it faces.
-pub record StandsAlike {R : Type 0} (remaining : R → Option (List ℕ)) (old new : RunReader R) : Type 0 where
-  pub yielded : (postings : List Posting) (entries : List DictionaryEntry) → MayYield remaining new postings entries → MayYield remaining old postings entries
-  pub given : (finished : List DictionaryEntry) (at_hand : Option DictionaryEntry) → HasRead old finished at_hand → HasRead new finished at_hand
-  pub faced : (postings : List Posting) (entries : List DictionaryEntry) → Faces remaining old postings entries → Faces remaining new postings entries
-
--- From the old state to the new one a reader took the bytes of this posting from its list, in which its document is
--- counted from the one before.
-pub record TookPosting {R : Type 0} (old new : RunReader R) (posting : Posting) : Type 0 where
-  pub above : old.next ≤ posting.0
-  pub next : new.next ≡ posting.0 + 1
-  pub sized : new.bytes + length (posting_bytes (posting.0 + 1 - old.next) posting) ≡ old.bytes
-  pub passed : Passes (passed old.input) (passed new.input) (posting_bytes (posting.0 + 1 - old.next) posting)
+-- The reader gave the list of exactly the postings that lay ahead, and the entries behind them lie ahead.
+pub record GivesAll {R : Type 0} (remaining : R → Option (List ℕ)) (reader : RunReader R) (first next : ℕ) (before after : List ℕ) (postings : List Posting) (entries : List DictionaryEntry) : Type 0 where
+  pub coded : after ≡ before ++ list_bytes_from next (shifted first postings)
+  pub ahead : Faces remaining reader [] entries

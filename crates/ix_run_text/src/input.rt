@@ -1,15 +1,14 @@
 //! What is left of a reader, buffered.
-ghost use Rattle.std.specs.Prelude.{◌≡◌, ◌≢◌, ◌^◌, ◌<◌, ◌≤◌, ◌++◌, ◌+◌, List, [], ℕ, length, take, drop, vec_len, ◌∷◌, ◌↔◌, IfOk, IfErr, IfNone, IfSome, IsTrue, OnOk, MatchBool};
+ghost use Rattle.std.specs.Prelude.{◌≡◌, ◌<◌, ◌≤◌, ◌++◌, ◌+◌, List, ℕ, length, take, drop, vec_len, IfOk, IfErr, IfNone, IfSome, OnErr, OnOk, MatchBool};
 ghost use Rattle.std.specs.Io.{ReadsAtMost};
 ghost use Rattle.std.specs.Io.KnownBytes.{Consumes, IsAtEnd, Keeps};
 ghost use Rattle.std.specs.Option.{option_to_list};
 ghost use Rattle.ix_vbyte.specs.Code.{code_of};
-ghost use Rattle.ix_vbyte.specs.ShortPostings.{single_bytes};
 ghost use Rattle.ix_run_text.specs.CodeFaults.{IsCodeFault, IsTextFault};
-ghost use Rattle.ix_run_text.specs.declared.run_text_error.RunTextError.TheVariants.{Memory, Read as ReadRefused};
+ghost use Rattle.ix_run_text.specs.declared.run_text_error.RunTextError.TheVariants.{Read as ReadRefused};
 
 use crate::RunTextError;
-use ix_vbyte::{ShortPosting, VbError, decode, short_number, short_posting};
+use ix_vbyte::{VbError, decode};
 use std::alloc::{AllocError, Global};
 use std::io::{ErrorKind, Read};
 
@@ -26,11 +25,10 @@ pub(crate) struct Input<R> {
     ghost ordered: { start ≤ end },
     ghost within: { end ≤ vec_len buffer },
     ghost room: { 0 < vec_len buffer },
-    ghost narrow: { vec_len buffer < 2 ^ 32 },
 }
 
 impl<R: Read> Input<R> {
-    ghost use Rattle.ix_run_text.specs.Inputs.{EndsWith, FillsIfEmpty, Passes, bytes_held, known_left, passed};
+    ghost use Rattle.ix_run_text.specs.Inputs.{BeginsWith, bytes_held, known_left};
 
     /// The input that has what the reader has.
     pub(crate) fn new(alloc: Global, reader: R) -> Result<Input<R>, AllocError>
@@ -53,7 +51,6 @@ impl<R: Read> Input<R> {
         ensures has { IfOk result (λ has.
             MatchBool has (self.new.start < self.new.end)
             (IsAtEnd (known_left R.remaining self.new))) }
-        ensures passed { OnOk result (FillsIfEmpty (passed self.old) (passed self.new)) }
         ensures refused { IfErr result (λ error. error ≡ ReadRefused) }
     {
         if self.start < self.end {
@@ -72,8 +69,6 @@ impl<R: Read> Input<R> {
             (option_to_list byte)) }
         ensures end { IfOk result (λ byte.
             IfNone byte (IsAtEnd (known_left R.remaining self.new))) }
-        ensures passed { IfOk result (λ found. IfSome found (λ byte.
-            Passes (passed self.old) (passed self.new) (byte ∷ []))) }
         ensures refused { IfErr result (λ error. error ≡ ReadRefused) }
     {
         if !self.has_byte()? {
@@ -84,125 +79,19 @@ impl<R: Read> Input<R> {
         Ok(Some(byte))
     }
 
-    /// Takes a code of one byte, where one of a number that is not 0 is buffered, and answers that number. 0: such a
-    /// code does not stand next, or `limit` is 0, and nothing was taken.
+    /// Takes a code of at most `limit` bytes. Returns its number and how many bytes it has.
     ///
-    /// Almost all gaps between documents and numbers of positions are such: they are read in the caller, without a call and
-    /// without a `Result`.
-    #[inline(always)]
-    pub(crate) fn short_gap(&mut self, limit: usize) -> u32
-        ensures taken { 0 < result
-            → Consumes (known_left R.remaining self.old) (known_left R.remaining self.new)
-            (code_of result) }
-        ensures size { 0 < result → (length (code_of result) ≡ 1) × (0 < limit) }
-        ensures passed { 0 < result
-            → Passes (passed self.old) (passed self.new) (code_of result) }
-        ensures kept { result ≡ 0 → known_left R.remaining self.new
-            ≡ known_left R.remaining self.old }
-        ensures same { result ≡ 0 → passed self.new ≡ passed self.old }
-    {
-        let start = self.start;
-        if start < self.end && 0 < limit {
-            let byte = self.buffer[start];
-            if byte > 128 {
-                self.start = start + 1;
-                return u32::from(byte) - 128;
-            }
-        }
-        0
-    }
-
-    /// Takes a code of one byte or two, where one of a number that is not 0 is buffered, and answers that number and
-    /// how many bytes it has. A number of 0: such a code does not stand next, or `limit` is below its bytes, and
-    /// nothing was taken.
-    #[inline(always)]
-    pub(crate) fn short_number(&mut self, limit: usize) -> (u32, usize)
-        ensures taken { 0 < result.0
-            → Consumes (known_left R.remaining self.old) (known_left R.remaining self.new)
-            (code_of result.0) }
-        ensures size { 0 < result.0 → (result.1 ≡ length (code_of result.0)) × (result.1 ≤ limit) }
-        ensures passed { 0 < result.0
-            → Passes (passed self.old) (passed self.new) (code_of result.0) }
-        ensures kept { result.0 ≡ 0 → known_left R.remaining self.new
-            ≡ known_left R.remaining self.old }
-        ensures same { result.0 ≡ 0 → passed self.new ≡ passed self.old }
-    {
-        match short_number(&self.buffer[self.start..self.end]) {
-            Some((number, bytes)) if bytes <= limit => {
-                self.start += bytes;
-                (number, bytes)
-            }
-            _ => (0, 0),
-        }
-    }
-
-    /// Takes a posting of one position whose gaps have short codes, where it is buffered with a byte or more behind it
-    /// and has at most `limit` bytes. None: nothing was taken.
-    ///
-    /// Four postings of five are such: they are read in the caller, and what is left is set once.
-    #[inline(always)]
-    pub(crate) fn short_posting(&mut self, limit: usize) -> Option<ShortPosting>
-        ensures taken { IfSome result (λ posting.
-            Consumes (known_left R.remaining self.old) (known_left R.remaining self.new)
-            (single_bytes posting.gap posting.position_gap)) }
-        ensures size { IfSome result (λ posting.
-            (posting.size ≡ length (single_bytes posting.gap posting.position_gap))
-            × (posting.size ≤ limit)) }
-        ensures some { IfSome result (λ posting. (0 < posting.gap) × (0 < posting.position_gap)) }
-        ensures passed { IfSome result (λ posting. Passes (passed self.old) (passed self.new)
-            (single_bytes posting.gap posting.position_gap)) }
-        ensures kept { IfNone result (known_left R.remaining self.new
-            ≡ known_left R.remaining self.old) }
-        ensures same { IfNone result (passed self.new ≡ passed self.old) }
-    {
-        match short_posting(&self.buffer[self.start..self.end]) {
-            Some(posting) if posting.size <= limit => {
-                self.start += posting.size;
-                Some(posting)
-            }
-            _ => None,
-        }
-    }
-
-    /// Takes a code of at most `limit` bytes, and answers its number and how many bytes it has.
-    ///
-    /// `ListLength` where that many bytes do not end it; `Number` where it is faulty, or the input ends inside it.
-    ///
-    /// Almost all codes have one or two bytes that are buffered: those are read in the caller, without a call.
-    #[inline(always)]
+    /// # Errors
+    /// `ListLength` if that many bytes do not end it; `Number` if it is faulty, or the input ends inside it; `Read`.
+    #[inline]
     pub(crate) fn code(&mut self, limit: usize) -> Result<(u32, usize), RunTextError>
         ensures taken { IfOk result (λ found.
             Consumes (known_left R.remaining self.old) (known_left R.remaining self.new)
             (code_of found.0)) }
         ensures size { IfOk result (λ found. (found.1 ≡ length (code_of found.0))
             × (found.1 ≤ limit)) }
-        ensures passed { IfOk result (λ found.
-            Passes (passed self.old) (passed self.new) (code_of found.0)) }
         ensures fault { IfErr result (λ error.
             IfSome (known_left R.remaining self.old) (λ bytes. IsCodeFault limit bytes error)) }
-        ensures sparing { IfErr result (λ error. error ≢ Memory) }
-    {
-        let short = self.short_number(limit);
-        if short.0 > 0 {
-            return Ok(short);
-        }
-        self.code_by_decode(limit)
-    }
-
-    /// The same of a code of any length. Few codes come here, so it stays a call.
-    #[cold]
-    #[inline(never)]
-    fn code_by_decode(&mut self, limit: usize) -> Result<(u32, usize), RunTextError>
-        ensures taken { IfOk result (λ found.
-            Consumes (known_left R.remaining self.old) (known_left R.remaining self.new)
-            (code_of found.0)) }
-        ensures size { IfOk result (λ found. (found.1 ≡ length (code_of found.0))
-            × (found.1 ≤ limit)) }
-        ensures passed { IfOk result (λ found.
-            Passes (passed self.old) (passed self.new) (code_of found.0)) }
-        ensures fault { IfErr result (λ error.
-            IfSome (known_left R.remaining self.old) (λ bytes. IsCodeFault limit bytes error)) }
-        ensures sparing { IfErr result (λ error. error ≢ Memory) }
     {
         match decode(&self.buffer[self.start..self.end]) {
             Ok((number, count)) if count <= limit => {
@@ -213,19 +102,15 @@ impl<R: Read> Input<R> {
         }
     }
 
-    /// The same, where the code is not whole in the buffer, or is faulty: a fault is found at its byte, so before a
-    /// read behind it.
+    /// The same, if the code is not whole in the buffer, or is faulty: a fault is found at its byte, before a read behind it.
     fn code_by_bytes(&mut self, limit: usize) -> Result<(u32, usize), RunTextError>
         ensures taken { IfOk result (λ found.
             Consumes (known_left R.remaining self.old) (known_left R.remaining self.new)
             (code_of found.0)) }
         ensures size { IfOk result (λ found. (found.1 ≡ length (code_of found.0))
             × (found.1 ≤ limit)) }
-        ensures passed { IfOk result (λ found.
-            Passes (passed self.old) (passed self.new) (code_of found.0)) }
         ensures fault { IfErr result (λ error.
             IfSome (known_left R.remaining self.old) (λ bytes. IsCodeFault limit bytes error)) }
-        ensures sparing { IfErr result (λ error. error ≢ Memory) }
     {
         let mut seen = [0; 6];
         for place in 0..6 {
@@ -246,27 +131,6 @@ impl<R: Read> Input<R> {
         Err(RunTextError::Number(VbError::TooBig))
     }
 
-    /// Whether so many bytes are buffered.
-    #[inline(always)]
-    pub(crate) fn holds(&self, count: usize) -> bool
-        ensures { IsTrue result ↔ count ≤ (passed self.now).left }
-    {
-        count <= self.end - self.start
-    }
-
-    /// The bytes that were taken last, so many, where they are all still buffered.
-    #[inline(always)]
-    pub(crate) fn behind(&self, count: usize) -> Option<&[u8]>
-        ensures last { IfSome result (λ bytes. EndsWith (passed self.now).taken bytes.now
-            × (length bytes.now ≡ count)) }
-        ensures none { IfNone result (length (passed self.now).taken < count) }
-    {
-        if count > self.start {
-            return None;
-        }
-        Some(&self.buffer[self.start - count..self.start])
-    }
-
     /// The bytes that are buffered and were not taken. Nothing is taken.
     #[inline(always)]
     pub(crate) fn held(&self) -> &[u8]
@@ -275,17 +139,86 @@ impl<R: Read> Input<R> {
         &self.buffer[self.start..self.end]
     }
 
-    /// Takes so many bytes, which are all buffered, without a look at them.
+    /// Takes the first `count` of the buffered bytes, of which there are that many.
     #[inline(always)]
     pub(crate) fn pass(&mut self, count: usize)
-        requires { count ≤ (passed self.old).left }
+        requires { count ≤ length (bytes_held self.old) }
         ensures taken { Consumes (known_left R.remaining self.old) (known_left R.remaining self.new)
             (take count (bytes_held self.old)) }
         ensures held { bytes_held self.new ≡ drop count (bytes_held self.old) }
-        ensures passed { Passes (passed self.old) (passed self.new)
-            (take count (bytes_held self.old)) }
     {
         self.start += count;
+    }
+
+    /// Reads on until `count` bytes are buffered. The buffer grows as bytes come, in pieces of 64 KiB at most. After an error the
+    /// bytes that came are buffered.
+    ///
+    /// # Errors
+    /// `Number(Cut)` if the input ends before; `Read`; `Memory`.
+    pub(crate) fn fill(&mut self, count: usize) -> Result<(), RunTextError>
+        ensures kept { OnOk result (Keeps (known_left R.remaining self.old)
+            (known_left R.remaining self.new)) }
+        ensures came { IfSome (known_left R.remaining self.old) (λ bytes.
+            BeginsWith (bytes_held self.new) bytes) }
+        ensures held { OnOk result (count ≤ length (bytes_held self.new)) }
+        ensures short { OnErr result (length (bytes_held self.new) < count) }
+        ensures fault { IfErr result (λ error.
+            IfSome (known_left R.remaining self.old) (λ bytes. IsTextFault count bytes error)) }
+    {
+        while self.held().len() < count {
+            self.read_on()?;
+        }
+        Ok(())
+    }
+
+    /// Buffers some bytes more, at least one.
+    ///
+    /// # Errors
+    /// `Number(Cut)` if there is none; `Read`; `Memory`.
+    fn read_on(&mut self) -> Result<(), RunTextError>
+        ensures kept { OnOk result (Keeps (known_left R.remaining self.old)
+            (known_left R.remaining self.new)) }
+        ensures came { IfSome (known_left R.remaining self.old) (λ bytes.
+            BeginsWith (bytes_held self.new) bytes) }
+        ensures more { OnOk result (length (bytes_held self.old)
+            < length (bytes_held self.new)) }
+        ensures same { OnErr result (bytes_held self.new ≡ bytes_held self.old) }
+        ensures fault { IfErr result (λ error. IfSome (known_left R.remaining self.old) (λ bytes.
+            IsTextFault (length (bytes_held self.old) + 1) bytes error)) }
+    {
+        self.make_room()?;
+        let count = read_some(&mut self.reader, &mut self.buffer[self.end..])?;
+        if count == 0 {
+            return Err(RunTextError::Number(VbError::Cut));
+        }
+        self.end += count;
+        Ok(())
+    }
+
+    /// Makes room behind the buffered bytes. The buffer grows only if it is full of them.
+    fn make_room(&mut self) -> Result<(), AllocError>
+        ensures reader { self.new.reader ≡ self.old.reader }
+        ensures held { bytes_held self.new ≡ bytes_held self.old }
+        ensures room { OnOk result (self.new.end < vec_len self.new.buffer) }
+    {
+        self.move_down();
+        if self.end == self.buffer.len() {
+            self.buffer.resize(self.end + BUFFER_BYTES, 0)?;
+        }
+        Ok(())
+    }
+
+    /// Moves the buffered bytes to the front of the buffer.
+    fn move_down(&mut self)
+        ensures reader { self.new.reader ≡ self.old.reader }
+        ensures held { bytes_held self.new ≡ bytes_held self.old }
+    {
+        if self.start == 0 {
+            return;
+        }
+        self.buffer.copy_within(self.start..self.end, 0);
+        self.end -= self.start;
+        self.start = 0;
     }
 
     /// Takes so many bytes, which `out` then holds alone.

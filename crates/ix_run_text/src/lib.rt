@@ -3,16 +3,15 @@
 //! A source yields the postings of a collection in the order of a run text, from a text or from elsewhere.
 #![tactic(auto)]
 
-mod ahead;
 mod copying;
 mod head;
 mod heading;
 mod input;
 mod laws;
 mod list;
-mod list_fault;
 mod listed;
 mod marking;
+mod posting;
 mod rows;
 mod run_reader;
 mod run_text_error;

@@ -1,27 +1,31 @@
-//! Taking the postings of a list whose bytes are all at hand: each is checked, and its tokens are marked, as it comes.
-ghost use Rattle.std.specs.Prelude.{◌≡◌, ◌≢◌, ◌<◌, ◌≤◌, ◌+◌, ◌-◌, ◌^◌, ◌++◌, [], ◌∷◌, List, ℕ, Some, IfOk, IfErr, MatchOption, MatchResult, Contains, drop, length};
+//! Checking a coded list of postings in one pass, which marks its tokens.
+//!
+//! A fault is found at its byte. An error of `Number(Cut)` says that the bytes end inside the list.
+ghost use Rattle.std.specs.Prelude.{◌≡◌, ◌≢◌, ◌<◌, ◌≤◌, ◌+◌, ◌-◌, ◌^◌, ◌++◌, [], ◌∷◌, List, ℕ, IfOk, IfErr, IsOk, MatchOption, MatchResult, Contains, drop, length, take};
 ghost use Rattle.ix_text.specs.Parts.{DocumentRow, Posting};
 ghost use Rattle.ix_text.specs.TokenMarks.{HoldsNumbers, room};
 ghost use Rattle.ix_text.specs.TokenNumbers.{AreDistinct, numbers_of_posting};
 ghost use Rattle.ix_text.specs.TokenTables.{HasTokens, IsSpan};
 ghost use Rattle.ix_vbyte.specs.Code.{code_of};
-ghost use Rattle.ix_vbyte.specs.Postings.{posting_bytes};
+ghost use Rattle.ix_vbyte.specs.Gaps.{gaps_of};
+ghost use Rattle.ix_vbyte.specs.Postings.{codes_of, list_bytes, posting_bytes};
 ghost use Rattle.ix_vbyte.specs.ShortPostings.{BeginsWithShort};
 ghost use Rattle.ix_run_text.specs.ReadPostings.{HaveRoom, IsFree, PostingFits, StandNext};
-ghost use Rattle.ix_run_text.specs.RunTextErrors.{IsRefusal};
 ghost use Rattle.ix_run_text.specs.declared.run_text_error.RunTextError.TheVariants.{Memory};
-ghost use Rattle.ix_run_text.specs.MarkedLists.{ListStands, MarksList, MarksPositions, MarksPosting, BeginsWithPosition};
+ghost use Rattle.ix_run_text.specs.MarkedLists.{BeginsWithPosition, IsCutShort, ListStands, MarksList, MarksPositions, MarksPosting};
 
 use crate::RunTextError;
 use ix_text::{TokenMarks, TokenTable};
-use ix_vbyte::{VbError, decode, short_number, short_posting};
+use ix_vbyte::{decode, short_number, short_posting};
 
-/// Takes the list of so many postings that the bytes begin with, in `size` of them, and answers one above its last document.
-/// Its tokens are marked.
+/// Checks the list of `documents` postings that the bytes begin with, in `size` of them, and marks its tokens. Returns one above
+/// its last document. After an error any tokens may be marked.
 ///
-/// The errors are those of `read_posting`, in the order of the bytes, and `ListLength` where the list has more bytes than its
-/// postings. After an error any tokens may be marked.
-pub(crate) fn mark_list(
+/// # Errors
+/// In the order of the bytes: `Number` if a code is faulty; `Zero` if a gap or the number of positions is 0; `DocRange` if
+/// there is no such document; `PositionRange` if the document has no such position; `Doubled` if the token there is marked;
+/// `Number(Cut)` if the bytes end inside the list; `ListLength` if it has more bytes than its postings.
+pub(crate) fn check_list(
     bytes: &[u8],
     size: usize,
     documents: u32,
@@ -34,8 +38,8 @@ pub(crate) fn mark_list(
         → MarksList rows bytes.now size documents next marks.old marks.new) }
     ensures room { room marks.new ≡ room marks.old }
     ensures accepted { (rows : List DocumentRow) → HasTokens tokens.now rows
-        → ListStands rows bytes.now size documents marks.old → IfErr result IsRefusal }
-    ensures sparing { IfErr result (λ error. error ≢ Memory) }
+        → (list : ListStands rows bytes.now size documents marks.old)
+        → IfErr result (IsCutShort (take size bytes.now) (list_bytes list.postings)) }
 {
     let mut rest = bytes;
     let mut left = size;
@@ -52,13 +56,14 @@ pub(crate) fn mark_list(
     Ok(next)
 }
 
-/// Takes the posting that the bytes begin with, in at most `limit` of them, and answers its document and how many bytes it
-/// took. Its tokens are marked. `next` is one above the document before. What stands behind the list lets its last postings
-/// be read as fast as its first.
+/// Checks the posting that the bytes begin with, in at most `limit` of them, and marks its tokens. Returns its document and how
+/// many bytes it has. `next` is one above the document before. The bytes behind the list let its last posting be decoded as fast
+/// as its first.
 ///
-/// The errors are those of `read_posting`. After an error any tokens may be marked.
+/// # Errors
+/// Those of `check_list`. After an error any tokens may be marked.
 #[inline(always)]
-pub(crate) fn mark_posting(
+fn mark_posting(
     bytes: &[u8],
     limit: usize,
     next: u32,
@@ -73,12 +78,11 @@ pub(crate) fn mark_posting(
         MarksPosting tokens.now next bytes.now found.0 found.1 marks.old marks.new) }
     ensures room { room marks.new ≡ room marks.old }
     ensures accepted { (rows : List DocumentRow) (numbers : List ℕ) (posting : Posting)
-        (rest : List ℕ) → HasTokens tokens.now rows → HoldsNumbers marks.old numbers
+        (missing rest : List ℕ) → HasTokens tokens.now rows → HoldsNumbers marks.old numbers
         → PostingFits rows next posting → IsFree rows numbers posting
-        → length (posting_bytes (posting.0 + 1 - next) posting) ≤ limit
-        → bytes.now ≡ posting_bytes (posting.0 + 1 - next) posting ++ rest
-        → IfErr result IsRefusal }
-    ensures sparing { IfErr result (λ error. error ≢ Memory) }
+        → take limit bytes.now ++ missing ≡ posting_bytes (posting.0 + 1 - next) posting ++ rest
+        → IfErr result (IsCutShort (take limit bytes.now)
+        (posting_bytes (posting.0 + 1 - next) posting)) }
 {
     match short_posting(bytes) {
         Some(posting) if posting.size <= limit => {
@@ -104,11 +108,10 @@ fn mark_any_posting(
         MarksPosting tokens.now next bytes.now found.0 found.1 marks.old marks.new) }
     ensures room { room marks.new ≡ room marks.old }
     ensures accepted { (rows : List DocumentRow) (numbers : List ℕ) (posting : Posting)
-        (rest : List ℕ) → HasTokens tokens.now rows → HoldsNumbers marks.old numbers
+        (missing rest : List ℕ) → HasTokens tokens.now rows → HoldsNumbers marks.old numbers
         → PostingFits rows next posting → IsFree rows numbers posting
-        → bytes.now ≡ posting_bytes (posting.0 + 1 - next) posting ++ rest
-        → IfErr result IsRefusal }
-    ensures sparing { IfErr result (λ error. error ≢ Memory) }
+        → bytes.now ++ missing ≡ posting_bytes (posting.0 + 1 - next) posting ++ rest
+        → IfErr result (IsCutShort bytes.now (posting_bytes (posting.0 + 1 - next) posting)) }
 {
     let (gap, gap_bytes) = some_number(bytes)?;
     let Some((document, span)) = document_behind(tokens, next, gap) else {
@@ -122,10 +125,10 @@ fn mark_any_posting(
 
 /// The document of a posting of one position, by its gaps, the first counted from `next`. Its token is marked.
 ///
-/// `DocRange` where there is no such document; `PositionRange` where the document has no such position; `Doubled` where
-/// the token there is marked.
+/// # Errors
+/// `DocRange`, `PositionRange` and `Doubled`, as `check_list`.
 #[inline(always)]
-pub(crate) fn mark_single(
+fn mark_single(
     gap: u32,
     position_gap: u32,
     next: u32,
@@ -147,9 +150,7 @@ pub(crate) fn mark_single(
     ensures accepted { (rows : List DocumentRow) (numbers : List ℕ) (posting : Posting)
         → HasTokens tokens.now rows → HoldsNumbers marks.old numbers
         → PostingFits rows next posting → IsFree rows numbers posting → posting.0 + 1 - next ≡ gap
-        → posting.1 ≡ (position_gap - 1) ∷ []
-        → IfErr result IsRefusal }
-    ensures sparing { IfErr result (λ error. error ≢ Memory) }
+        → posting.1 ≡ (position_gap - 1) ∷ [] → IsOk result }
 {
     let Some((document, span)) = document_behind(tokens, next, gap) else {
         return Err(RunTextError::DocRange);
@@ -164,8 +165,7 @@ pub(crate) fn mark_single(
     Ok(document)
 }
 
-/// The document behind a gap, and the number of its first token with how many tokens it has. None where there is no
-/// such document.
+/// The document behind a gap, and the number of its first token with how many tokens it has. None if there is no such document.
 #[inline]
 pub(crate) fn document_behind(tokens: &TokenTable, next: u32, gap: u32) -> Option<(u32, (u32, u32))>
     requires { 0 < gap }
@@ -178,11 +178,13 @@ pub(crate) fn document_behind(tokens: &TokenTable, next: u32, gap: u32) -> Optio
     Some((document, span))
 }
 
-/// How many bytes so many positions take that the bytes begin with, of a document with this span. Their tokens are marked.
+/// Checks `count` positions that the bytes begin with, of a document with this span, and marks their tokens. Returns how many
+/// bytes they have.
 ///
-/// The errors are those of `read_posting`, where the bytes end with the list. After an error any tokens may be marked.
+/// # Errors
+/// Those of `check_list`. After an error any tokens may be marked.
 #[inline]
-pub(crate) fn mark_positions(
+fn mark_positions(
     bytes: &[u8],
     count: u32,
     span: (u32, u32),
@@ -193,10 +195,9 @@ pub(crate) fn mark_positions(
     ensures marked { IfOk result (λ size.
         MarksPositions span.0 span.1 count bytes.now size marks.old marks.new) }
     ensures room { room marks.new ≡ room marks.old }
-    ensures accepted { (numbers all rest : List ℕ)
-        → StandNext span.0 span.1 count (length bytes.now) marks.old (Some bytes.now) numbers all
-        rest → MatchResult result (λ size. drop size bytes.now ≡ rest) IsRefusal }
-    ensures sparing { IfErr result (λ error. error ≢ Memory) }
+    ensures accepted { (missing numbers all rest : List ℕ)
+        → StandNext span.0 span.1 count marks.old (bytes.now ++ missing) numbers all rest
+        → IfErr result (IsCutShort bytes.now (codes_of (gaps_of all))) }
 {
     let mut rest = bytes;
     let mut next = 0;
@@ -208,7 +209,7 @@ pub(crate) fn mark_positions(
     Ok(bytes.len() - rest.len())
 }
 
-/// The position, not below `next`, that the bytes begin with, of a document with this span, and how many bytes it takes. Its
+/// The position, not below `next`, that the bytes begin with, of a document with this span, and how many bytes its code has. Its
 /// token is marked.
 #[inline(always)]
 fn mark_position(
@@ -226,13 +227,13 @@ fn mark_position(
     ensures marked { IfOk result (λ found. (numbers : List ℕ) → HoldsNumbers marks.old numbers
         → ¬ (Contains numbers (span.0 + found.0))
         × HoldsNumbers marks.new (numbers ++ (span.0 + found.0) ∷ [])) }
-    ensures accepted { (numbers : List ℕ) (position : ℕ) (rest : List ℕ)
+    ensures accepted { (numbers : List ℕ) (position : ℕ) (missing rest : List ℕ)
         → HoldsNumbers marks.old numbers → next ≤ position → position < span.1
         → ¬ (Contains numbers (span.0 + position))
-        → bytes.now ≡ code_of (position + 1 - next) ++ rest
+        → bytes.now ++ missing ≡ code_of (position + 1 - next) ++ rest
         → MatchResult result (λ found. (found.0 ≡ position)
-        × (drop found.1 bytes.now ≡ rest)) IsRefusal }
-    ensures sparing { IfErr result (λ error. error ≢ Memory) }
+        × (drop found.1 bytes.now ++ missing ≡ rest))
+        (IsCutShort bytes.now (code_of (position + 1 - next))) }
 {
     let (gap, size) = some_number(bytes)?;
     let (first, count) = span;
@@ -246,15 +247,17 @@ fn mark_position(
     Ok((position, size))
 }
 
-/// The number above 0 whose code the bytes begin with, and how many bytes the code takes: `Zero` where it is 0, `ListLength`
-/// where the bytes do not end the code, `Number` where it is faulty.
+/// The number above 0 whose code the bytes begin with, and how many bytes the code has.
+///
+/// # Errors
+/// `Zero` if it is 0; `Number` if the code is faulty, or the bytes do not end it.
 #[inline(always)]
 pub(crate) fn some_number(bytes: &[u8]) -> Result<(u32, usize), RunTextError>
     ensures found { IfOk result (λ found. BeginsWithShort bytes.now found.0 found.1) }
-    ensures accepted { (number : ℕ) (rest : List ℕ) → 0 < number → number < 2 ^ 32
-        → bytes.now ≡ code_of number ++ rest
+    ensures accepted { (number : ℕ) (missing rest : List ℕ) → 0 < number → number < 2 ^ 32
+        → bytes.now ++ missing ≡ code_of number ++ rest
         → MatchResult result (λ found. (found.0 ≡ number)
-        × (drop found.1 bytes.now ≡ rest)) IsRefusal }
+        × (drop found.1 bytes.now ++ missing ≡ rest)) (IsCutShort bytes.now (code_of number)) }
     ensures sparing { IfErr result (λ error. error ≢ Memory) }
 {
     match short_number(bytes) {
@@ -268,16 +271,15 @@ pub(crate) fn some_number(bytes: &[u8]) -> Result<(u32, usize), RunTextError>
 #[inline(never)]
 fn long_number(bytes: &[u8]) -> Result<(u32, usize), RunTextError>
     ensures found { IfOk result (λ found. BeginsWithShort bytes.now found.0 found.1) }
-    ensures accepted { (number : ℕ) (rest : List ℕ) → 0 < number → number < 2 ^ 32
-        → bytes.now ≡ code_of number ++ rest
+    ensures accepted { (number : ℕ) (missing rest : List ℕ) → 0 < number → number < 2 ^ 32
+        → bytes.now ++ missing ≡ code_of number ++ rest
         → MatchResult result (λ found. (found.0 ≡ number)
-        × (drop found.1 bytes.now ≡ rest)) IsRefusal }
+        × (drop found.1 bytes.now ++ missing ≡ rest)) (IsCutShort bytes.now (code_of number)) }
     ensures sparing { IfErr result (λ error. error ≢ Memory) }
 {
     match decode(bytes) {
         Ok((0, _)) => Err(RunTextError::Zero),
         Ok(found) => Ok(found),
-        Err(VbError::Cut) => Err(RunTextError::ListLength),
         Err(fault) => Err(RunTextError::Number(fault)),
     }
 }

@@ -1,68 +1,62 @@
 //! The exact reader of a run text: it takes the bytes of a run as they come, and accepts no others.
-ghost use Rattle.std.specs.Prelude.{◌≡◌, ◌≢◌, ◌+◌, ◌<◌, ◌≤◌, ◌^◌, ℕ, IsSome, length, map, sum_by};
+ghost use Rattle.std.specs.Prelude.{◌≡◌, ◌≢◌, ◌+◌, ◌<◌, ◌≤◌, ◌^◌, ℕ, length, map, sum_by};
 ghost use Rattle.ix_text.specs.TokenMarks.{room};
 ghost use Rattle.ix_text.specs.TokenTables.{HasTokens};
 ghost use Rattle.ix_run_text.specs.Heads.{row_of_doc};
+ghost use Rattle.ix_run_text.specs.Inputs.{bytes_held};
 ghost use Rattle.ix_run_text.specs.ReadTables.{HasTokens-prop};
 ghost use Rattle.ix_run_text.specs.declared.run_reader.Place.TheVariants.{AtTerm};
 
-use crate::ahead::{Looked, look_ahead, tell_posting};
 use crate::heading::read_head;
 use crate::input::Input;
-use crate::list::read_posting;
-use crate::term::{read_term, take_head};
+use crate::list::read_list;
+use crate::posting::tell_posting;
+use crate::term::read_term;
 use crate::token_counts::{table_of, token_total};
 use crate::{RunHead, RunTextError};
 use ix_text::{TokenMarks, TokenTable};
 use std::alloc::Global;
 use std::io::Read;
 
-/// Where a reader stands among the terms.
+/// Where a reader is among the terms.
 #[derive(Clone, Copy)]
 enum Place {
-    /// No term was asked for yet.
+    /// No term was read yet.
     Begun,
-    /// A term is at hand.
+    /// A term is current.
     AtTerm,
-    /// The end mark was taken, and no byte stands behind it.
+    /// The end mark was read, and no byte comes behind it.
     Ended,
-    /// A call was refused.
+    /// A call returned an error.
     Failed,
 }
 
 /// A run text as a source of its postings, as they come from a reader.
 ///
-/// The errors come in the order of the bytes, as `next_term` and `next_posting` list them. After an error each later
-/// call is refused as `Failed`; an error of `next_posting` leaves the term at hand.
-///
-/// Where a list is taken whole, the entries that are buffered whole behind it are looked at too, and their tokens marked, in
-/// one go. They are given in their turn. Of a list that was found to have a fault no posting is given, but its error at once.
+/// The list of a term is read whole, checked and its tokens marked when the term is: so a fault of a list is an error of
+/// `next_term`. Memory is that of the longest list. Returns the first error in byte order; after an error each later call returns
+/// `Failed`.
 #[derive(Drop)]
 pub struct RunReader<R> {
     alloc: Global,
     input: Input<R>,
-    // how many tokens stand before each document
+    // how many tokens there are before each document
     tokens: TokenTable,
-    // the tokens that were told
+    // the tokens of the lists that were checked
     marks: TokenMarks,
     // the term that was read last
     term: String,
     // a term's bytes before they are known to be text
     scratch: Vec<u8>,
-    // lent to lists for the positions of one posting
-    positions: Vec<u32>,
     place: Place,
-    // one above the last document given of the term at hand
+    // one above the last document given of the current term
     next: u32,
-    // how many postings of the term at hand are left
+    // one above the last document of its list
+    after: u32,
+    // how many of its postings are left
     documents: u32,
-    // how many bytes they have
+    // how many bytes they have, which are buffered next
     bytes: usize,
-    // what a look ahead found of the list at hand, where it was looked at
-    looked: Option<Looked>,
-    // what it found of entries, of which those from `reached` on were not taken yet: they are buffered next
-    ahead: Vec<Looked>,
-    reached: usize,
     // last, since its stop terms take 4 KiB: so its first number lies beside what each list wants
     head: RunHead,
     ghost table: { HasTokens tokens (map row_of_doc head.docs.items) } by { HasTokens-prop tokens (map row_of_doc head.docs.items) },
@@ -71,9 +65,11 @@ pub struct RunReader<R> {
     ghost narrow: { room marks < sum_by (λ row. row.tokens) (map row_of_doc head.docs.items) + 64 },
     ghost room: { sum_by (λ row. row.tokens) (map row_of_doc head.docs.items) ≤ room marks },
     ghost near: { next ≤ 2 ^ 28 },
+    ghost far: { after ≤ 2 ^ 28 },
     ghost listed: { documents ≡ 0 → bytes ≡ 0 },
     ghost drained: { place ≢ AtTerm → documents ≡ 0 },
-    ghost some: { IsSome looked → 0 < documents },
+    ghost held: { bytes ≤ length (bytes_held input) },
+    ghost short: { bytes < 2 ^ 32 },
 }
 
 impl<R: Read + Drop> RunReader<R> {
@@ -85,11 +81,10 @@ impl<R: Read + Drop> RunReader<R> {
     ghost use Rattle.ix_run_text.specs.RunReaders.{bytes_left, heading_read};
     ghost use Rattle.ix_run_text.specs.RunText.{IsRunText, heading_bytes, run_layout};
     ghost use Rattle.ix_run_text.specs.RunTextErrors.{IsRefusal};
-    ghost use Rattle.ix_run_text.specs.Reading.{BeginsFirst, Faces, GivesFirst, HasFailed, HasRead, IsDrained, MayYield, Skips, StandsAlike, TookPosting, heading_from, postings_left, term_of};
+    ghost use Rattle.ix_run_text.specs.Reading.{BeginsFirst, Faces, HasRead, IsDrained, MayYield, Skips, heading_from};
     ghost use Rattle.ix_run_text.specs.declared.run_reader.Place.TheVariants.{AtTerm, Ended, Failed};
-    ghost use Rattle.ix_run_text.specs.declared.run_text_error.RunTextError.TheVariants.{Failed as Refused, Memory};
-    ghost use Rattle.ix_run_text.specs.Sources.{AreWhole, BeginsTerm, EndsPostings, EndsTerms, GivesPosting, IsUnread, KeepsFaults};
-    ghost use Rattle.ix_run_text.specs.Faults.{MayFault};
+    ghost use Rattle.ix_run_text.specs.declared.run_text_error.RunTextError.TheVariants.{Memory};
+    ghost use Rattle.ix_run_text.specs.Sources.{AreWhole, BeginsTerm, EndsTerms, GivesPosting, IsUnread};
 
     /// Reads the head of a run text: its magic, its first document number and number of documents, its stop terms and
     /// its documents.
@@ -136,14 +131,11 @@ impl<R: Read + Drop> RunReader<R> {
             marks,
             term: String::new(alloc),
             scratch: Vec::new(alloc),
-            positions: Vec::new(alloc),
             place: Place::Begun,
             next: 0,
+            after: 0,
             documents: 0,
             bytes: 0,
-            looked: None,
-            ahead: Vec::new(alloc),
-            reached: 0,
             head,
         })
     }
@@ -162,8 +154,7 @@ impl<R: Read + Drop> RunReader<R> {
         self.head
     }
 
-    /// Takes the next posting of the list at hand. After an error the place is as it was.
-    #[inline(always)]
+    /// Takes the next posting of the current list. After an error the reader is as it was.
     fn posting(&mut self, positions: &mut Vec<u32>) -> Result<u32, RunTextError>
         requires { 0 < self.old.documents }
         ensures heading { heading_of self.new.head ≡ heading_of self.old.head }
@@ -173,8 +164,6 @@ impl<R: Read + Drop> RunReader<R> {
         ensures given { IfOk result (λ document.
             GivesPosting (MayYield R.remaining) HasRead self.old self.new
             (document, positions.new.items)) }
-        ensures taken { IfOk result (λ document.
-            TookPosting self.old self.new (document, positions.new.items)) }
         ensures accepted { (postings : List Posting) (entries : List DictionaryEntry)
             → Faces R.remaining self.old postings entries
             → MatchResult result (λ document. (rest : List Posting)
@@ -183,87 +172,7 @@ impl<R: Read + Drop> RunReader<R> {
         ensures full { IfErr result (λ error. error ≡ Memory
             → vec_capacity positions.old ≤ vec_len positions.new) }
     {
-        match self.looked {
-            None => self.fresh_posting(positions),
-            Some(looked) => self.looked_posting(looked, positions),
-        }
-    }
-
-    /// The same of a list that was not looked at.
-    #[inline(always)]
-    fn fresh_posting(&mut self, positions: &mut Vec<u32>) -> Result<u32, RunTextError>
-        requires some { 0 < self.old.documents }
-        requires fresh { self.old.looked ≡ None }
-        ensures heading { heading_of self.new.head ≡ heading_of self.old.head }
-        ensures place { self.new.place ≡ self.old.place }
-        ensures term { self.new.term ≡ self.old.term }
-        ensures counted { OnOk result (self.new.documents + 1 ≡ self.old.documents) }
-        ensures given { IfOk result (λ document.
-            GivesPosting (MayYield R.remaining) HasRead self.old self.new
-            (document, positions.new.items)) }
-        ensures taken { IfOk result (λ document.
-            TookPosting self.old self.new (document, positions.new.items)) }
-        ensures accepted { (postings : List Posting) (entries : List DictionaryEntry)
-            → Faces R.remaining self.old postings entries
-            → MatchResult result (λ document. (rest : List Posting)
-            × (postings ≡ (document, positions.new.items) ∷ rest)
-            × Faces R.remaining self.new rest entries) IsRefusal }
-        ensures full { IfErr result (λ error. error ≡ Memory
-            → vec_capacity positions.old ≤ vec_len positions.new) }
-    {
-        let (document, taken) = read_posting(
-            &mut self.input,
-            self.bytes,
-            self.next,
-            &self.tokens,
-            &mut self.marks,
-            positions,
-        )?;
-        let documents = self.documents - 1;
-        let bytes = self.bytes - taken;
-        if documents == 0 && bytes > 0 {
-            return Err(RunTextError::ListLength);
-        }
-        self.next = document + 1;
-        self.documents = documents;
-        self.bytes = bytes;
-        Ok(document)
-    }
-
-    /// The same of a list that was looked at, whose tokens are marked already. Of a list with a fault none is given.
-    #[cold]
-    #[inline(never)]
-    fn looked_posting(
-        &mut self,
-        looked: Looked,
-        positions: &mut Vec<u32>,
-    ) -> Result<u32, RunTextError>
-        requires some { 0 < self.old.documents }
-        requires looked { self.old.looked ≡ Some looked }
-        ensures heading { heading_of self.new.head ≡ heading_of self.old.head }
-        ensures place { self.new.place ≡ self.old.place }
-        ensures term { self.new.term ≡ self.old.term }
-        ensures counted { OnOk result (self.new.documents + 1 ≡ self.old.documents) }
-        ensures given { IfOk result (λ document.
-            GivesPosting (MayYield R.remaining) HasRead self.old self.new
-            (document, positions.new.items)) }
-        ensures taken { IfOk result (λ document.
-            TookPosting self.old self.new (document, positions.new.items)) }
-        ensures accepted { (postings : List Posting) (entries : List DictionaryEntry)
-            → Faces R.remaining self.old postings entries
-            → MatchResult result (λ document. (rest : List Posting)
-            × (postings ≡ (document, positions.new.items) ∷ rest)
-            × Faces R.remaining self.new rest entries) IsRefusal }
-        ensures full { IfErr result (λ error. error ≡ Memory
-            → vec_capacity positions.old ≤ vec_len positions.new) }
-    {
-        if let Looked::Faulty(fault) = looked {
-            return Err(fault.error);
-        }
         let held = self.input.held();
-        if self.bytes > held.len() {
-            return Err(RunTextError::ListLength);
-        }
         let (document, taken) = tell_posting(
             &held[..self.bytes],
             self.next,
@@ -279,13 +188,10 @@ impl<R: Read + Drop> RunReader<R> {
         self.next = document + 1;
         self.documents = documents;
         self.bytes = bytes;
-        if documents == 0 {
-            self.looked = None;
-        }
         Ok(document)
     }
 
-    /// Takes the postings that are left of the list at hand. After an error the place is as it was.
+    /// Takes the postings that are left of the current list. After an error the place is as it was.
     fn skip(&mut self) -> Result<(), RunTextError>
         ensures heading { heading_of self.new.head ≡ heading_of self.old.head }
         ensures place { self.new.place ≡ self.old.place }
@@ -303,8 +209,8 @@ impl<R: Read + Drop> RunReader<R> {
         Ok(())
     }
 
-    /// Goes on to the next term, over what is left of the list at hand. False: the end mark was taken. After an error
-    /// the place is as it was.
+    /// Reads the next term and its list, over what is left of the current one. False: the end mark was read. After an error the place is
+    /// as it was.
     fn go_on(&mut self) -> Result<bool, RunTextError>
         requires going { self.old.place ≢ Ended }
         ensures heading { heading_of self.new.head ≡ heading_of self.old.head }
@@ -320,17 +226,6 @@ impl<R: Read + Drop> RunReader<R> {
             MatchBool more (BeginsFirst R.remaining self.new entries) (entries ≡ [])) IsRefusal }
     {
         self.skip()?;
-        if let Some(looked) = self.ahead.get(self.reached) {
-            let looked = *looked;
-            let counts = take_head(&mut self.input, &self.head.stop, &mut self.term)?;
-            self.place = Place::AtTerm;
-            self.next = 0;
-            self.documents = counts.documents;
-            self.bytes = counts.bytes as usize;
-            self.looked = Some(looked);
-            self.reached += 1;
-            return Ok(true);
-        }
         let found = read_term(
             &mut self.input,
             &self.head.stop,
@@ -341,90 +236,16 @@ impl<R: Read + Drop> RunReader<R> {
             self.place = Place::Ended;
             return Ok(false);
         };
+        let after = read_list(&mut self.input, counts, &self.tokens, &mut self.marks)?;
         self.place = Place::AtTerm;
         self.next = 0;
+        self.after = after;
         self.documents = counts.documents;
         self.bytes = counts.bytes as usize;
         Ok(true)
     }
 
-    /// `next_posting`, of which it is known too which bytes it took.
-    #[inline(always)]
-    fn next_of_list(&mut self, positions: &mut Vec<u32>) -> Result<Option<u32>, RunTextError>
-        requires { IsSome (term_of self.old) }
-        ensures heading { heading_read self.new ≡ heading_read self.old }
-        ensures current { term_of self.new ≡ term_of self.old }
-        ensures given { IfOk result (λ found. MatchOption found
-            (IsDrained self.new × EndsPostings (MayYield R.remaining) HasRead self.old self.new)
-            (λ document. GivesPosting (MayYield R.remaining) HasRead self.old self.new
-            (document, positions.new.items))) }
-        ensures drained { IsDrained self.old → result ≡ Ok None }
-        ensures fault { IfErr result (MayFault R.remaining self.old) }
-        ensures no_more_faults { OnOk result
-            (KeepsFaults (MayFault R.remaining) self.old self.new) }
-
-        // Fewer are left.
-        ensures counted { IfOk result (λ found.
-            IfSome found (λ _. postings_left self.new < postings_left self.old)) }
-
-        // Where postings of a lawful dictionary lie ahead, the next one is given, unless a read or memory is refused.
-        ensures accepted { (postings : List Posting) (entries : List DictionaryEntry)
-            → Faces R.remaining self.old postings entries
-            → MatchResult result (λ found.
-            MatchOption found ((postings ≡ []) × Faces R.remaining self.new [] entries)
-            (λ document. GivesFirst R.remaining self.new
-            (document, positions.new.items) postings entries)) IsRefusal }
-
-        // What a refusal leaves.
-        ensures refused { OnErr result (HasFailed self.new) }
-        ensures failed { HasFailed self.old → result ≡ Err Refused }
-
-        // What it took.
-        ensures taken { IfOk result (λ found. MatchOption found (self.new ≡ self.old) (λ document.
-            TookPosting self.old self.new (document, positions.new.items))) }
-
-        // Want of memory: as many positions as there was room for were taken.
-        ensures full { IfErr result (λ error. error ≡ Memory
-            → vec_capacity positions.old ≤ vec_len positions.new) }
-    {
-        if matches!(self.place, Place::Failed) {
-            return Err(RunTextError::Failed);
-        }
-        if self.documents == 0 {
-            return Ok(None);
-        }
-        match self.posting(positions) {
-            Ok(document) => Ok(Some(document)),
-            Err(error) => {
-                self.fail();
-                Err(error)
-            }
-        }
-    }
-
-    /// Looks at the entries that are buffered whole behind the list at hand, of which nothing is left, where none of them was
-    /// looked at.
-    fn look_on(&mut self)
-        requires { (self.old.documents ≡ 0) × (self.old.looked ≡ None) }
-        ensures place { self.new.place ≡ self.old.place }
-        ensures term { self.new.term ≡ self.old.term }
-        ensures heading { heading_of self.new.head ≡ heading_of self.old.head }
-        ensures documents { self.new.documents ≡ self.old.documents }
-        ensures stands { StandsAlike R.remaining self.old self.new }
-    {
-        if self.reached < self.ahead.len() {
-            return;
-        }
-        self.reached = 0;
-        look_ahead(
-            self.input.held(),
-            &self.tokens,
-            &mut self.marks,
-            &mut self.ahead,
-        );
-    }
-
-    /// From now on each call is refused.
+    /// From now on each call returns `Failed`.
     fn fail(&mut self)
         ensures place { self.new.place ≡ Failed }
         ensures term { self.new.term ≡ self.old.term }
@@ -433,9 +254,7 @@ impl<R: Read + Drop> RunReader<R> {
         self.place = Place::Failed;
         self.documents = 0;
         self.bytes = 0;
-        self.looked = None;
     }
 }
 
-mod listing;
 mod reading;

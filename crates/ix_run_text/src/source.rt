@@ -7,7 +7,6 @@ ghost use Rattle.ix_run_text.specs.Sources.{AreWhole, IsLawfulFront, BeginsTerm,
 ghost use Rattle.ix_run_text.specs.Faults.{IsListFault};
 
 use crate::{ListError, Listed, RunHead};
-use ix_vbyte::push_posting;
 
 /// A lawful collection's dictionary as a stream: its terms ascending, and the postings of each in order. Documents are
 /// numbered from 0 within the source.
@@ -102,33 +101,7 @@ pub trait Source {
             out.old.items out.new.items) }
         ensures refused { OnErr result (out.new.items ≡ out.old.items) }
         ensures fault { IfErr result (IsListFault (faults self.old)) }
-        ensures no_more_faults { OnOk result (KeepsFaults faults self.old self.new) }
-    {
-        let first = self.head().first;
-        let start = out.len();
-        let mut positions = Vec::new(*out.allocator());
-        let mut listed = Listed { documents: 0, next };
-        loop {
-            match self.next_posting(&mut positions) {
-                Ok(None) => return Ok(listed),
-                Ok(Some(document)) => {
-                    let document = first + document;
-                    if push_posting(out, listed.next, document, &positions).is_err() {
-                        out.truncate(start);
-                        return Err(ListError::Memory);
-                    }
-                    listed = Listed {
-                        documents: listed.documents + 1,
-                        next: document + 1,
-                    };
-                }
-                Err(error) => {
-                    out.truncate(start);
-                    return Err(ListError::Source(error));
-                }
-            }
-        }
-    }
+        ensures no_more_faults { OnOk result (KeepsFaults faults self.old self.new) };
 
     // Where no term is at hand, no posting of one is left.
     ghost drained_without_term: { (source : Self) → current source ≡ None → is_drained source };

@@ -3,17 +3,14 @@ ghost use Rattle.std.specs.Prelude.{◌≡◌, ◌<◌, ◌≤◌, ◌^◌, ◌+
 ghost use Rattle.std.specs.Io.KnownBytes.{Consumes, IsAtEnd};
 ghost use Rattle.ix_vbyte.specs.Code.{code_of};
 ghost use Rattle.ix_vbyte.specs.Texts.{counted};
-ghost use Rattle.ix_run_text.specs.Inputs.{bytes_held, known_left};
+ghost use Rattle.ix_run_text.specs.Inputs.{known_left};
 ghost use Rattle.ix_run_text.specs.ReadTerms.{TermFits, TextFits};
 ghost use Rattle.ix_run_text.specs.RunTextErrors.{IsRefusal};
 
 use crate::RunTextError;
-use crate::ahead::entry_head;
 use crate::heading::CODE_LIMIT;
 use crate::input::Input;
-use crate::list::read_positive;
 use ix_text::{MAX_TERM_BYTES, StopList};
-use ix_vbyte::VbError;
 use std::io::Read;
 use std::str::from_utf8;
 
@@ -66,43 +63,6 @@ pub(crate) fn read_term<R: Read>(
     Ok(Some(counts))
 }
 
-/// Takes the next term into `term`, in place of the one before, and the two numbers behind it, where they are buffered whole; as
-/// `read_term` does it, but for `Number` where they are not.
-pub(crate) fn take_head<R: Read>(
-    input: &mut Input<R>,
-    stop: &StopList,
-    term: &mut String,
-) -> Result<TermCounts, RunTextError>
-    ensures taken { IfOk result (λ counts. Consumes (known_left R.remaining input.old)
-        (known_left R.remaining input.new)
-        (counted (string_bytes term.new) ++ (code_of counts.documents ++ code_of counts.bytes))) }
-    ensures held { IfOk result (λ counts. bytes_held input.old
-        ≡ counted (string_bytes term.new)
-        ++ (code_of counts.documents ++ (code_of counts.bytes ++ bytes_held input.new))) }
-    ensures fits { IfOk result (λ counts. TermFits stop.now (string_bytes term.old)
-        (string_bytes term.new) counts.documents counts.bytes) }
-    ensures accepted { (text : List ℕ) (documents bytes : ℕ) (rest : List ℕ)
-        → TermFits stop.now (string_bytes term.old) text documents bytes
-        → bytes_held input.old ≡ counted text ++ (code_of documents ++ (code_of bytes ++ rest))
-        → MatchResult result (λ counts. (string_bytes term.new ≡ text)
-        × (counts.documents ≡ documents) × (counts.bytes ≡ bytes)) IsRefusal }
-{
-    let held = input.held();
-    let Some(head) = entry_head(held) else {
-        return Err(RunTextError::Number(VbError::Cut));
-    };
-    let text = &held[head.start..head.end];
-    if text.len() > MAX_TERM_BYTES as usize {
-        return Err(RunTextError::TermSize);
-    }
-    set_term(text, stop, term)?;
-    input.pass(head.list);
-    Ok(TermCounts {
-        documents: head.documents,
-        bytes: head.bytes,
-    })
-}
-
 /// Sees that no byte is left: `Extra` where one is.
 fn check_end<R: Read>(input: &mut Input<R>) -> Result<(), RunTextError>
     ensures taken { OnOk result (Consumes (known_left R.remaining input.old)
@@ -146,7 +106,7 @@ fn read_text<R: Read>(
 /// Puts the term of these bytes into `term`, in place of the one before: `Text` where they are not UTF-8, `TermOrder` where it
 /// does not stand above the one before, `StopIndexed` where it is a stop term. After an error any text may stand in `term`.
 #[inline]
-pub(crate) fn set_term(bytes: &[u8], stop: &StopList, term: &mut String) -> Result<(), RunTextError>
+fn set_term(bytes: &[u8], stop: &StopList, term: &mut String) -> Result<(), RunTextError>
     requires some { 0 < length bytes.now }
     requires short { length bytes.now ≤ 255 }
     ensures set { OnOk result (string_bytes term.new ≡ bytes.now) }
@@ -184,4 +144,26 @@ fn read_counts<R: Read>(input: &mut Input<R>) -> Result<TermCounts, RunTextError
     let (documents, _) = read_positive(input, CODE_LIMIT)?;
     let (bytes, _) = input.code(CODE_LIMIT)?;
     Ok(TermCounts { documents, bytes })
+}
+
+/// Takes a number of at most `limit` bytes. Returns it and how many bytes it has.
+///
+/// # Errors
+/// `Zero` if it is 0; the errors of `Input::code`.
+fn read_positive<R: Read>(input: &mut Input<R>, limit: usize) -> Result<(u32, usize), RunTextError>
+    ensures taken { IfOk result (λ found.
+        Consumes (known_left R.remaining input.old) (known_left R.remaining input.new)
+        (code_of found.0)) }
+    ensures some { IfOk result (λ found. 0 < found.0) }
+    ensures accepted { (number : ℕ) (rest : List ℕ) → 0 < number → number < 2 ^ 32
+        → length (code_of number) ≤ limit
+        → known_left R.remaining input.old ≡ Some (code_of number ++ rest)
+        → MatchResult result (λ found. (found.0 ≡ number)
+        × (known_left R.remaining input.new ≡ Some rest)) IsRefusal }
+{
+    let (number, bytes) = input.code(limit)?;
+    if number == 0 {
+        return Err(RunTextError::Zero);
+    }
+    Ok((number, bytes))
 }

@@ -1,14 +1,14 @@
 //! What a reader of a run text tells as a source: its terms, their postings, and its lists as they are coded.
 
 use super::{Place, RunReader};
+use crate::copying::{MORE_BYTES, push_list};
 use crate::{ListError, Listed, RunHead, RunTextError, Source};
 use std::io::Read;
-use std::mem::replace;
 
 impl<R: Read + Drop> Source for RunReader<R> {
     ghost use Rattle.std.specs.Prelude.{◌≡◌, ◌≢◌, ◌<◌, ◌≤◌, ◌+◌, [], List, ℕ, Some, None, Ok, Err, false, IsSome, IfErr, IfOk, IfSome, OnErr, OnOk, MatchBool, MatchOption, MatchResult, vec_capacity, vec_len};
     ghost use Rattle.ix_text.specs.Parts.{DictionaryEntry, Posting};
-    ghost use Rattle.ix_run_text.specs.Reading.{BeginsFirst, Faces, GivesFirst, HasFailed, HasRead, IsDrained, IsEnded, IsHeldWhole, MayYield, StandsStill, postings_left, term_of};
+    ghost use Rattle.ix_run_text.specs.Reading.{BeginsFirst, Faces, GivesAll, GivesFirst, HasFailed, HasRead, IsDrained, IsEnded, MayYield, StandsStill, postings_left, term_of};
     ghost use Rattle.ix_run_text.specs.RunReaders.{heading_read};
     ghost use Rattle.ix_run_text.specs.RunTextErrors.{IsRefusal};
     ghost use Rattle.ix_run_text.specs.Sources.{BeginsTerm, EndsTerms, EndsPostings, GivesList, GivesPosting, KeepsFaults};
@@ -35,14 +35,17 @@ impl<R: Read + Drop> Source for RunReader<R> {
         &self.head
     }
 
-    /// Goes on to the next term, over the postings of the one at hand that were not asked for. False: there is none,
-    /// now and at each later call.
+    /// Reads the next term and its list, over the postings of the current one that were not given. False: there is none, now and at
+    /// each later call.
     ///
-    /// Of the postings gone over the errors of `next_posting`; of the term, in this order, `TermSize` above 255 bytes,
-    /// `Text`, `TermOrder` where it does not stand above the term before, `StopIndexed` where it is a stop term, and
-    /// `Zero` where it has no document; `Number` where a code is faulty or the input ends inside a number or the term;
-    /// `Extra` where a byte stands behind the end mark; `Read` where the reader refused, and `Memory`; after any
-    /// error `Failed`.
+    /// # Errors
+    /// In the order of the bytes. Of a term `TermSize` above 255 bytes, `Text`, `TermOrder` if it is not above the term before,
+    /// `StopIndexed` if it is a stop term, `Zero` if it has no document, and `Number` if a code is faulty or the input ends inside a
+    /// number or the term. Of its list `Number`; `ListLength` if the list ends inside a posting, before its last one, or behind it;
+    /// `Zero` if a gap or the number of positions is 0; `DocRange` if the run has no such document; `PositionRange` if the document has
+    /// no such position; `Doubled` if another term has that position. If the input ends or a read fails inside the list, or memory is
+    /// not granted, first the faults of the bytes that came. `Extra` if a byte comes behind the end mark; `Read` and `Memory`; after
+    /// any error `Failed`.
     fn next_term(&mut self) -> Result<bool, RunTextError>
         ensures heading { heading_read self.new ≡ heading_read self.old }
         ensures begun { IfOk result (λ more. MatchBool more
@@ -82,15 +85,11 @@ impl<R: Read + Drop> Source for RunReader<R> {
         self.term.as_str()
     }
 
-    /// The document of the next posting of the term at hand, whose positions are put into `positions` in place of what
+    /// The document of the next posting of the current term, whose positions are put into `positions` in place of what
     /// it held. None: there is no further one, now and at each later call for this term.
     ///
-    /// In the order of the bytes: `Number` where a code is faulty or the input ends inside it; `ListLength` where the
-    /// list ends inside a posting, before its last one, or behind it; `Zero` where a gap or the number of positions is
-    /// 0; `DocRange` where the run has no such document; `PositionRange` where the document has no such position;
-    /// `Doubled` where another term has that position; `Read` where the reader refused, and `Memory`; after any error
-    /// `Failed`.
-    #[inline]
+    /// # Errors
+    /// `Memory` if the positions find no room; after any error `Failed`. The list was checked by `next_term`.
     fn next_posting(&mut self, positions: &mut Vec<u32>) -> Result<Option<u32>, RunTextError>
         requires { IsSome (term_of self.old) }
         ensures heading { heading_read self.new ≡ heading_read self.old }
@@ -124,18 +123,28 @@ impl<R: Read + Drop> Source for RunReader<R> {
         ensures full { IfErr result (λ error. error ≡ Memory
             → vec_capacity positions.old ≤ vec_len positions.new) }
     {
-        self.next_of_list(positions)
+        if matches!(self.place, Place::Failed) {
+            return Err(RunTextError::Failed);
+        }
+        if self.documents == 0 {
+            return Ok(None);
+        }
+        match self.posting(positions) {
+            Ok(document) => Ok(Some(document)),
+            Err(error) => {
+                self.fail();
+                Err(error)
+            }
+        }
     }
 
-    /// Appends all postings of the term at hand that are left, coded as one list: their documents counted in the
-    /// whole collection, and the first gap taken from `next`, which is one above the document before them, or 0. Each
-    /// is checked as `next_posting` does it. The bytes of a list that is buffered whole, as almost all are, are then copied
-    /// at once.
+    /// Appends all postings of the current term that are left, coded as one list: their documents counted in the whole
+    /// collection, and the first gap from `next`, which is one above the document before them, or 0. Only that gap is coded anew; the
+    /// other bytes are copied.
     ///
-    /// `ListError::Memory`, only where what is left of the list and four bytes more find no room, since its first gap may be
-    /// coded longer; `ListError::Source` with the errors of `next_posting`, and after it each later call is refused as
-    /// `Failed`. A refusal leaves the term at hand, and `out` as it was. Where the list is buffered whole and nothing was
-    /// taken of it, `ListError::Memory` leaves the reader as it was too; else some postings of the term may have been passed.
+    /// # Errors
+    /// `ListError::Memory` if what is left of the list and four bytes more find no room, since its first gap may be coded longer; the
+    /// reader is unchanged then. `ListError::Source` with `Failed` after an error. An error leaves `out` as it was.
     fn take_list(&mut self, next: u32, out: &mut Vec<u8>) -> Result<Listed, ListError<RunTextError>>
         requires at_hand { IsSome (term_of self.old) }
         requires begun { (finished : List DictionaryEntry)
@@ -152,20 +161,44 @@ impl<R: Read + Drop> Source for RunReader<R> {
         ensures no_more_faults { OnOk result
             (KeepsFaults (MayFault R.remaining) self.old self.new) }
 
-        // What a refusal leaves.
+        // If postings of a lawful dictionary lie ahead, the list of exactly these is given, unless memory is not granted.
+        ensures accepted { (postings : List Posting) (entries : List DictionaryEntry)
+            → Faces R.remaining self.old postings entries
+            → MatchResult result (λ _. GivesAll R.remaining self.new (heading_read self.old).first
+            next out.old.items out.new.items postings entries) (λ error. error ≡ ListError.Memory) }
+
+        // What an error leaves.
         ensures stopped { IfErr result (λ error. error ≢ ListError.Memory → HasFailed self.new) }
         ensures failed { HasFailed self.old → result ≡ Err (ListError.Source Failed) }
-        ensures kept { IsHeldWhole self.old → IfErr result (λ error. error ≡ ListError.Memory
+        ensures kept { IfErr result (λ error. error ≡ ListError.Memory
             → StandsStill self.old self.new) }
 
-        // It is refused only where what is left of the list and four bytes more find no room.
+        // Memory fails only if what is left of the list and four bytes more find no room.
         ensures full { IfErr result (λ error. error ≡ ListError.Memory
             → vec_capacity out.old < vec_len out.old + (self.old.bytes + 4)) }
     {
-        let mut positions = replace(&mut self.positions, Vec::new(self.alloc));
-        let listed = self.take_postings(next, &mut positions, out);
-        self.positions = positions;
-        listed
+        if matches!(self.place, Place::Failed) {
+            return Err(ListError::Source(RunTextError::Failed));
+        }
+        let (documents, size) = (self.documents, self.bytes);
+        if documents == 0 {
+            return Ok(Listed { documents, next });
+        }
+        if out.try_reserve(size + MORE_BYTES).is_err() {
+            return Err(ListError::Memory);
+        }
+        let first = self.head.first;
+        let Ok(()) = push_list(self.input.held(), size, first + self.next, next, out) else {
+            unreachable!()
+        };
+        self.input.pass(size);
+        self.next = self.after;
+        self.documents = 0;
+        self.bytes = 0;
+        Ok(Listed {
+            documents,
+            next: first + self.after,
+        })
     }
 
     ghost drained_without_term = { λ reader none some. absurd (some none) };

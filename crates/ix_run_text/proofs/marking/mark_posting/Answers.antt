@@ -1,15 +1,15 @@
 -- A posting that stands first and may come next is not refused, whichever way it is taken.
-use Rattle.std.proofs.Common.{◌-◌, ◌+◌, sym}
-use Rattle.std.proofs.lemmas.Result.{err_from_is_err_and}
-use Rattle.ix_run_text.proofs.MarkLemmas.{marks_of_front, marks_of_single, single_stands, stands_in_front}
+use Rattle.std.proofs.Common.{◌-◌, ◌+◌, take, sym, arith}
+use Rattle.std.proofs.lemmas.Bool.{false≢true}
+use Rattle.ix_run_text.proofs.MarkLemmas.{marks_of_front, marks_of_single, single_in_front, single_stands}
 use Rattle.ix_run_text.proofs.marking.mark_posting.Goals as goal
 
 pub returns-in_err-document-in-Some-clause-accepted : goal.returns-in_err-document-in-Some-clause-accepted
-returns-in_err-document-in-Some-clause-accepted c rows numbers posting rest has held fits free short e =
+returns-in_err-document-in-Some-clause-accepted c rows numbers posting missing rest has held fits free e =
     let found = c.in-Some.posting in
-    let is = single_stands c.args.bytes.now found.gap found.position_gap found.size (posting.0 + 1 - c.args.next) posting rest c.in-Some.ensures.found e in
-    let p = err_from_is_err_and c.from_residual.result c.from_residual.ensures.1 in
-    rw (p.1, p.2) (c.in_err-document-in-Some.ensures.accepted rows numbers posting has held fits free (sym is.0) is.1)
+    let front = single_in_front c.args.bytes.now found.gap found.position_gap found.size c.args.limit c.in-Some.ensures.found (omega arith) in
+    let is = single_stands (take c.args.limit c.args.bytes.now) missing found.gap found.position_gap found.size (posting.0 + 1 - c.args.next) posting rest front e in
+    absurd (false≢true (c.in_err-document-in-Some.ensures.accepted rows numbers posting has held fits free (sym is.0) is.1))
 
 pub returns-in_ok-document-in-Some-clause-marked : goal.returns-in_ok-document-in-Some-clause-marked
 returns-in_ok-document-in-Some-clause-marked c =
@@ -21,6 +21,4 @@ pub returns-in_default-clause-marked : goal.returns-in_default-clause-marked
 returns-in_default-clause-marked c = marks_of_front c.args.tokens.now c.args.next c.args.bytes.now c.args.limit c.args.marks.now c.mark_any_posting.new.marks c.requires.within c.mark_any_posting.result c.mark_any_posting.ensures.size c.mark_any_posting.ensures.marked
 
 pub returns-in_default-clause-accepted : goal.returns-in_default-clause-accepted
-returns-in_default-clause-accepted c rows numbers posting rest has held fits free short e =
-    let (behind, is) = stands_in_front c.args.bytes.now c.args.limit (posting.0 + 1 - c.args.next) posting rest short c.requires.within e in
-    c.mark_any_posting.ensures.accepted rows numbers posting behind has held fits free is
+returns-in_default-clause-accepted c rows numbers posting missing rest has held fits free e = c.mark_any_posting.ensures.accepted rows numbers posting missing rest has held fits free e

@@ -10,14 +10,14 @@ returns-in_default-clause-accepted c rows numbers posting has held fits free gap
     let tokens = c.args.tokens.now in
     let marks = c.args.marks.now in
     let past = c.in_default.ensures rows has (few_documents tokens marks c.requires.ready rows has c.args.next posting fits) in
-    omega (arith, past, gap, fits.above, document_within tokens marks c.requires.ready rows has c.args.next posting fits)
+    absurd (omega (arith, past, gap, fits.above, document_within tokens marks c.requires.ready rows has c.args.next posting fits))
 
 pub returns-then-position_gap-count-clause-accepted : goal.returns-then-position_gap-count-clause-accepted
 returns-then-position_gap-count-clause-accepted c rows numbers posting has held fits free gap only =
     let found = c.in-Some.ensures rows has in
     let same : c.in-Some.document ≡ posting.0 = omega (arith, found.0, gap, fits.above) in
     let span = subst (λ (document : ℕ). IsSpan rows document c.in-Some.span) same found.1 in
-    omega (arith, c.if-position_gap-count.true, ascends_single c.args.tokens.now c.args.marks.now c.requires.ready rows has c.args.next posting fits c.args.position_gap c.in-Some.span span only, c.requires.some.1)
+    absurd (omega (arith, c.if-position_gap-count.true, ascends_single c.args.tokens.now c.args.marks.now c.requires.ready rows has c.args.next posting fits c.args.position_gap c.in-Some.span span only, c.requires.some.1))
 
 pub overflow_add-first : goal.overflow_add-first
 overflow_add-first c =

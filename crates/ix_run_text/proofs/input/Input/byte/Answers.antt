@@ -1,8 +1,7 @@
 -- The byte at the front of what is held.
 use Rattle.std.proofs.Common.{arith}
-use Rattle.ix_run_text.specs.Inputs.{known_left, passed}
+use Rattle.ix_run_text.specs.Inputs.{known_left}
 use Rattle.ix_run_text.proofs.InputLemmas.{byte_taken}
-use Rattle.ix_run_text.proofs.Passing.{fills_on, passes_byte}
 use Rattle.ix_run_text.proofs.input.Input.byte.Goals as goal
 
 pub returns-clause-taken : goal.returns-clause-taken
@@ -11,10 +10,3 @@ returns-clause-taken g c =
     let input = c.has_byte.new.self in
     byte_taken (g.R.Read.remaining input.reader) input.buffer.items input.start _ input.end c.index-byte.result.now (known_left g.R.Read.remaining c.args.self.now)
     c.in_ok-has_byte.ensures.kept (rw c.if-not-branch.false at c.in_ok-has_byte.ensures.has) (omega (arith, input.buffer.ok.0, input.within)) c.index-byte.ensures (omega arith)
-
-pub returns-clause-passed : goal.returns-clause-passed
-unfolding passed
-returns-clause-passed g c =
-    let input = c.has_byte.new.self in
-    fills_on _ _ _ c.index-byte.result.now c.in_ok-has_byte.ensures.passed
-    (passes_byte input.buffer.items input.start input.end c.index-byte.result.now (rw c.if-not-branch.false at c.in_ok-has_byte.ensures.has) (omega (arith, input.buffer.ok.0, input.within)) c.index-byte.ensures)

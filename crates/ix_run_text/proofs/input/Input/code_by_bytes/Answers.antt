@@ -5,16 +5,14 @@ use Rattle.std.proofs.lemmas.List.{take_more_set, length-take, length-set}
 use Rattle.std.specs.Io.KnownBytes.{Consumes}
 use Rattle.ix_vbyte.specs.Reading.{IsCut, IsTooBig, StartsWithCode, StartsWithZero}
 use Rattle.ix_vbyte.specs.Code.{code_of}
-use Rattle.ix_run_text.specs.Inputs.{Buffered, known_left, Passes, passed}
+use Rattle.ix_run_text.specs.Inputs.{known_left}
 use Rattle.ix_run_text.proofs.CodeLemmas.{big_stays, ends_here, fault_of_front, six_too_many, zero_stays}
 use Rattle.ix_vbyte.proofs.Fronts.{cut_at_once}
-use Rattle.ix_run_text.proofs.Passing.{passes_none, passes_on}
 use Rattle.ix_run_text.proofs.input.Input.code_by_bytes.Goals as goal
 
 pub loop-place-init : goal.loop-place-init
 loop-place-init g c = record {
   taken = Consumes-nil (known_left g.R.Read.remaining c.args.self.now);
-  passed = passes_none (passed c.args.self.now);
   cut = cut_at_once [] refl;
   within = omega arith;
   size = refl;
@@ -65,18 +63,6 @@ returns-clause-fault g c =
     let loop = c.loop-place in
     absurd (six_too_many (take loop.place loop.seen) (omega (arith, length-take loop.place loop.seen)) loop.invariant.cut)
 
-passed_more : (a b c : Buffered) (seen : List ℕ) (place byte : ℕ) → place < length seen → Passes a b (take place seen) → Passes b c (byte ∷ []) → Passes a c (take (place + 1) (set seen place byte))
-passed_more a b c seen place byte lt before now =
-    subst (Passes a c) (sym (take_more_set seen place byte lt)) (passes_on a b c (take place seen) (byte ∷ []) before now)
-
-pub returns-in-Ok-clause-passed : goal.returns-in-Ok-clause-passed
-returns-in-Ok-clause-passed g c =
-    let loop = c.loop-place in
-    let s = (c.in-Ok.ensures.found c.in-Ok.number c.in-Ok.field-0-1).0 refl in
-    let lt : loop.place < length loop.seen = omega arith in
-    subst (Passes (passed c.args.self.now) (passed c.byte.new.self)) (code_is loop.seen loop.place c.in-Some.byte c.in-Ok.number c.in-Ok.field-0-1 lt loop.invariant.cut s)
-    (passed_more (passed c.args.self.now) (passed loop.self) (passed c.byte.new.self) loop.seen loop.place c.in-Some.byte lt loop.invariant.passed (rw c.in-Some.is at c.in_ok-byte.ensures.passed))
-
 pub returns-in-Err-LeadingZero-clause-fault : goal.returns-in-Err-LeadingZero-clause-fault
 returns-in-Err-LeadingZero-clause-fault g c =
     let loop = c.loop-place in
@@ -95,7 +81,6 @@ loop-place-preserved g c =
     record {
       taken = taken_more (known_left g.R.Read.remaining c.args.self.now) (known_left g.R.Read.remaining loop.self) (known_left g.R.Read.remaining c.byte.new.self) loop.seen loop.place c.in-Some.byte lt loop.invariant.taken
           (rw c.in-Some.is at c.in_ok-byte.ensures.taken);
-      passed = passed_more (passed c.args.self.now) (passed loop.self) (passed c.byte.new.self) loop.seen loop.place c.in-Some.byte lt loop.invariant.passed (rw c.in-Some.is at c.in_ok-byte.ensures.passed);
       cut = c.in-Err-Cut.ensures.cut.0 (cc);
       within = omega arith;
       size = length-set loop.seen loop.place c.in-Some.byte ∙ loop.invariant.size;

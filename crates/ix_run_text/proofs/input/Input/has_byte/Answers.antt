@@ -2,9 +2,8 @@
 use Rattle.std.proofs.Common.{◌≡◌, ◌<◌, length, arith}
 use Rattle.std.proofs.lemmas.List.{with_items_is}
 use Rattle.std.specs.Vec.{with_items}
-use Rattle.ix_run_text.specs.Inputs.{known_left, passed}
+use Rattle.ix_run_text.specs.Inputs.{known_left}
 use Rattle.ix_run_text.proofs.InputLemmas.{held-filled, found_or_ended}
-use Rattle.ix_run_text.proofs.Passing.{fills_anew, take_zero}
 use Rattle.ix_run_text.proofs.input.Input.has_byte.Goals as goal
 
 pub returns-clause-kept : goal.returns-clause-kept
@@ -21,7 +20,3 @@ returns-clause-has g c =
     let old = c.args.self.now in
     let room : 0 < length c.deref_mut.result.now = omega (arith, old.buffer.ok.0, old.room) in
     found_or_ended c.in_ok-count.count (with_items old.buffer c.read_some.new.buffer).items (g.R.Read.remaining c.read_some.new.reader) (λ none. c.in_ok-count.ensures.end none room)
-
-pub returns-clause-passed : goal.returns-clause-passed
-unfolding passed
-returns-clause-passed g c = let empty = c.if-self.false in fills_anew _ _ (take_zero (with_items c.args.self.now.buffer c.read_some.new.buffer).items) (omega (arith, empty))

@@ -2,10 +2,10 @@
 use Rattle.std.proofs.Common.{ℕ, List, [], Some, string_bytes, ap, subst, sym, ◌∙◌, rules}
 use Rattle.std.proofs.lemmas.Result.{err_from_is_err_and}
 use Rattle.ix_run_text.specs.Heads.{Heading, heading_of}
-use Rattle.ix_run_text.specs.Inputs.{known_left}
+use Rattle.ix_run_text.specs.Inputs.{bytes_held, known_left}
 use Rattle.ix_run_text.specs.Reading.{bytes_ahead, heading_from}
 use Rattle.ix_run_text.specs.Sources.{AreWhole}
-use Rattle.ix_run_text.proofs.LooksOn.{looking_opened, told_opened}
+use Rattle.ix_run_text.proofs.CheckedLists.{checked_none}
 use Rattle.ix_run_text.proofs.ReadOpen.{opened_faces, opened_yields, text_heading, text_parts, text_whole, unread}
 use Rattle.ix_run_text.specs.RunReaders.{bytes_left}
 use Rattle.ix_run_text.proofs.run_reader.RunReader.open.Goals as goal
@@ -25,23 +25,21 @@ pub returns-clause-unread : goal.returns-clause-unread
 returns-clause-unread g c =
     let heading = heading_of c.in_ok-head.head in
     let marks = c.in_ok-marks.marks in
-    let ahead = c.new-6.result.items in
     let input = c.read_head.new.input in
     let last = string_bytes c.new-3.result in
     let none = c.new-3.ensures.bytes in
-    let told = told_opened heading marks ahead input last none c.new-6.ensures.items c.in_ok-marks.ensures.none in
-    unread heading (looking_opened marks ahead input) last none c.in_ok-head.ensures.lawful told
+    let told = checked_none heading.rows marks 0 (bytes_held input) [] c.in_ok-marks.ensures.none tt in
+    unread heading (record { marks = marks; after = 0; held = bytes_held input }) last none c.in_ok-head.ensures.lawful told
 
 pub returns-clause-yields : goal.returns-clause-yields
 returns-clause-yields g c bytes entries known may =
     let heading = heading_of c.in_ok-head.head in
     let marks = c.in_ok-marks.marks in
-    let ahead = c.new-6.result.items in
     let input = c.read_head.new.input in
     let last = string_bytes c.new-3.result in
     let none = c.new-3.ensures.bytes in
-    let told = told_opened heading marks ahead input last none c.new-6.ensures.items c.in_ok-marks.ensures.none in
-    opened_yields heading (looking_opened marks ahead input) last none
+    let told = checked_none heading.rows marks 0 (bytes_held input) [] c.in_ok-marks.ensures.none tt in
+    opened_yields heading (record { marks = marks; after = 0; held = bytes_held input }) last none
     (known_left g.R.Read.remaining c.in_ok-input.input) (known_left g.R.Read.remaining input) bytes entries
     c.in_ok-head.ensures.lawful told c.in_ok-head.ensures.taken (c.in_ok-input.ensures ∙ known) may
 
@@ -55,15 +53,14 @@ pub returns-clause-faced : goal.returns-clause-faced
 returns-clause-faced g c first collection bytes is known =
     let heading = heading_of c.in_ok-head.head in
     let marks = c.in_ok-marks.marks in
-    let ahead = c.new-6.result.items in
     let input = c.read_head.new.input in
     let last = string_bytes c.new-3.result in
     let none = c.new-3.ensures.bytes in
-    let told = told_opened heading marks ahead input last none c.new-6.ensures.items c.in_ok-marks.ensures.none in
+    let told = checked_none heading.rows marks 0 (bytes_held input) [] c.in_ok-marks.ensures.none tt in
     let found = c.in_ok-head.ensures.accepted (heading_from first is.parts) (bytes_ahead [] is.parts.entries) (text_heading first collection bytes is)
     (c.in_ok-input.ensures ∙ known ∙ ap (λ (bs : List ℕ). Some bs) (text_parts first collection bytes is)) in (
       found.0,
-      opened_faces heading (looking_opened marks ahead input) last none (known_left g.R.Read.remaining input) is.parts.entries
+      opened_faces heading (record { marks = marks; after = 0; held = bytes_held input }) last none (known_left g.R.Read.remaining input) is.parts.entries
           c.in_ok-head.ensures.lawful told
           (subst (λ (h : Heading). AreWhole h is.parts.entries) (sym found.0) (text_whole first collection bytes is)) found.1,
     )
