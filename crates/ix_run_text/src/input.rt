@@ -12,7 +12,7 @@ use ix_vbyte::{VbError, decode};
 use std::alloc::{AllocError, Global};
 use std::io::{ErrorKind, Read};
 
-/// How many bytes are asked of the reader at once.
+/// How many bytes the buffer has at first, and by how many it grows.
 const BUFFER_BYTES: usize = 1 << 16;
 
 /// A reader with the bytes that it gave and that were not taken yet.
@@ -150,8 +150,8 @@ impl<R: Read> Input<R> {
         self.start += count;
     }
 
-    /// Reads on until `count` bytes are buffered. The buffer grows as bytes come, in pieces of 64 KiB at most. After an error the
-    /// bytes that came are buffered.
+    /// Reads on until `count` bytes are buffered. The buffer grows as bytes come, by 64 KiB at a time: so a forged `count` costs what
+    /// the reader has, no more. After an error the bytes that came are buffered.
     ///
     /// # Errors
     /// `Number(Cut)` if the input ends before; `Read`; `Memory`.

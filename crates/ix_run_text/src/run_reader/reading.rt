@@ -43,8 +43,8 @@ impl<R: Read + Drop> Source for RunReader<R> {
     /// `StopIndexed` if it is a stop term, `Zero` if it has no document, and `Number` if a code is faulty or the input ends inside a
     /// number or the term. Of its list `Number`; `ListLength` if the list ends inside a posting, before its last one, or behind it;
     /// `Zero` if a gap or the number of positions is 0; `DocRange` if the run has no such document; `PositionRange` if the document has
-    /// no such position; `Doubled` if another term has that position. If the input ends or a read fails inside the list, or memory is
-    /// not granted, first the faults of the bytes that came. `Extra` if a byte comes behind the end mark; `Read` and `Memory`; after
+    /// no such position; `Doubled` if another term has that position. If the input ends or a read fails inside the list, or memory
+    /// runs out, first the faults of the bytes that came. `Extra` if a byte comes behind the end mark; `Read` and `Memory`; after
     /// any error `Failed`.
     fn next_term(&mut self) -> Result<bool, RunTextError>
         ensures heading { heading_read self.new ≡ heading_read self.old }
