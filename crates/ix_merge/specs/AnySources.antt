@@ -4,7 +4,7 @@ use Rattle.ix_file.specs.Postings.{list_bytes_from, shifted}
 use Rattle.ix_text.specs.Parts.{DictionaryEntry, Posting}
 use Rattle.ix_run.specs.Faults.{MayFault}
 use Rattle.ix_run.specs.Heads.{Heading}
-use Rattle.ix_run.specs.Reading.{HasFailed, HasRead, IsDrained, IsEnded, IsHeldWhole, MayYield, StandsStill, term_of}
+use Rattle.ix_run.specs.Reading.{HasFailed, HasRead, IsDrained, IsEnded, MayYield, StandsStill, term_of}
 use Rattle.ix_run.specs.RunReaders.{heading_read}
 use Rattle.ix_run.specs.RunSources.{FirstExceeds, HasGiven, HasLeft, IsAtEnd, IsAtEndOfTerm}
 use Rattle.ix_run.specs.Sources.{AreWhole, IsLawfulFront, closed}
@@ -60,10 +60,10 @@ abbrev pub IsLeftRefused : {R : Type 0} → AnySource R → AnySource R → Type
 IsLeftRefused (Run run) left = SourceHasFailed left
 IsLeftRefused (Index index) left = left ≡ Index index
 
--- What an error of a list leaves: of an index the source unchanged; of a run text one whose calls fail, but that out of memory
--- leaves it unchanged if the list is buffered whole and nothing was taken of it.
+-- What an error of a list leaves: of an index the source unchanged; of a run text one whose calls fail, or, out of memory, the
+-- source unchanged.
 abbrev pub IsLeftWithoutList : {R : Type 0} → AnySource R → AnySource R → ListError RunTextError → Type 0
-IsLeftWithoutList (Run run) (Run left) error = (error ≢ list.Memory → HasFailed left) × (IsHeldWhole run → error ≡ list.Memory → StandsStill run left)
+IsLeftWithoutList (Run run) (Run left) error = (error ≢ list.Memory → HasFailed left) × (error ≡ list.Memory → StandsStill run left)
 IsLeftWithoutList (Run run) (Index left) error = ⊥
 IsLeftWithoutList (Index index) left error = left ≡ Index index
 

@@ -158,12 +158,6 @@ pub record GivesFirst {R : Type 0} (remaining : R → Option (List ℕ)) (reader
 abbrev pub heading_from : ℕ → Parts → Heading
 heading_from first parts = record { first = first; stop = parts.stop; rows = parts.rows }
 
--- Postings are left of the current list, none of it was taken, and its bytes are buffered.
-pub record IsHeldWhole {R : Type 0} (reader : RunReader R) : Type 0 where
-  pub some : 0 < reader.documents
-  pub fresh : reader.next ≡ 0
-  pub held : reader.bytes ≤ length (bytes_held reader.input)
-
 -- The reader is in the same state, and the same bytes are before it.
 pub record StandsStill {R : Type 0} (old new : RunReader R) : Type 0 where
   pub stands : standing new ≡ standing old
