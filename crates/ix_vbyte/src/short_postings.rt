@@ -80,22 +80,18 @@ pub fn short_number(bytes: &[u8]) -> Option<(u32, usize)>
     }
 }
 
-/// The number above 0 whose code of one byte or two these bytes begin with, and how many it takes. Nothing branches on that.
+/// The number above 0 whose code of one byte or two these bytes begin with, and how many it takes.
 #[inline(always)]
 fn short_code(first: u8, second: u8) -> Option<(u32, usize)>
     ensures found { IfSome result (λ code. IsShortCode first second code.0 code.1) }
     ensures none { IfNone result ((first ≡ 0)
         ⊎ ((first ≡ 128) ⊎ ((first < 128) × (second < 128)))) }
 {
-    let high = u32::from(first % 128);
-    let low = u32::from(second % 128);
-    let code = if first >= 128 {
-        (high, 1)
-    } else {
-        (high * 128 + low, 2)
-    };
-    if high == 0 || first / 128 + second / 128 == 0 {
+    if first > 128 {
+        return Some((u32::from(first - 128), 1));
+    }
+    if first == 0 || first == 128 || second < 128 {
         return None;
     }
-    Some(code)
+    Some((u32::from(first) * 128 + u32::from(second - 128), 2))
 }
