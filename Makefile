@@ -38,6 +38,7 @@ cookbook: all
 	@examples/check-cookbook.sh build/ix
 
 check-program: all
+	@tests/check_calls.py
 	@tests/check_program.py build/ix
 
 check-faults: all
@@ -47,8 +48,8 @@ check-examples: all
 	@examples/check-all.sh build/ix
 
 lib: toolchain
-	@echo "proving crates/ix_c and building the library (the first time takes some minutes; build/lib.log tells how it goes) .."
 	@mkdir -p build
+	@share/prove.py ix_c
 	@include/build.sh
 	@echo "built build/libix.a, build/libix.so, build/include/ix.h; from Python: cd python; python3 -m doctest -v ix.py"
 
