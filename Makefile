@@ -3,11 +3,11 @@
 # make install PREFIX=/usr/local   puts the program, its man page, completions and notices below PREFIX (and DESTDIR)
 # make uninstall PREFIX=/usr/local takes these away again
 # make clean  takes away what was built, and the proofs that were kept
-# make cookbook   runs each recipe of docs/guide/cookbook.md with build/ix
 # make check-program   runs build/ix whole, as a process, on worked examples, pipes, full devices and refused files
 # make check-faults    refuses each request for memory, each read and each write of build/ix in turn, and forges its files (docs/proofs/faults.md)
 # make lib    proves crates/ix_c and builds the library for C, Python and Rust: build/libix.a, build/libix.so, header, ix.pc
 # make check-lib  checks that library from C, Python and Rust, and against an oracle
+# make check-docs  runs the sessions of README and guide and the cookbook's recipes, and looks at links, names and lines
 # make check-examples  runs the cookbook, the builds in pieces, what is installed, the notices and the pictures
 #             (wants of Debian: apt install parallel python3-distributed zsh fish mandoc)
 RT := $(shell command -v rt 2> /dev/null)
@@ -19,7 +19,7 @@ DATA = $(DESTDIR)$(PREFIX)/share
 LANES = $(shell awk '/MemAvailable/ { lanes = int($$2 / 5000000) } \
     END { "nproc" | getline most; print lanes < 1 ? 1 : lanes < most ? lanes : most }' /proc/meminfo)
 
-.PHONY: all test cookbook check-program check-faults check-examples lib check-lib install uninstall clean toolchain
+.PHONY: all test check-docs check-program check-faults check-examples lib check-lib install uninstall clean toolchain
 
 all: toolchain
 	@mkdir -p build
@@ -34,7 +34,8 @@ test: toolchain
 	@echo "the gate: every proof from nothing, the must-fail edits, the tests, the program .."
 	@RT_JOBS=$${RT_JOBS:-$(LANES)} rt ci
 
-cookbook: all
+check-docs: all
+	@tests/check_docs.py build/ix
 	@examples/check-cookbook.sh build/ix
 
 check-program: all

@@ -40,7 +40,6 @@ part cookbook "$top/examples/check-cookbook.sh" "$ix"
 part cluster "$python" "$top/examples/cluster/check.py" "$ix"
 part cost cost
 part share "$top/share/check.py" "$ix"
-part index sh -c "'$top/docs/proofs/index.py' | diff - '$top/docs/proofs/index.md'"
 part pictures "$top/docs/design/pictures/draw.py" --check "$ix"
 if [ -n "$failed" ]; then
     echo "failed:$failed" >&2
