@@ -8,7 +8,6 @@ import sqlite3
 import sys
 import traceback
 from collections.abc import Callable, Iterator
-from fnmatch import fnmatch
 from types import FrameType
 
 from . import files, mail, tables
@@ -109,7 +108,7 @@ def documents(words: argparse.Namespace, out: Output, report: Report) -> Iterato
     for source in words.sources:
         count = 0
         try:
-            for document in of_source(source, words, Walk(report, out.own), report):
+            for document in of_source(source, words, Walk(report, out.own, words.match or "*"), report):
                 yield document
                 count += 1
         except (*UNREADABLE, sqlite3.Error) as fault:
@@ -123,8 +122,7 @@ def of_source(source: str, words: argparse.Namespace, walk: Walk, report: Report
     if words.kind in FOLDERS:
         found = walk.below(source)
         if words.kind == "folder":
-            match = words.match or "*"
-            return files.documents_of_files((file for file in found if fnmatch(os.path.basename(file.path), match)), report)
+            return files.documents_of_files(found, report)
         return mail.mails_of_files(filter(mail.in_maildir if words.kind == "maildir" else mail.in_mh, found), report)
     readers: dict[str, Callable[[File], Iterator[Document]]] = {
         "mbox": lambda file: mail.mbox(file, report),

@@ -10,6 +10,7 @@ import zlib
 from collections.abc import Callable, Iterator
 from contextlib import AbstractContextManager, contextmanager
 from dataclasses import dataclass
+from fnmatch import fnmatch
 from functools import partial
 from io import BufferedIOBase
 from typing import cast
@@ -82,17 +83,17 @@ def files(path: str) -> Iterator[File]:
 class Walk:
     """The files below folders, in the order of their names, numbers last. What is not taken is told."""
 
-    def __init__(self, report: Report, own: set[Identity]) -> None:
+    def __init__(self, report: Report, own: set[Identity], match: str) -> None:
         self.report = report
+        # The pattern of the names of files that are taken.
+        self.match = match
         # The files of the output, which may lie in the folder.
         self.own = own
 
     def below(self, source: str) -> Iterator[File]:
         """The files of a folder or of a .zip, or the one file that the source is."""
-        if os.path.isdir(source):
-            yield from self._folder(source, os.path.realpath(source))
-        else:
-            yield from files(source)
+        found = self._folder(source, os.path.realpath(source)) if os.path.isdir(source) else files(source)
+        return (file for file in found if fnmatch(os.path.basename(file.path), self.match))
 
     def _folder(self, folder: str, top: str) -> Iterator[File]:
         try:
@@ -104,6 +105,8 @@ class Walk:
             yield from self._entry(os.path.join(folder, name), top)
 
     def _entry(self, path: str, top: str) -> Iterator[File]:
+        if not (fnmatch(os.path.basename(path), self.match) or path.lower().endswith(".zip") or os.path.isdir(path)):
+            return
         try:
             status = os.lstat(path)
             if stat.S_ISLNK(status.st_mode):
