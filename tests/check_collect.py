@@ -10,6 +10,7 @@ from __future__ import annotations
 
 import gzip
 import os
+import resource
 import shutil
 import signal
 import sqlite3
@@ -201,6 +202,22 @@ def check_mails() -> None:
         other = collected(kind, source)
         check(f"{source}: the same documents", other.lawful and other.texts == same and other.status == 0,
               (other.said, len(other.texts), len(same)))
+
+
+def check_notmuch() -> None:
+    """Counts of words for which notmuch has the same rules."""
+    if not shutil.which("notmuch"):
+        print("skipped: counts by notmuch, which is not installed")
+        return
+    Path("notmuch").write_text(f"[database]\npath={os.getcwd()}/Maildir\n[user]\nname=n\nprimary_email=n@example.org\n")
+    environment = {**os.environ, "NOTMUCH_CONFIG": "notmuch"}
+    subprocess.run(["notmuch", "new", "--quiet"], env=environment, check=True, stderr=subprocess.DEVNULL)
+    box = collected("maildir", "Maildir")
+    for query, words in (("htmlonly", "htmlonly"), ("sécurité", "sécurité"), ("Grüße", "Grüße"), ("innerbody", "innerbody"),
+                         ("from:anna", "from_Anna"), ("from:lawfirm", "from_lawfirm"), ("subject:Königstraße", "subject_Königstraße"),
+                         ("subject:rent", "subject_Rent"), ("to:köln", "to_Köln"), ("date:2026-03-02", "date_2026_03_02"), ("attachment:zürich", "attachment_zürich")):
+        counted = subprocess.run(["notmuch", "count", query], env=environment, capture_output=True).stdout
+        check(f"notmuch counts as many for {query}", int(counted) == len(box.holding(words)) > 0, (counted, len(box.holding(words))))
 
 
 def box_of(*mails: bytes) -> bytes:
@@ -404,14 +421,14 @@ def check_tables() -> None:
     refused = run("csv", "--name", "nosuch", "t.csv")
     check("csv: no such column: status 2, and the columns", refused.returncode == 2 and b"id, what, note" in refused.stderr, refused)
 
-    Path("t.jsonl").write_bytes(b'{"id": 1, "t": "one \\u00fc", "n": [1.10, {"x": null, "y": true}]}\n{"id": "b", "t": "\\ud800half"}\n'
+    Path("t.jsonl").write_bytes(b'{"id": 1, "t": "one \\u00fc", "n": [1.10, {"x": null, "y": true}], "t": "again"}\n{"id": "b", "t": "\\ud800half"}\n'
                                 b'not json\n[1]\n\n{"t": "nameless"}\n' + b"[" * 100_000 + b'\n{"id": "e", "t": "emoji \\ud83d\\ude00"}\n')
     made = collected("-v", "jsonl", "t.jsonl", "--name", "id")
-    check("jsonl: lines", list(made.texts)[:2] == ["1", "b"] and made.texts["1"] == "one ü 1.10 True" and made.texts["b"] == "\ufffdhalf" and
+    check("jsonl: lines", list(made.texts)[:2] == ["1", "b"] and made.texts["1"] == "one ü again 1.10 true" and made.texts["b"] == "\ufffdhalf" and
           made.texts["e"] == "emoji 😀" and made.lawful and made.status == 3 and len(made.texts) == 4, (made.texts, made.said))
     check("jsonl: bad lines are told", all(f"line that is no object of JSON: t.jsonl: line {line}" in made.said for line in (3, 4, 7)), made.said)
     made = collected("jsonl", "t.jsonl", "--name", "id", "--text", "t", "nosuch")
-    check("jsonl: --text", made.texts["1"] == "one ü" and "field that no line has" in made.said, made.said)
+    check("jsonl: --text", made.texts["1"] == "one ü again" and "field that no line has" in made.said, made.said)
 
     with sqlite3.connect("shop.db") as shop:
         shop.execute("create table items (id, title, text)")
@@ -456,6 +473,13 @@ def check_cut_short() -> None:
     with open("/dev/full", "wb") as full:
         done = subprocess.run([sys.executable, "-B", COLLECT, "mbox", "cut/good.mbox"], stdout=full, stderr=subprocess.PIPE)
     check("full device: status 4", done.returncode == 4 and b"No space" in done.stderr, done)
+    packed = subprocess.run(["zstd", "-qc", "cut/good.mbox"], capture_output=True, check=True).stdout
+    Path("cut.zst").write_bytes(packed[:-20])
+    check("a .zst that was cut: status 4", run("mbox", "cut.zst").returncode == 4)
+    closed = ["/bin/sh", "-c", '"$@" 2>&-', "sh", sys.executable, "-B", COLLECT, "-v", "-o", "closed.tsv", "mbox", "odd.mbox"]
+    status = subprocess.run(closed).returncode  # type: ignore[arg-type]
+    check("no error output: none of it in FILE", Collected(subprocess.CompletedProcess([], status, b"", b""), Path("closed.tsv").read_bytes()).lawful and status == 3)
+    full_disk(Path("cut/good.mbox"))
     for name in ("SIGINT", "SIGTERM", "SIGHUP"):
         signalled(name, many, old, files)
     done = run("-o", "cut/out.tsv", "mbox", "cut/good.mbox")
@@ -468,6 +492,19 @@ def check_cut_short() -> None:
     check("-o: a device is refused", run("-o", "/dev/null", "mbox", "cut/good.mbox").returncode == 2 and Path("/dev/null").is_char_device())
     done = run("-o", "docs/own.tsv", "folder", "docs/sub", "docs")
     check("-o: in the folder that is read: not read", b"own.tsv" not in Path("docs/own.tsv").read_bytes() and done.returncode == 3, done)
+
+
+def full_disk(source: Path) -> None:
+    """A file of the standard output that may not grow at a line end, or behind or before it."""
+    whole = run("mbox", source).stdout
+    end = whole.index(b"\n", 3000) + 1
+    for size in (end - 1, end, end + 1):
+        with open("small", "wb") as small:
+            done = subprocess.run([sys.executable, "-B", COLLECT, "mbox", source], stdout=small, stderr=subprocess.PIPE,
+                                  preexec_fn=lambda: resource.setrlimit(resource.RLIMIT_FSIZE, (size, size)))
+        data = Path("small").read_bytes()
+        check(f"a disk that is full at byte {size}: status 4, no line end", done.returncode == 4 and whole.startswith(data) and
+              len(data) >= end - 1 and not data.endswith(b"\n"), (done, data[-20:]))
 
 
 def signalled(name: str, many: bytes, old: bytes, files: list[str]) -> None:
@@ -501,7 +538,7 @@ def main() -> int:
     with tempfile.TemporaryDirectory() as folder:
         os.chdir(folder)
         try:
-            for part in (check_mails, check_odd_mails, check_files, check_tables, check_cut_short):
+            for part in (check_mails, check_notmuch, check_odd_mails, check_files, check_tables, check_cut_short):
                 part()
         finally:
             os.chdir(here)

@@ -6,8 +6,8 @@ import sys
 from collections import Counter
 from dataclasses import dataclass, field
 
-# The dashes and quotation marks of running text, and the punctuation of ASCII.
-MARKS = "!-/:-@\\[-`{-~‘’“”„«»‹›…–—"
+# The dashes and quotation marks of running text, and the punctuation of ASCII but for `_`.
+MARKS = "!-/:-@\\[-^`{-~‘’“”„«»‹›…–—"
 CONTROLS = re.compile("[\0-\x1f\x7f-\x9f]")
 
 
@@ -75,8 +75,8 @@ class Report:
 
     def end(self, documents: int) -> None:
         """Prints the counts, if there are any or if somebody looks on."""
-        if self.counts or self.verbose or sys.stderr.isatty():
-            tell(f"{documents} documents")
+        if self.counts or self.verbose or (sys.stderr is not None and sys.stderr.isatty()):
+            tell(f"{documents} document{'s' * (documents != 1)}")
         for what, count in sorted(self.counts.items()):
             tell(f"{count} {what}")
         if self.counts and not self.verbose:
@@ -84,5 +84,9 @@ class Report:
 
 
 def tell(line: str) -> None:
-    """A line on the error output, without control characters."""
-    print("ix-collect:", CONTROLS.sub(lambda found: f"\\x{ord(found[0]):02x}", line), file=sys.stderr)
+    """A line on the error output, if there is one, without control characters."""
+    try:
+        if sys.stderr is not None:
+            print("ix-collect:", CONTROLS.sub(lambda found: f"\\x{ord(found[0]):02x}", line), file=sys.stderr)
+    except OSError:
+        pass

@@ -10,6 +10,7 @@ from email.headerregistry import HeaderRegistry
 from email.message import Message
 from email.policy import EmailPolicy
 from email.utils import parsedate
+from functools import lru_cache
 from os.path import basename, dirname, splitext
 
 from .document import Document, LeftOut, Mistake, Report
@@ -32,7 +33,8 @@ def _policy() -> EmailPolicy:
     headers, usual = HeaderRegistry(use_default_map=False), HeaderRegistry()
     for name in ("content-type", "content-disposition", "content-transfer-encoding"):
         headers.registry[name] = usual.registry[name]
-    return EmailPolicy(header_factory=headers)
+    # A header is parsed anew each time it is asked for.
+    return EmailPolicy(header_factory=lru_cache(256)(headers))
 
 
 POLICY = _policy()
@@ -46,6 +48,7 @@ class Reader:
         self.where = where
         self.report = report
         self.attachments: list[str] = []
+        self.doubts: set[str] = set()
 
     def document(self) -> Document:
         """The mail as a document; its raw text if it cannot be parsed."""
@@ -61,7 +64,9 @@ class Reader:
             return Document(digest_name(self.data), decode(self.data)[0])
 
     def doubt(self, doubt: str) -> None:
-        if doubt:
+        """Tells a doubt, if it is one, once for a mail."""
+        if doubt and doubt not in self.doubts:
+            self.doubts.add(doubt)
             self.report.doubted(doubt, self.where)
 
     def name(self, mail: Message) -> str:
@@ -82,10 +87,12 @@ class Reader:
 
     def header(self, mail: Message, name: str) -> str:
         """The values of a header, decoded."""
+        raw = " ".join(value for key, value in mail.raw_items() if key.lower() == name)
+        if raw.isascii() and "=?" not in raw:
+            return raw
         text = " ".join(str(value) for value in mail.get_all(name, []))
         if "\ufffd" not in text:
             return text
-        raw = " ".join(value for key, value in mail.raw_items() if key.lower() == name)
         return ENCODED_WORD.sub(self.encoded_word, self.decoded(raw))
 
     def decoded(self, raw: str) -> str:
@@ -107,8 +114,6 @@ class Reader:
 
     def texts(self, part: Message) -> Iterator[str]:
         """The texts of a part and of all parts within it, in their order."""
-        if part.defects:
-            self.doubt("mail with faults in its form, read as far as that goes")
         if part.get_content_type() == "message/delivery-status":
             yield self.decoded(part.as_string())
         elif part.is_multipart():
@@ -119,6 +124,7 @@ class Reader:
             yield self.decoded(part.epilogue or "")
         else:
             yield from self.leaf(part)
+        self.doubt("mail with faults in its form, read as far as that goes" if part.defects else "")
 
     def leaf(self, part: Message) -> Iterator[str]:
         """The text of a part, and its name if it is an attachment."""
@@ -141,7 +147,8 @@ class Reader:
     def attached(self, part: Message, data: bytes, name: str) -> tuple[str, str]:
         """The text of an attachment, if it is of a kind that is read."""
         try:
-            if part.get_content_maintype() not in ("image", "audio", "video", "font"):
+            signature = part.get_content_subtype().endswith("signature")
+            if part.get_content_maintype() not in ("image", "audio", "video", "font") and not signature:
                 return text_of(data, splitext(name.lower())[1])
             self.report.noted("attachment known by its name alone", f"{self.where}: {name}")
         except LeftOut as why:

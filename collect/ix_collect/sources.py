@@ -3,6 +3,7 @@ from __future__ import annotations
 
 import gzip
 import os
+import shutil
 import stat
 import subprocess
 import zipfile
@@ -47,17 +48,17 @@ class File:
 
 
 @contextmanager
-def unpacked_by(words: list[str]) -> Iterator[BufferedIOBase]:
-    """What a program prints. Its failure is an OSError, once all was read."""
-    with subprocess.Popen(words, stdout=subprocess.PIPE, stderr=subprocess.DEVNULL) as child:
-        assert child.stdout is not None
-        try:
-            yield cast(BufferedIOBase, child.stdout)
-        except BaseException:
-            child.kill()
-            raise
-        if child.stdout.read(1) == b"" and child.wait() != 0:
-            raise OSError(f"{words[0]} cannot unpack it to its end")
+def unpacked_zst(path: str) -> Iterator[BufferedIOBase]:
+    """The bytes of a .zst by zstd(1). If it fails, that is an OSError once all was read."""
+    if not shutil.which("zstd"):
+        raise OSError("there is no zstd (Debian: zstd)")
+    with open(path, "rb") as packed, subprocess.Popen(
+        ["zstd", "-dcq"], stdin=packed, stdout=subprocess.PIPE, stderr=subprocess.DEVNULL
+    ) as child:
+        stream = cast(BufferedIOBase, child.stdout)
+        yield stream
+        if stream.read(1) == b"" and child.wait() != 0:
+            raise OSError("zstd cannot unpack it to its end")
 
 
 def opener(path: str) -> Opener:
@@ -65,7 +66,7 @@ def opener(path: str) -> Opener:
     if path.lower().endswith(".gz"):
         return lambda: gzip.open(path)
     if path.lower().endswith(".zst"):
-        return lambda: unpacked_by(["zstd", "-dcqf", "--", path])
+        return lambda: unpacked_zst(path)
     return lambda: open(path, "rb")
 
 

@@ -30,7 +30,10 @@ def lines_of(stream: io.BufferedIOBase, name: str, report: Report) -> Iterator[s
     lines = io.BufferedReader(stream)  # type: ignore[arg-type]
     charset = marked_charset(lines.peek(4)[:4])
     if charset.startswith(("utf-16", "utf-32")):
-        yield from io.TextIOWrapper(lines, charset, newline="")
+        for line in io.TextIOWrapper(lines, charset, "replace", newline=""):
+            if "\ufffd" in line:
+                report.doubted(f"bytes that are not {charset.upper()}", name)
+            yield line
         return
     for number, data in enumerate(lines, start=1):
         text, doubt = decode(data, "utf-8-sig" if number == 1 else "utf-8")
@@ -98,7 +101,15 @@ def strings_in(value: object) -> Iterator[str]:
         for inner in value:
             yield from strings_in(inner)
     elif value is not None:
-        yield str(value)
+        yield value if isinstance(value, str) else json.dumps(value)
+
+
+def object_of(pairs: list[tuple[str, object]]) -> dict[str, object]:
+    """An object of JSON; a name that comes again has all of its values."""
+    made: dict[str, object] = {}
+    for name, value in pairs:
+        made[name] = [made[name], value] if name in made else value
+    return made
 
 
 def json_lines(file: File, report: Report, name: str, texts: Sequence[str]) -> Iterator[Document]:
@@ -110,7 +121,7 @@ def json_lines(file: File, report: Report, name: str, texts: Sequence[str]) -> I
             if not line.strip():
                 continue
             try:
-                row = json.loads(line, parse_int=str, parse_float=str)
+                row = json.loads(line, parse_int=str, parse_float=str, object_pairs_hook=object_of)
             except (ValueError, RecursionError):
                 row = None
             if not isinstance(row, dict):
