@@ -509,9 +509,10 @@ def full_disk(source: Path) -> None:
 
 def signalled(name: str, many: bytes, old: bytes, files: list[str]) -> None:
     """A run that waits for the rest of its source gets a signal."""
-    for output in ([], ["-o", "cut/out.tsv"]):
+    outputs: tuple[list[str], ...] = ([], ["-o", "cut/out.tsv"])
+    for output in outputs:
         with open("printed", "w+b") as printed:
-            words = [sys.executable, "-B", COLLECT, *output, "mbox", "/dev/stdin"]
+            words: list[str | Path] = [sys.executable, "-B", COLLECT, *output, "mbox", "/dev/stdin"]
             child = subprocess.Popen(words, stdin=subprocess.PIPE, stdout=printed, stderr=subprocess.PIPE)
             assert child.stdin and child.stderr
             child.stdin.write(many)
