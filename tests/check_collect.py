@@ -427,8 +427,10 @@ def check_tables() -> None:
     check("jsonl: lines", list(made.texts)[:2] == ["1", "b"] and made.texts["1"] == "one ü again 1.10 true" and made.texts["b"] == "\ufffdhalf" and
           made.texts["e"] == "emoji 😀" and made.lawful and made.status == 3 and len(made.texts) == 4, (made.texts, made.said))
     check("jsonl: bad lines are told", all(f"line that is no object of JSON: t.jsonl: line {line}" in made.said for line in (3, 4, 7)), made.said)
+    made = collected("jsonl", "t.jsonl", "--name", "id", "--text", "n")
+    check("jsonl: a line without the fields of the text", made.texts["1"] == "1.10 true" and made.texts["b"] == "", made.texts)
     made = collected("jsonl", "t.jsonl", "--name", "id", "--text", "t", "nosuch")
-    check("jsonl: --text", made.texts["1"] == "one ü again" and "field that no line has" in made.said, made.said)
+    check("jsonl: --text", made.texts["1"] == "one ü again" and made.texts["b"] == "\ufffdhalf" and "field that no line has" in made.said, made.said)
 
     with sqlite3.connect("shop.db") as shop:
         shop.execute("create table items (id, title, text)")
@@ -442,6 +444,7 @@ def check_tables() -> None:
         made = collected("sqlite", source, "--query", "select id, title, text from items")
         check(f"{source}: rows", list(made.texts.values()) == ["chair", "2.5", "nameless x", "Müller y"] and
               list(made.texts)[:2] == ["1", "two"] and made.status == 3 and "1 left out: value of bytes" in made.said, (made.texts, made.said))
+    check("sqlite: two statements: status 2", run("sqlite", "shop.db", "--query", "select 1; select 2").returncode == 2)
     refused = run("sqlite", "shop.db", "--query", "delete from items")
     check("sqlite: opened read-only", refused.returncode == 2 and Path("shop.db").read_bytes() == before, refused)
 

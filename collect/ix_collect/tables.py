@@ -115,7 +115,7 @@ def object_of(pairs: list[tuple[str, object]]) -> dict[str, object]:
 
 def json_lines(file: File, report: Report, name: str, texts: Sequence[str]) -> Iterator[Document]:
     """Each line of JSON, an object: the field `name` is its name, the fields `texts`, or all others, its text."""
-    missing = dict.fromkeys(texts)
+    missing = set(texts)
     with file.open() as stream:
         for number, line in enumerate(lines_of(stream, file.name, report), start=1):
             where = f"{file.name}: line {number}"
@@ -128,12 +128,11 @@ def json_lines(file: File, report: Report, name: str, texts: Sequence[str]) -> I
             if not isinstance(row, dict):
                 report.left_out("line that is no object of JSON", where)
                 continue
-            for text in texts:
-                if text in row:
-                    missing.pop(text, None)
-            values = [row[text] for text in texts if text in row] or [value for key, value in row.items() if key != name]
-            yield row_document(" ".join(strings_in(row.get(name))), strings_in(values), where, report)
-    for text in missing:
+            fields = [text for text in texts or row if text in row and (texts or text != name)]
+            missing -= set(fields)
+            values = strings_in([row[field] for field in fields])
+            yield row_document(" ".join(strings_in(row.get(name))), values, where, report)
+    for text in sorted(missing):
         report.doubted("field that no line has", f"{file.name}: {text}")
 
 
@@ -149,7 +148,7 @@ def query_rows(file: File, report: Report, query: str) -> Iterator[Document]:
             database.text_factory = bytes
             try:
                 rows = database.execute(query)
-            except sqlite3.Error as fault:
+            except (sqlite3.Error, sqlite3.Warning) as fault:
                 raise Mistake(f"{file.name}: {fault}") from fault
             if not rows.description:
                 raise Mistake(f"{file.name}: the query gives no rows")
