@@ -7,7 +7,8 @@ import signal
 import sqlite3
 import sys
 import traceback
-from collections.abc import Callable, Iterator
+from collections.abc import Callable, Generator, Iterator
+from contextlib import closing
 from types import FrameType
 
 from . import files, mail, tables
@@ -100,7 +101,7 @@ def check(words: argparse.Namespace, out: Output) -> None:
             raise Mistake(f"{source}: {words.kind} reads a {'folder' if words.kind in FOLDERS else 'file'}, and this is none")
 
 
-def documents(words: argparse.Namespace, out: Output, report: Report) -> Iterator[Document]:
+def documents(words: argparse.Namespace, out: Output, report: Report) -> Generator[Document, None, None]:
     """The documents of all sources, in their order.
 
     Errors: `Mistake`, and `Fault` if a source cannot be read to its end.
@@ -145,9 +146,10 @@ def collect(words: argparse.Namespace) -> int:
         signal.pthread_sigmask(signal.SIG_UNBLOCK, SIGNALS)
         check(words, out)
         names = Names(report)
-        for document in documents(words, out, report):
-            name = names.take(document.name)
-            out.write(name, encodable(document.line(), name, report))
+        with closing(documents(words, out, report)) as found:
+            for document in found:
+                name = names.take(document.name)
+                out.write(name, encodable(document.line(), name, report))
         signal.pthread_sigmask(signal.SIG_BLOCK, SIGNALS)
         out.finish()
     except BaseException as fault:
@@ -184,7 +186,7 @@ def ended_by(fault: BaseException) -> int:
     elif isinstance(fault, (Mistake, Fault)):
         tell(str(fault))
     else:
-        traceback.print_exception(fault)
+        tell(f"an error of its own: {fault!r} at {traceback.extract_tb(fault.__traceback__)[-1]}")
     return 2 if isinstance(fault, Mistake) else 4
 
 
