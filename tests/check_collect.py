@@ -434,7 +434,7 @@ def check_tables() -> None:
 
     with sqlite3.connect("shop.db") as shop:
         shop.execute("create table items (id, title, text)")
-        shop.executemany("insert into items values (?, ?, ?)", [(1, "chair", None), ("two", 2.5, b"\xff\xfe\0"), (None, "nameless", "x")])
+        shop.executemany("insert into items values (?, ?, ?)", [(1, "chair", None), ("two", 2.5, b"\x89PNG\0"), (None, "nameless", "x")])
         shop.execute("insert into items values ('l', cast(x'4dfc6c6c6572' as text), 'y')")
     shop.close()
     before = Path("shop.db").read_bytes()

@@ -165,7 +165,7 @@ def value_text(value: object, where: str, report: Report) -> str:
     if is_binary(value):
         report.left_out("value of bytes that are no text", where)
         return ""
-    text, doubt = decode(value)
+    text, doubt = decode(value, marked_charset(value) or "utf-8")
     if doubt:
         report.doubted(doubt, where)
     return text
