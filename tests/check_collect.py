@@ -418,6 +418,15 @@ def check_tables() -> None:
         check(f"csv: told: {told}", told in made.said, made.said)
     Path("semi.csv").write_text("id;what;note\na;one, two;three\n", encoding="utf-16")
     check("csv: UTF-16, semicolons, --text", collected("csv", "semi.csv", "--name", "id", "--text", "note").texts == {"a": "three"})
+    for path in ("t.csv", "semi.csv"):
+        with gzip.open(f"{path}.gz", "wb") as packed:
+            packed.write(Path(path).read_bytes())
+        with zipfile.ZipFile(f"{path}.zip", "w") as archive:
+            archive.write(path)
+        subprocess.run(["zstd", "-q", path], check=True)
+        for suffix in (".gz", ".zst", ".zip"):
+            packed_too = collected("csv", path + suffix, "--name", "id")
+            check(f"{path}{suffix}: the same rows", packed_too.texts == collected("csv", path, "--name", "id").texts != {}, packed_too.said)
     refused = run("csv", "--name", "nosuch", "t.csv")
     check("csv: no such column: status 2, and the columns", refused.returncode == 2 and b"id, what, note" in refused.stderr, refused)
 

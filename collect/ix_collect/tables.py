@@ -1,6 +1,7 @@
 """Documents of tables: the rows of CSV and of SQLite queries, and lines of JSON."""
 from __future__ import annotations
 
+import codecs
 import csv
 import io
 import json
@@ -11,6 +12,7 @@ import tempfile
 from collections.abc import Iterable, Iterator, Sequence
 from contextlib import closing
 from pathlib import Path
+from typing import cast
 
 from .document import Document, Mistake, Report
 from .names import digest_name
@@ -28,16 +30,18 @@ def row_document(name: str, texts: Iterable[str], where: str, report: Report) ->
 
 def lines_of(stream: io.BufferedIOBase, name: str, report: Report) -> Iterator[str]:
     """The lines of a text, each with its line end: UTF-8, or what its mark says, or line by line Latin-1."""
-    lines = io.BufferedReader(stream)  # type: ignore[arg-type]
-    charset = marked_charset(lines.peek(4)[:4])
+    charset = marked_charset(cast(io.BufferedReader, stream).peek(4)[:4])
     if charset.startswith(("utf-16", "utf-32")):
-        for line in io.TextIOWrapper(lines, charset, "replace", newline=""):
+        lines = io.TextIOWrapper(stream, charset, "replace", newline="")  # type: ignore[arg-type]
+        for line in lines:
             if "\ufffd" in line:
                 report.doubted(f"bytes that are not {charset.upper()}", name)
             yield line
+        # The stream is closed by who opened it.
+        lines.detach()
         return
-    for number, data in enumerate(lines, start=1):
-        text, doubt = decode(data, "utf-8-sig" if number == 1 else "utf-8")
+    for number, data in enumerate(stream, start=1):
+        text, doubt = decode(data.removeprefix(codecs.BOM_UTF8) if number == 1 else data)
         if doubt:
             report.doubted(doubt, f"{name}: line {number}")
         yield text
