@@ -172,7 +172,8 @@ def mails_of_mbox(lines: Iterable[bytes], name: str, report: Report) -> Iterator
                     yield b"".join(mail)
                 mail, empty_before = [], False
                 continue
-            report.doubted("line that begins with `From ` and was read as text of a mail", f"{name}: {line.decode('latin-1').strip()}")
+            where = f"{name}: {line.decode('latin-1').strip()}"
+            report.doubted("line that begins with `From ` and was read as text of a mail", where)
         if mail is None:
             if line.strip():
                 raise Mistake(f"{name}: no mbox: it does not begin with `From `")
