@@ -45,6 +45,8 @@ check-faults: all
 	@tests/check_faults.py build/ix
 
 check-people:
+	@if command -v mypy > /dev/null; then mypy --strict --cache-dir=/dev/null collect/ix_collect; \
+	    else echo "skipped: types, since there is no mypy (Debian: apt install mypy)"; fi
 	@tests/check_collect.py
 
 check-examples: all
