@@ -210,7 +210,7 @@ def check_notmuch() -> None:
         print("skipped: counts by notmuch, which is not installed")
         return
     Path("notmuch").write_text(f"[database]\npath={os.getcwd()}/Maildir\n[user]\nname=n\nprimary_email=n@example.org\n")
-    environment = {**os.environ, "NOTMUCH_CONFIG": "notmuch"}
+    environment = {**os.environ, "NOTMUCH_CONFIG": "notmuch", "HOME": os.getcwd()}
     subprocess.run(["notmuch", "new", "--quiet"], env=environment, check=True, stderr=subprocess.DEVNULL)
     box = collected("maildir", "Maildir")
     # It parts words at tags and leaves entities as they are.
