@@ -8,6 +8,7 @@
 # make lib    proves crates/ix_c and builds the library for C, Python and Rust: build/libix.a, build/libix.so, header, ix.pc
 # make check-lib  checks that library from C, Python and Rust, and against an oracle
 # make check-docs  runs the sessions of README and guide and the cookbook's recipes, and looks at links, names and lines
+# make check-people    runs collect/ix-collect on mails, files and tables of every kind
 # make check-examples  runs the cookbook, the builds in pieces, what is installed, the notices and the pictures
 #             (wants of Debian: apt install parallel python3-distributed zsh fish mandoc)
 RT := $(shell command -v rt 2> /dev/null)
@@ -19,7 +20,7 @@ DATA = $(DESTDIR)$(PREFIX)/share
 LANES = $(shell awk '/MemAvailable/ { lanes = int($$2 / 5000000) } \
     END { "nproc" | getline most; print lanes < 1 ? 1 : lanes < most ? lanes : most }' /proc/meminfo)
 
-.PHONY: all test check-docs check-program check-faults check-examples lib check-lib install uninstall clean toolchain
+.PHONY: all test check-docs check-program check-faults check-people check-examples lib check-lib install uninstall clean toolchain
 
 all: toolchain
 	@mkdir -p build
@@ -45,6 +46,11 @@ check-program: all
 check-faults: all
 	@tests/check_faults.py build/ix
 
+check-people:
+	@if command -v mypy > /dev/null; then mypy --strict --cache-dir=/dev/null collect/ix_collect; \
+	    else echo "skipped: types, since there is no mypy (Debian: apt install mypy)"; fi
+	@tests/check_collect.py
+
 check-examples: all
 	@examples/check-all.sh build/ix
 
@@ -61,14 +67,21 @@ check-lib: lib
 install:
 	@test -x build/ix && test -f build/NOTICES || { echo "there is no build/ix or build/NOTICES yet: run make first" >&2; exit 1; }
 	install -D build/ix $(DESTDIR)$(PREFIX)/bin/ix
-	install -D -m 644 share/ix.1 $(DATA)/man/man1/ix.1
+	install -D -m 644 -t $(DATA)/man/man1 share/ix.1 share/ix-collect.1
+	install -D -m 644 -t $(DATA)/ix/ix_collect collect/ix_collect/*.py
+	install -m 755 collect/ix-collect $(DATA)/ix
+	ln -sf ../share/ix/ix-collect $(DESTDIR)$(PREFIX)/bin/ix-collect
 	install -D -m 644 share/ix.bash $(DATA)/bash-completion/completions/ix
-	install -D -m 644 share/_ix $(DATA)/zsh/site-functions/_ix
-	install -D -m 644 share/ix.fish $(DATA)/fish/vendor_completions.d/ix.fish
+	install -D -m 644 share/ix-collect.bash $(DATA)/bash-completion/completions/ix-collect
+	install -D -m 644 -t $(DATA)/zsh/site-functions share/_ix share/_ix-collect
+	install -D -m 644 -t $(DATA)/fish/vendor_completions.d share/ix.fish share/ix-collect.fish
 	install -D -m 644 build/NOTICES $(DATA)/doc/ix/NOTICES
 
 uninstall:
 	rm -f $(DESTDIR)$(PREFIX)/bin/ix $(DATA)/man/man1/ix.1 $(DATA)/bash-completion/completions/ix
+	rm -f $(DESTDIR)$(PREFIX)/bin/ix-collect $(DATA)/man/man1/ix-collect.1 $(DATA)/bash-completion/completions/ix-collect
+	rm -f $(DATA)/zsh/site-functions/_ix-collect $(DATA)/fish/vendor_completions.d/ix-collect.fish
+	rm -rf $(DATA)/ix
 	rm -f $(DATA)/zsh/site-functions/_ix $(DATA)/fish/vendor_completions.d/ix.fish $(DATA)/doc/ix/NOTICES
 	@rmdir $(DATA)/doc/ix 2> /dev/null || true
 

@@ -3,7 +3,9 @@
 set -eu
 examples=$(cd "$(dirname "$0")" && pwd)
 ix=${1:-$(dirname "$examples")/build/ix}
+collect=$(dirname "$examples")/collect/ix-collect
 case $ix in /*) ;; *) ix=$(pwd)/$ix ;; esac
+export PYTHONDONTWRITEBYTECODE=1
 work=$(mktemp -d)
 trap 'rm -rf "$work"' EXIT
 trap 'exit 1' HUP INT TERM
@@ -25,14 +27,16 @@ printf '# Plan\nThe release\nplan for May.\n' > notes/2026/plan.md
 printf '# Draft\nA release plan, draft.\n' > notes/draft.md
 printf '# Lost\n\none umbrella, red\n' > notes/lost.md
 printf 'release plan\n' > notes/other.txt
-"$examples/collect.py" folder notes '*.md' > notes.tsv
+"$collect" -o notes.tsv --match '*.md' folder notes
 prints "a folder of files" notes/2026/plan.md "$("$ix" ask notes.tsv '"release plan" AND NOT draft')"
 prints "names for xargs" "notes/lost.md:3:one umbrella, red" \
-    "$("$ix" ask notes.tsv 'umbrella' | xargs -d '\n' grep -H -n -i umbrella)"
+    "$("$ix" ask notes.tsv 'umbrella' | "$collect" --path - | xargs -0 grep -H -n -i umbrella)"
 
 cat > archive.mbox <<'MAIL'
 From anna@example.org Mon Mar  2 08:00:00 2026
 Message-ID: <1@example.org>
+From: Anna <anna@example.org>
+Date: Mon, 2 Mar 2026 08:00:00 +0000
 Subject: Flights
 Content-Type: text/plain; charset=utf-8
 
@@ -41,20 +45,33 @@ to London is booked.
 
 From boris@example.org Mon Mar  2 09:00:00 2026
 Message-ID: <2@example.org>
+From: Boris <boris@example.org>
+Date: Mon, 2 Mar 2026 09:00:00 +0000
 Subject: Hotel
 Content-Type: text/plain; charset=utf-8
 
 No flight yet, and the hotel is not in the city of London.
 MAIL
-"$examples/collect.py" mbox archive.mbox > mail.tsv
+"$collect" -o mail.tsv mbox archive.mbox
 prints "a mailbox" 1@example.org "$("$ix" ask mail.tsv 'flight NEAR/3 london')"
+prints "a mailbox: sender and date" 2@example.org "$("$ix" ask mail.tsv 'from_boris* AND date_2026_03*')"
 
 printf 'id,what,note\no-16,"chair, oak",old\no-17,"table, oak","two tablets, ""new"""\n' > orders.csv
-"$examples/collect.py" csv orders.csv id > orders.tsv
+"$collect" -o orders.tsv csv orders.csv --name id
 prints "a CSV file" o-17 "$("$ix" ask orders.tsv 'oak AND tab*')"
 
+printf '%s\n' '{"id": 7, "title": "For sale", "body": "an oak table"}' '{"id": 8, "title": "table", "tags": ["oak"]}' > posts.jsonl
+"$collect" -o posts.tsv jsonl posts.jsonl --name id --text title body
+prints "lines of JSON" 7 "$("$ix" ask posts.tsv '"oak table"')"
+python3 -c 'import sqlite3; shop = sqlite3.connect("shop.db"); shop.execute("create table items (id, title, text)")
+shop.execute("insert into items values (?, ?, ?)", ("o-17", "table", "oak")); shop.commit()'
+"$collect" -o items.tsv sqlite shop.db --query 'select id, title, text from items'
+prints "a database" o-17 "$("$ix" ask items.tsv 'oak')"
+
 if [ -d /usr/share/doc ]; then
-    "$examples/collect.py" folder /usr/share/doc copyright > licences.tsv
+    status=0
+    "$collect" -o licences.tsv --match copyright folder /usr/share/doc || status=$?
+    prints "the licences are collected" "0 or 3" "$([ $status = 0 ] || [ $status = 3 ] && echo '0 or 3' || echo $status)"
     status=0
     "$ix" ask licences.tsv '"apache license" AND NOT "gpl"' > /dev/null || status=$?
     prints "the licences of a Debian system" "0 or 1" "$([ $status -le 1 ] && echo '0 or 1' || echo $status)"

@@ -144,7 +144,12 @@ def installing():
         subprocess.run([*make, "install"], check=True, stdout=subprocess.DEVNULL)
         files = sorted(str(path.relative_to(folder)) for path in Path(folder).rglob("*") if path.is_file())
         same("what is installed", files, {"opt/ix/bin/ix", "opt/ix/share/man/man1/ix.1", "opt/ix/share/bash-completion/completions/ix",
-             "opt/ix/share/zsh/site-functions/_ix", "opt/ix/share/fish/vendor_completions.d/ix.fish", "opt/ix/share/doc/ix/NOTICES"})
+             "opt/ix/share/zsh/site-functions/_ix", "opt/ix/share/fish/vendor_completions.d/ix.fish", "opt/ix/share/doc/ix/NOTICES",
+             "opt/ix/bin/ix-collect", "opt/ix/share/man/man1/ix-collect.1", "opt/ix/share/bash-completion/completions/ix-collect",
+             "opt/ix/share/zsh/site-functions/_ix-collect", "opt/ix/share/fish/vendor_completions.d/ix-collect.fish",
+             "opt/ix/share/ix/ix-collect", *(f"opt/ix/share/ix/ix_collect/{path.name}" for path in TOP.glob("collect/ix_collect/*.py"))})
+        listed = printed(Path(folder, "opt/ix/bin/ix-collect"), "folder", TOP / "examples/mail.txt")
+        check("the collector that is installed answers", listed.startswith(f"{TOP}/examples/mail.txt\t"), listed[:100])
         asked = printed(Path(folder, "opt/ix/bin/ix"), "ask", TOP / "examples/mail.txt", "contract AND NOT hotel")
         check("what is installed answers", asked == "2026-03-06/anna-3\n", asked)
         subprocess.run([*make, "uninstall"], check=True, stdout=subprocess.DEVNULL)
