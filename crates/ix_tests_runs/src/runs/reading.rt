@@ -103,9 +103,12 @@ fn expect_rows(alloc: Global, front: &str, rows: &str, cut: bool) -> Result<(), 
         expect(row, &reread(alloc, slow, &mut again)?, want)?;
         if cut {
             let refused = Pieces::new(text.as_slice(), Sizes::Single(text.len()));
-            let is_whole = want == "Number(Cut) Failed";
-            let want = if is_whole { "Read Failed" } else { want };
-            expect(row, &reread(alloc, refused, &mut again)?, want)?;
+            let told = reread(alloc, refused, &mut again)?;
+            if want == "Number(Cut) Failed" {
+                expect(row, &told, "Read Failed")?;
+            } else {
+                expect(row, &told, want)?;
+            }
         }
     }
     Ok(())
