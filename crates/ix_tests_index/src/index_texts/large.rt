@@ -135,6 +135,12 @@ fn check(rt: &impl Abort, alloc: Global, index: &Index<'_>, entries: &[Entry]) -
     Ok(())
 }
 
+/// Checks what one thread opens.
+fn check_text(rt: &impl Abort, alloc: Global, text: &[u8], entries: &[Entry]) -> Result<(), Fail> {
+    let index = opened(alloc, text)?;
+    check(rt, alloc, &index, entries)
+}
+
 #[test]
 fn a_hundred_thousand_postings(rt: HostRuntime) -> Result<(), Fail> {
     let alloc = rt.alloc();
@@ -144,8 +150,8 @@ fn a_hundred_thousand_postings(rt: HostRuntime) -> Result<(), Fail> {
     let stop = words(alloc, "to")?;
     let text = text_of(alloc, b'2', &stop, &rows_of(alloc, &names)?, &entries)?;
     assert!(rt; text.len() == 588_571);
-    let index = opened(alloc, &text)?;
-    check(&rt, alloc, &index, &entries)?;
-    let beside = Volume::open_beside(&rt, alloc, text)?;
-    check(&rt, alloc, &beside.index(), &entries)
+    check_text(&rt, alloc, &text, &entries)?;
+    let volume = Volume::open_beside(&rt, alloc, text)?;
+    let index = volume.index();
+    check(&rt, alloc, &index, &entries)
 }
