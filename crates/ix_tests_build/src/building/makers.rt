@@ -26,19 +26,14 @@ enum Rule<'a> {
     AtOnceBegun(usize, &'a AtomicU64, u64),
 }
 
-/// What makers share: documents, from where to where each block of them goes, and their rule.
-#[derive(Clone, Copy)]
-struct Work<'a> {
-    docs: &'a [Doc<'a>],
-    blocks: &'a [(u32, u32)],
-    rule: Rule<'a>,
-}
-
 /// A maker of the runs of blocks of documents, without stop words.
 #[derive(Drop)]
 struct Inverter<'a> {
     alloc: Global,
-    work: Work<'a>,
+    docs: &'a [Doc<'a>],
+    // from where to where each block goes
+    blocks: &'a [(u32, u32)],
+    rule: Rule<'a>,
     asked: Vec<Asked>,
 }
 
@@ -55,7 +50,7 @@ fn run_of(alloc: Global, docs: &[Doc<'_>], from: u32, to: u32) -> Result<Run, Ma
 
 impl<'a> Inverter<'a> {
     fn may_make(&self, place: usize) -> bool {
-        match self.work.rule {
+        match self.rule {
             Rule::Except(refused) => !refused.contains(&place),
             Rule::OnceBegun(begun, wanted) => {
                 begun.fetch_add(1, SeqCst);
@@ -76,8 +71,8 @@ impl<'a> Inverter<'a> {
         if !self.may_make(place) {
             return Err(MakeError::Refused);
         }
-        match self.work.blocks.get(place) {
-            Some((from, to)) => run_of(self.alloc, self.work.docs, *from, *to),
+        match self.blocks.get(place) {
+            Some((from, to)) => run_of(self.alloc, self.docs, *from, *to),
             None => Err(MakeError::Refused),
         }
     }
@@ -133,13 +128,17 @@ impl<'a> Maker for Inverter<'a> {
 fn inverters<'a>(
     alloc: Global,
     count: usize,
-    work: Work<'a>,
+    docs: &'a [Doc<'a>],
+    blocks: &'a [(u32, u32)],
+    rule: Rule<'a>,
 ) -> Result<Vec<Inverter<'a>>, AllocError> {
     let mut inverters = Vec::new(alloc);
     for _ in 0..count {
         inverters.push(Inverter {
             alloc,
-            work,
+            docs,
+            blocks,
+            rule,
             asked: Vec::new(alloc),
         })?;
     }
@@ -174,15 +173,18 @@ fn told_askings(alloc: Global, makers: &[Inverter<'_>]) -> Result<String, AllocE
     Ok(told)
 }
 
-/// What so many makers come to that share so many places: the first document of each run or an error, and the askings.
+/// What makers come to that share places, of blocks of the five documents: the first document of each run or an error, and
+/// the askings.
 fn shared(
     rt: &(impl Abort + Threads + Wait + Sync),
     alloc: Global,
     makers: usize,
-    work: Work<'_>,
+    blocks: &[(u32, u32)],
+    rule: Rule<'_>,
     places: usize,
-) -> Result<(String, String), AllocError> {
-    let makers = inverters(alloc, makers, work)?;
+) -> Result<(String, String), Fail> {
+    let collection = Collection::read(alloc, five_documents())?;
+    let makers = inverters(alloc, makers, collection.docs(), blocks, rule)?;
     assert!(rt; 0 < makers.len() && makers.len() <= 64);
     let Outcome { makers, result } = work_all(rt, alloc, makers, places);
     Ok((told_runs(alloc, result)?, told_askings(alloc, &makers)?))
@@ -193,10 +195,12 @@ fn shared_by(
     rt: &(impl Abort + Threads + Wait + Sync),
     alloc: Global,
     makers: usize,
-    work: Work<'_>,
+    blocks: &[(u32, u32)],
+    rule: Rule<'_>,
     places: usize,
-) -> Result<(Result<(), ByError>, String, Vec<u8>), AllocError> {
-    let makers = inverters(alloc, makers, work)?;
+) -> Result<(Result<(), ByError>, String, Vec<u8>), Fail> {
+    let collection = Collection::read(alloc, five_documents())?;
+    let makers = inverters(alloc, makers, collection.docs(), blocks, rule)?;
     assert!(rt; 0 < makers.len() && makers.len() <= 64);
     let mut out = Vec::new(alloc);
     let Built { makers, result } = build_by(rt, alloc, makers, places, &mut out);
@@ -208,38 +212,39 @@ const ALONE: [(u32, u32); 5] = [(0, 1), (1, 2), (2, 3), (3, 4), (4, 5)];
 
 const HALVES: [(u32, u32); 2] = [(0, 2), (2, 5)];
 
+/// Checks that as many makers as there are blocks go on only once all have begun, and what they come to.
+fn expect_meeting(
+    rt: &(impl Abort + Threads + Wait + Sync),
+    alloc: Global,
+    blocks: &[(u32, u32)],
+    firsts: &str,
+    askings: &str,
+) -> Result<(), Fail> {
+    let count = blocks.len();
+    let begun = AtomicU64::new(0);
+    let rule = Rule::OnceBegun(&begun, count as u64);
+    let found = shared(rt, alloc, count, blocks, rule, count)?;
+    assert!(rt; found.0.as_str() == firsts && found.1.as_str() == askings);
+    let begun = AtomicU64::new(0);
+    let rule = Rule::OnceBegun(&begun, count as u64);
+    let (result, asked, out) = shared_by(rt, alloc, count, blocks, rule, count)?;
+    assert!(rt; result.is_ok() && asked.as_str() == askings);
+    assert_eq!(rt; out.as_slice(), five_documents_index());
+    Ok(())
+}
+
 #[test]
 fn makers_meet(rt: HostRuntime) -> Result<(), Fail> {
-    let collection = Collection::read(rt.alloc(), five_documents())?;
-    let cases: [(&[(u32, u32)], &str, &str); 2] = [
-        (&HALVES, "0 2 ", "0 ;1 ;"),
-        (&ALONE, "0 1 2 3 4 ", "0 ;1 ;2 ;3 ;4 ;"),
-    ];
-    for (blocks, firsts, askings) in cases {
-        let count = blocks.len();
-        let begun = AtomicU64::new(0);
-        let docs = collection.docs();
-        let rule = Rule::OnceBegun(&begun, count as u64);
-        let work = Work { docs, blocks, rule };
-        let found = shared(&rt, rt.alloc(), count, work, count)?;
-        assert!(rt; found.0.as_str() == firsts && found.1.as_str() == askings);
-        begun.store(0, SeqCst);
-        let (result, asked, out) = shared_by(&rt, rt.alloc(), count, work, count)?;
-        assert!(rt; result.is_ok() && asked.as_str() == askings);
-        assert_eq!(rt; out.as_slice(), five_documents_index());
-    }
-    Ok(())
+    expect_meeting(&rt, rt.alloc(), &HALVES, "0 2 ", "0 ;1 ;")?;
+    expect_meeting(&rt, rt.alloc(), &ALONE, "0 1 2 3 4 ", "0 ;1 ;2 ;3 ;4 ;")
 }
 
 /// Maker 1 waits at its first place until maker 0 has made the three others.
 #[test]
 fn a_free_maker_takes_the_places_of_one_that_waits(rt: HostRuntime) -> Result<(), Fail> {
-    let collection = Collection::read(rt.alloc(), five_documents())?;
     let begun = AtomicU64::new(0);
     let rule = Rule::AtOnceBegun(1, &begun, 3);
-    let docs = collection.docs();
-    let blocks = &ALONE;
-    let found = shared(&rt, rt.alloc(), 2, Work { docs, blocks, rule }, 4)?;
+    let found = shared(&rt, rt.alloc(), 2, &ALONE, rule, 4)?;
     assert_eq!(rt; found.0.as_str(), "0 1 2 3 ");
     let (zero, one) = found.1.split_once(';').ok_or("no makers")?;
     assert!(rt; zero.len() == 6 && !zero.contains('1'), "{zero}");
@@ -260,23 +265,26 @@ const SHARED: [(usize, usize, &[usize], &str); 9] = [
     (64, 3, &[], "0 1 2 "),
 ];
 
+/// Checks what makers come to that refuse these places.
+fn expect_shared(
+    rt: &(impl Abort + Threads + Wait + Sync),
+    alloc: Global,
+    workers: usize,
+    places: usize,
+    refused: &[usize],
+    want: &str,
+) -> Result<(), Fail> {
+    let found = shared(rt, alloc, workers, &ALONE, Rule::Except(refused), places)?;
+    assert_eq!(rt; found.0.as_str(), want);
+    assert_eq!(rt; found.1.matches(' ').count(), places);
+    assert_eq!(rt; found.1.matches(';').count(), workers);
+    Ok(())
+}
+
 #[test]
 fn lowest_refusal(rt: HostRuntime) -> Result<(), Fail> {
-    let collection = Collection::read(rt.alloc(), five_documents())?;
     for (workers, places, refused, want) in SHARED {
-        let docs = collection.docs();
-        let blocks = &ALONE;
-        let rule = Rule::Except(refused);
-        let found = shared(
-            &rt,
-            rt.alloc(),
-            workers,
-            Work { docs, blocks, rule },
-            places,
-        )?;
-        assert_eq!(rt; found.0.as_str(), want);
-        assert_eq!(rt; found.1.matches(' ').count(), places);
-        assert_eq!(rt; found.1.matches(';').count(), workers);
+        expect_shared(&rt, rt.alloc(), workers, places, refused, want)?;
     }
     Ok(())
 }
@@ -288,24 +296,27 @@ const REFUSED: [(&[(u32, u32)], usize, &str); 3] = [
     (&[(0, 2), (4, 5)], 4, "Make(2, Refused)"),
 ];
 
+/// Checks why nothing is written of these blocks.
+fn expect_refused(
+    rt: &(impl Abort + Threads + Wait + Sync),
+    alloc: Global,
+    blocks: &[(u32, u32)],
+    places: usize,
+    want: &str,
+) -> Result<(), Fail> {
+    let (result, _, out) = shared_by(rt, alloc, 2, blocks, Rule::Except(&[]), places)?;
+    let error = result.err().ok_or("no error")?;
+    assert_eq!(rt; error.to_string(alloc)?.as_str(), want);
+    assert!(rt; out.is_empty());
+    Ok(())
+}
+
 #[test]
 fn refusals_write_nothing(rt: HostRuntime) -> Result<(), Fail> {
-    let collection = Collection::read(rt.alloc(), five_documents())?;
-    let docs = collection.docs();
-    let rule = Rule::Except(&[]);
     for (blocks, places, want) in REFUSED {
-        let work = Work { docs, blocks, rule };
-        let (result, _, out) = shared_by(&rt, rt.alloc(), 2, work, places)?;
-        let error = result.err().ok_or("no error")?;
-        assert_eq!(rt; error.to_string(rt.alloc())?.as_str(), want);
-        assert!(rt; out.is_empty());
+        expect_refused(&rt, rt.alloc(), blocks, places, want)?;
     }
-    let work = Work {
-        docs,
-        blocks: &[],
-        rule,
-    };
-    let (result, _, out) = shared_by(&rt, rt.alloc(), 3, work, 0)?;
+    let (result, _, out) = shared_by(&rt, rt.alloc(), 3, &[], Rule::Except(&[]), 0)?;
     assert!(rt; result.is_ok() && out.len() == 64);
     Ok(())
 }

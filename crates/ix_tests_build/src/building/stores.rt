@@ -283,6 +283,19 @@ fn lowest_place_that_spills(rt: HostRuntime) -> Result<(), Fail> {
     Ok(())
 }
 
+/// The runs, with these bytes at a place.
+fn runs_but<'a>(alloc: Global, place: usize, bytes: &'a [u8]) -> Result<Vec<&'a [u8]>, AllocError> {
+    let mut given = Vec::new(alloc);
+    for (number, run) in RUNS.iter().enumerate() {
+        if number == place {
+            given.push(bytes)?;
+        } else {
+            given.push(*run)?;
+        }
+    }
+    Ok(given)
+}
+
 /// What building comes to if the run of a place comes back as these bytes, with its reads and the writes refused behind so
 /// many.
 fn built_with(
@@ -293,10 +306,7 @@ fn built_with(
     reads: usize,
     writes: usize,
 ) -> Result<Option<BuildError>, Fail> {
-    let mut given = *runs();
-    if let Some(run) = given.get_mut(place) {
-        *run = bytes;
-    }
+    let given = runs_but(alloc, place, bytes)?;
     let case = Case {
         given: &given,
         refused: &[],
