@@ -7,7 +7,7 @@
 . "$(dirname "$0")/prelude.sh"
 needs rt python3
 
-copy_crates ix_text ix_vbyte ix_run_text ix_run ix_index_text ix_file ix_merge ix_gram ix_query_text ix_query
+copy_crates ix_output ix_text ix_vbyte ix_postings ix_run_text ix_run ix_index_text ix_file ix_merge ix_gram ix_query_text ix_query
 add_program answer ix_file ix_merge ix_query ix_run ix_text anyhow
 build answer_bench
 

@@ -6,7 +6,7 @@
 . "$(dirname "$0")/prelude.sh"
 needs rt python3
 
-copy_crates ix_text ix_vbyte ix_run_text ix_run ix_index_text ix_file ix_merge
+copy_crates ix_output ix_text ix_vbyte ix_postings ix_run_text ix_run ix_index_text ix_file ix_merge
 add_program merge ix_file ix_merge ix_run ix_text anyhow
 build merge_bench
 

@@ -6,7 +6,7 @@
 . "$(dirname "$0")/prelude.sh"
 needs rt python3
 
-copy_crates ix_text ix_vbyte ix_index_text ix_file
+copy_crates ix_output ix_text ix_vbyte ix_postings ix_index_text ix_file
 add_program open ix_file ix_vbyte anyhow
 if [ $# -eq 0 ]; then
     add_program writer ix_file ix_text ix_vbyte anyhow

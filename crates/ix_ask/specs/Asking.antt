@@ -4,7 +4,7 @@ use Rattle.std.specs.Io.KnownBytes.{Appends, Keeps}
 use Rattle.ix_text.specs.CollectionText.{IsCollectionText}
 use Rattle.ix_text.specs.CollectionFaults.{IsCollectionFault}
 use Rattle.ix_text.specs.Collections.{NamedText, collection_of}
-use Rattle.ix_text.specs.Sinks.{AppendsFront}
+use Rattle.ix_output.specs.Sinks.{AppendsFront}
 use Rattle.ix_query.specs.Tree.{Tree}
 use Rattle.ix_query.specs.Grammar.{Reads}
 use Rattle.ix_query.specs.Scans.{IsScan}

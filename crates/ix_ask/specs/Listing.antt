@@ -6,7 +6,7 @@ use Rattle.std.specs.List.Sorted.{IsStrictlyIncreasing}
 use Rattle.ix_text.specs.ByteOrder.{IsAscending}
 use Rattle.ix_text.specs.Collections.{Collection, HasPosting}
 use Rattle.ix_text.specs.Parts.{DictionaryEntry}
-use Rattle.ix_text.specs.Sinks.{AppendsFront}
+use Rattle.ix_output.specs.Sinks.{AppendsFront}
 use Rattle.ix_gram.specs.Patterns.{HasPiece, HasStar, Matches, pieces_of}
 use Rattle.ix_gram.specs.declared.error.PatternError.{PatternError}
 use Rattle.ix_gram.specs.declared.error.PatternError.TheVariants as pattern_error

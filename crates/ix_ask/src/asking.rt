@@ -13,8 +13,9 @@ use crate::names::name_lines_of;
 use crate::output::{Lines, write_whole};
 use ix_build::{BuildError, Plan, build};
 use ix_file::{Index, OpenError};
+use ix_output::WriteError;
 use ix_query::{Query, QueryError, answer};
-use ix_text::{Collection, CollectionError, StopList, WriteRefused};
+use ix_text::{Collection, CollectionError, StopList};
 use std::alloc::{AllocError, Global};
 use std::io::Write;
 use std::sync::Wait;
@@ -68,7 +69,7 @@ pub fn ask<W: Write, R: Threads + Wait + Sync>(
     let names = find_names(rt, alloc, collection, stop, plan, query)?;
     match write_whole(out, &names.bytes) {
         Ok(()) => Ok(names.count),
-        Err(WriteRefused) => Err(AskError::Write),
+        Err(WriteError::Write) => Err(AskError::Write),
     }
 }
 

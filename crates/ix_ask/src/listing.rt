@@ -10,7 +10,7 @@ ghost use Rattle.ix_ask.specs.Listing.{picked, row_line, row_lines, term_rows};
 use crate::output::{Lines, write_whole};
 use ix_file::Index;
 use ix_gram::{Pattern, PatternError, expand};
-use ix_text::WriteRefused;
+use ix_output::WriteError;
 use std::alloc::{AllocError, Global};
 use std::io::Write;
 use thiserror::Error;
@@ -49,7 +49,7 @@ pub fn list_terms<W: Write>(
     let rows = find_terms(alloc, index, pattern)?;
     match write_whole(out, &rows.bytes) {
         Ok(()) => Ok(rows.count),
-        Err(WriteRefused) => Err(ListingError::Write),
+        Err(WriteError::Write) => Err(ListingError::Write),
     }
 }
 

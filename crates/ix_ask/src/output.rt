@@ -1,9 +1,9 @@
 //! Writing what was found.
 ghost use Rattle.std.specs.Prelude.{OnOk, OnErr};
 ghost use Rattle.std.specs.Io.KnownBytes.{Appends};
-ghost use Rattle.ix_text.specs.Sinks.{AppendsFront};
+ghost use Rattle.ix_output.specs.Sinks.{AppendsFront};
 
-use ix_text::{WriteRefused, flush, put_all};
+use ix_output::{WriteError, flush, put_all};
 use std::io::Write;
 
 /// Lines to be printed, and how many there are.
@@ -16,7 +16,7 @@ pub struct Lines {
 }
 
 /// Writes the bytes and flushes. After a refusal a beginning of the bytes is out.
-pub fn write_whole<W: Write>(out: &mut W, bytes: &[u8]) -> Result<(), WriteRefused>
+pub fn write_whole<W: Write>(out: &mut W, bytes: &[u8]) -> Result<(), WriteError>
     ensures whole { OnOk result (Appends (W.contents out.old) (W.contents out.new) bytes.now) }
     ensures front { OnErr result
         (AppendsFront (W.contents out.old) (W.contents out.new) bytes.now) }

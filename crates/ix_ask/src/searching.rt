@@ -8,8 +8,8 @@ ghost use Rattle.ix_ask.specs.Searching.{IsFound, IsSearched, LeavesSearch, Refu
 use crate::names::name_lines_in;
 use crate::output::{Lines, write_whole};
 use ix_file::Index;
+use ix_output::WriteError;
 use ix_query::{Query, QueryError, answer};
-use ix_text::WriteRefused;
 use std::alloc::{AllocError, Global};
 use std::io::Write;
 use thiserror::Error;
@@ -49,7 +49,7 @@ pub fn search<W: Write>(
     let names = find_names(alloc, index, query)?;
     match write_whole(out, &names.bytes) {
         Ok(()) => Ok(names.count),
-        Err(WriteRefused) => Err(SearchError::Write),
+        Err(WriteError::Write) => Err(SearchError::Write),
     }
 }
 

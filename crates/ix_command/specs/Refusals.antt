@@ -3,7 +3,7 @@ use Rattle.std.specs.Prelude.{◌≡◌, ℕ, ◌⊎◌, ◌/◌, ◌%◌, [], �
 use Rattle.std.specs.Char.{digit_char, is_control}
 use Rattle.std.specs.Str.{chars}
 use Rattle.clap.specs.Walk.{Text}
-use Rattle.ix_text.specs.Sinks.{AppendsFront}
+use Rattle.ix_output.specs.Sinks.{AppendsFront}
 use Rattle.ix_ask.specs.declared.asking.AskError.{AskError}
 use Rattle.ix_ask.specs.declared.asking.AskError.TheVariants as asking
 use Rattle.ix_ask.specs.declared.searching.SearchError.{SearchError}

@@ -8,7 +8,7 @@ use Rattle.clap.specs.Faults.{fault_of}
 use Rattle.clap.specs.Words.{IsAmong}
 use Rattle.clap.specs.declared.error.kind.ErrorKind.{ErrorKind}
 use Rattle.clap.specs.declared.error.kind.ErrorKind.TheVariants.{DisplayHelp}
-use Rattle.ix_text.specs.Sinks.{AppendsFront}
+use Rattle.ix_output.specs.Sinks.{AppendsFront}
 use Rattle.ix_command.specs.AskedFiles.{IsAnsweredFromFiles, IsAskRefused}
 use Rattle.ix_command.specs.BuiltIndexes.{IsBuilt, IsBuildRefused}
 use Rattle.ix_line.specs.Commands.{ix_app}

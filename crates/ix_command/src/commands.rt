@@ -25,7 +25,7 @@ use crate::refusing::refuse;
 use ix_ask::EngineRefusal;
 use ix_build::{RunFiles, Watch};
 use ix_line::{Line, LineError, help_on, read_line, with_help_as_flag};
-use ix_text::{flush, put_all};
+use ix_output::{flush, put_all};
 use std::alloc::{AllocError, Global};
 use std::io::{Input, Write};
 use std::rt::Files;

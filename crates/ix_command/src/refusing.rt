@@ -2,11 +2,11 @@
 
 ghost use Rattle.std.specs.Prelude.{◌≡◌, ◌⊎◌, ◌∷◌, [], ◌++◌, ◌<◌, IfOk, OnOk, string_bytes};
 ghost use Rattle.std.specs.Char.{is_control, digit_char};
-ghost use Rattle.ix_text.specs.Sinks.{AppendsFront};
+ghost use Rattle.ix_output.specs.Sinks.{AppendsFront};
 ghost use Rattle.ix_command.specs.Refusals.{IsLineOf, IsTold, shown, shown_char};
 
 use crate::refusal::Refusal;
-use ix_text::{flush, put_all};
+use ix_output::{flush, put_all};
 use std::alloc::{AllocError, Global};
 use std::io::Write;
 

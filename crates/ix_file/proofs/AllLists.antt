@@ -13,7 +13,7 @@ use Rattle.ix_text.specs.Parts.{DocumentRow, Posting}
 use Rattle.ix_text.specs.TokenLaws.{IsPostingIn}
 use Rattle.ix_text.specs.TokenNumbers.{AreDistinct, numbers_of_postings}
 use Rattle.ix_text.proofs.PartsLawful.{sum_by-map}
-use Rattle.ix_text.proofs.TokenStarts.{count_of}
+use Rattle.ix_text.proofs.TokensBefore.{count_of}
 use Rattle.ix_file.specs.Claimed.{HasClaimed, HaveClaimed}
 use Rattle.ix_index_text.specs.Listings.{Listing}
 use Rattle.ix_file.specs.ReadListings.{AreLaidOut, HasListedCounts, listing_in, listings_in, sizes_sum}

@@ -4,9 +4,9 @@ use Rattle.std.specs.List.Sorted.{IsPermutation, IsNonDecreasing, IsStrictlyIncr
 use Rattle.std.proofs.lemmas.List.{append_assoc, append-nil}
 use Rattle.std.proofs.lemmas.List.Sorted.{IsPermutation-sym}
 use Rattle.std.specs.declared.alloc.Global.{Global}
-use Rattle.ix_text.specs.TokenMarks.{HoldsNumbers, ShareNumber, room}
+use Rattle.ix_postings.specs.TokenMarks.{HoldsNumbers, ShareNumber, room}
 use Rattle.ix_text.specs.TokenNumbers.{AreDistinct}
-use Rattle.ix_text.specs.declared.token_marks.TokenMarks.{TokenMarks}
+use Rattle.ix_postings.specs.declared.token_marks.TokenMarks.{TokenMarks}
 use Rattle.ix_file.specs.Claimed.{HasClaimed, HasRoom, HaveClaimed}
 use Rattle.ix_file.specs.declared.open.claims.Claims.{Claims}
 use Rattle.ix_file.specs.declared.open.claims.Claims.TheVariants.{Marked, Listed}

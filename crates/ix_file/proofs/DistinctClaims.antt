@@ -7,7 +7,7 @@ use Rattle.std.proofs.lemmas.List.{get_or_default}
 use Rattle.std.proofs.lemmas.List.Elements.{Contains-get_or}
 use Rattle.std.proofs.lemmas.List.Sorted.{sum_by-IsPermutation}
 use Rattle.std.proofs.lemmas.List.Sums.{sum_by-cons}
-use Rattle.ix_text.specs.TokenMarks.{ShareNumber}
+use Rattle.ix_postings.specs.TokenMarks.{ShareNumber}
 use Rattle.ix_text.specs.TokenNumbers.{AreDistinct}
 use Rattle.ix_text.proofs.AscendingLists.{contains_cases, contains_first, contains_later, contains_none}
 use Rattle.ix_text.proofs.DistinctNumbers.{distinct_append, distinct_apart as not_in_both, distinct_back, distinct_front, distinct_push, distinct_pushed}

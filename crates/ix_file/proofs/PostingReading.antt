@@ -15,9 +15,10 @@ use Rattle.ix_text.specs.Parts.{DocumentRow, Posting}
 use Rattle.ix_text.specs.PartsLaws.{IsInRange}
 use Rattle.ix_text.specs.TokenLaws.{IsPostingIn}
 use Rattle.ix_text.specs.TokenNumbers.{numbers_of_posting, tokens_before}
-use Rattle.ix_text.specs.TokenTables.{HasTokens, IsSpan}
-use Rattle.ix_text.specs.declared.token_table.TokenTable.{TokenTable}
-use Rattle.ix_text.proofs.TokenStarts.{count_of, in_range_from_span, span_from_in_range, tokens_before_next}
+use Rattle.ix_postings.specs.TokenTables.{HasTokens, IsSpan}
+use Rattle.ix_postings.specs.declared.token_table.TokenTable.{TokenTable}
+use Rattle.ix_text.proofs.TokensBefore.{count_of, tokens_before_next}
+use Rattle.ix_postings.proofs.TokenStarts.{in_range_from_span, span_from_in_range}
 use Rattle.ix_file.specs.Claimed.{HaveClaimed}
 use Rattle.ix_file.specs.ReadLists.{ArePositionsIn, IsNextPosting}
 use Rattle.ix_file.specs.declared.open.claims.Claims.{Claims}

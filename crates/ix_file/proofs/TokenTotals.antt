@@ -5,8 +5,8 @@ use Rattle.std.proofs.lemmas.List.Sums.{sum_by_more_le}
 use Rattle.std.specs.List.{sum_by}
 use Rattle.ix_text.proofs.PartsLawful.{sum_by-map}
 use Rattle.ix_text.specs.Parts.{DocumentRow}
-use Rattle.ix_text.specs.TokenTables.{HasRoomFor, HasTokens}
-use Rattle.ix_text.specs.declared.token_table.TokenTable.{TokenTable}
+use Rattle.ix_postings.specs.TokenTables.{HasRoomFor, HasTokens}
+use Rattle.ix_postings.specs.declared.token_table.TokenTable.{TokenTable}
 use Rattle.ix_file.specs.OpenedRows.{row_in, rows_in}
 use Rattle.ix_file.specs.declared.open.documents.Row.{Row}
 

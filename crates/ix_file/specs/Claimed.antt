@@ -1,6 +1,6 @@
 -- Which tokens were claimed.
 use Rattle.std.specs.Prelude.{◌≡◌, ℕ, ◌≤◌, ◌↔◌, ◌++◌, List, ⊤, IsTrue}
-use Rattle.ix_text.specs.TokenMarks.{HoldsNumbers, room}
+use Rattle.ix_postings.specs.TokenMarks.{HoldsNumbers, room}
 use Rattle.ix_text.specs.TokenNumbers.{AreDistinct}
 use Rattle.ix_file.specs.declared.open.claims.Claims.{Claims}
 use Rattle.ix_file.specs.declared.open.claims.Claims.TheVariants.{Marked, Listed}

@@ -6,8 +6,8 @@ use Rattle.ix_vbyte.specs.Postings.{codes_of, list_bytes, posting_bytes}
 use Rattle.ix_text.specs.Parts.{AreTermPostings, DocumentRow, Posting}
 use Rattle.ix_text.specs.TokenLaws.{IsPostingIn}
 use Rattle.ix_text.specs.TokenNumbers.{AreDistinct, numbers_of_postings}
-use Rattle.ix_text.specs.TokenTables.{HasTokens}
-use Rattle.ix_text.specs.declared.token_table.TokenTable.{TokenTable}
+use Rattle.ix_postings.specs.TokenTables.{HasTokens}
+use Rattle.ix_postings.specs.declared.token_table.TokenTable.{TokenTable}
 use Rattle.ix_file.specs.Claimed.{HasClaimed, HasRoom}
 use Rattle.ix_file.specs.declared.open.claims.Claims.{Claims}
 use Rattle.ix_file.specs.PlacedTerms.{PlacedTerm}

@@ -7,7 +7,7 @@ use Rattle.ix_vbyte.specs.Code.{code_of}
 use Rattle.ix_vbyte.specs.Texts.{counted}
 use Rattle.ix_text.specs.Parts.{DocumentRow}
 use Rattle.ix_text.specs.Terms.{IsTerm}
-use Rattle.ix_text.proofs.SinkLemmas.{appends_nothing}
+use Rattle.ix_output.proofs.SinkLemmas.{appends_nothing}
 use Rattle.ix_index_text.specs.IndexText.{magic}
 use Rattle.ix_index_text.specs.Sections.{FrontCoded, stop_section, documents_section, postings_section}
 use Rattle.ix_index_text.specs.Told.{told_first, settled_front}

@@ -5,8 +5,8 @@ use Rattle.std.specs.Io.KnownBytes.{Appends, Keeps}
 use Rattle.std.specs.Int.{to_le_bytes, w32, w64}
 use Rattle.ix_text.specs.Collections.{Collection, IsLawful}
 use Rattle.ix_text.specs.Parts.{ArePartsOf, AreGramsOf, GramEntry, terms_of}
-use Rattle.ix_text.specs.Sinks.{AppendsFront}
-use Rattle.ix_text.proofs.SinkLemmas.{appends_then, appends_keeps}
+use Rattle.ix_output.specs.Sinks.{AppendsFront}
+use Rattle.ix_output.proofs.SinkLemmas.{appends_then, appends_keeps}
 use Rattle.ix_index_text.proofs.SpellLemmas.{all_spelled}
 use Rattle.ix_index_text.specs.Endings.{IsEnding, IsFinished, WritesIndexText, trailer_bytes, trailer_of}
 use Rattle.ix_index_text.specs.Grams.{AreGramsOfTerms, AppendsGrams}

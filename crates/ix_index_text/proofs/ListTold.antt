@@ -9,7 +9,7 @@ use Rattle.ix_vbyte.specs.Postings.{Posting, IsPosting, ArePostings, documents_o
 use Rattle.ix_vbyte.proofs.Sizes.{list_short}
 use Rattle.ix_text.specs.Parts.{DictionaryEntry, DocumentRow, terms_of}
 use Rattle.ix_text.specs.PartsLaws.{position_count}
-use Rattle.ix_text.specs.Sinks.{AppendsFront}
+use Rattle.ix_output.specs.Sinks.{AppendsFront}
 use Rattle.ix_index_text.specs.IndexText.{magic}
 use Rattle.ix_index_text.specs.Sections.{FrontCoded, postings_section}
 use Rattle.ix_index_text.specs.Told.{Told, entries_of, settled_front, listed, with_postings, position_total}

@@ -2,8 +2,8 @@
 use Rattle.std.proofs.Common.{◌≡◌, ℕ, List, [], ◌++◌, Option, subst, sym, ap, ◌∙◌, append_assoc}
 use Rattle.std.proofs.lemmas.List.{append-nil}
 use Rattle.std.specs.Io.KnownBytes.{Appends}
-use Rattle.ix_text.specs.Sinks.{AppendsFront}
-use Rattle.ix_text.proofs.SinkLemmas.{appends_then}
+use Rattle.ix_output.specs.Sinks.{AppendsFront}
+use Rattle.ix_output.proofs.SinkLemmas.{appends_then}
 use Rattle.ix_index_text.specs.Telling.{Spells}
 
 -- what was pending went out

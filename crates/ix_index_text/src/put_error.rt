@@ -3,7 +3,7 @@ ghost use Rattle.std.specs.Prelude.{◌≡◌};
 ghost use Rattle.ix_index_text.specs.PutErrors.{put_error_number};
 ghost use Rattle.ix_index_text.specs.declared.put_error.PutError.TheVariants.{Write, Memory};
 
-use ix_text::WriteRefused;
+use ix_output::WriteError;
 use std::alloc::AllocError;
 use thiserror::Error;
 
@@ -42,10 +42,10 @@ impl From<AllocError> for PutError {
     }
 }
 
-impl From<WriteRefused> for PutError {
+impl From<WriteError> for PutError {
     ghost from_gives = { λ _ e. e ≡ Write };
 
-    fn from(_error: WriteRefused) -> PutError {
+    fn from(_error: WriteError) -> PutError {
         PutError::Write
     }
 }

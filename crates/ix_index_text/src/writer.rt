@@ -5,7 +5,7 @@ ghost use Rattle.ix_vbyte.specs.Gaps.{Ascends};
 ghost use Rattle.ix_vbyte.specs.Postings.{Posting};
 ghost use Rattle.ix_text.specs.Collections.{Collection, IsLawful};
 ghost use Rattle.ix_text.specs.Parts.{ArePartsOf, GramEntry, terms_of};
-ghost use Rattle.ix_text.specs.Sinks.{AppendsFront};
+ghost use Rattle.ix_output.specs.Sinks.{AppendsFront};
 ghost use Rattle.ix_index_text.specs.Endings.{IsFinished, WritesIndexText};
 ghost use Rattle.ix_index_text.specs.Grams.{AreGramsOfTerms};
 ghost use Rattle.ix_index_text.specs.IndexText.{layout};

@@ -5,7 +5,7 @@ use Rattle.std.proofs.lemmas.Option.{get_or_from_slice_get, slice_get-map, slice
 use Rattle.std.specs.Option.{option_map}
 use Rattle.ix_text.specs.Collections.{Collection, IsLawful}
 use Rattle.ix_text.specs.Parts.{ArePartsOf, DocumentRow, GramEntry, Parts, terms_of}
-use Rattle.ix_text.specs.Sinks.{AppendsFront}
+use Rattle.ix_output.specs.Sinks.{AppendsFront}
 use Rattle.ix_text.proofs.CollectionTold.{has_collection}
 use Rattle.ix_text.proofs.PartsLemmas.{at_same_place, injected}
 use Rattle.ix_file.specs.Endings.{WritesIndexText}

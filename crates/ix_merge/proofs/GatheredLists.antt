@@ -11,7 +11,7 @@ use Rattle.ix_file.proofs.Gaps.{Ascends-lower, length-Ascends}
 use Rattle.ix_file.proofs.Sizes.{list_short}
 use Rattle.ix_text.specs.Parts.{DictionaryEntry, Posting}
 use Rattle.ix_text.specs.PartsLaws.{position_count}
-use Rattle.ix_text.specs.Sinks.{AppendsFront}
+use Rattle.ix_output.specs.Sinks.{AppendsFront}
 use Rattle.ix_file.specs.Telling.{MayList}
 use Rattle.ix_file.specs.Told.{Told, entries_of, listed, position_total, settled_front, with_postings}
 use Rattle.ix_file.specs.Writers.{WasTold, sink}

@@ -11,7 +11,7 @@ use Rattle.ix_file.specs.Postings.{ArePostings, documents_of}
 use Rattle.ix_file.proofs.Gaps.{length-Ascends}
 use Rattle.ix_text.specs.Parts.{DictionaryEntry, Posting}
 use Rattle.ix_text.specs.PartsLaws.{IsLawfulTerm}
-use Rattle.ix_text.specs.Sinks.{AppendsFront}
+use Rattle.ix_output.specs.Sinks.{AppendsFront}
 use Rattle.ix_text.proofs.AscendingLists.{contained_from_map}
 use Rattle.ix_file.specs.Sections.{postings_section}
 use Rattle.ix_file.specs.Told.{Told, entries_of, position_total, settled_front}

@@ -5,7 +5,7 @@ use Rattle.std.proofs.lemmas.List.Elements.{All-map, All-weaker}
 use Rattle.std.proofs.lemmas.Option.{slice_get_within}
 use Rattle.ix_text.specs.Collections.{Collection, IsLawful, IsName}
 use Rattle.ix_text.specs.Parts.{ArePartsOf, DictionaryEntry, DocumentRow, GramEntry, terms_of}
-use Rattle.ix_text.specs.Sinks.{AppendsFront}
+use Rattle.ix_output.specs.Sinks.{AppendsFront}
 use Rattle.ix_file.specs.Endings.{WritesIndexText}
 use Rattle.ix_file.specs.Grams.{AreGramsOfTerms}
 use Rattle.ix_file.specs.IndexText.{layout}

@@ -3,7 +3,7 @@ use Rattle.std.specs.Prelude.{◌≡◌, ◌⊎◌, ℕ, ◌+◌, ◌<◌, List,
 use Rattle.std.specs.Io.KnownBytes.{Keeps}
 use Rattle.ix_text.specs.Collections.{Collection, IsLawful}
 use Rattle.ix_text.specs.Parts.{DictionaryEntry, ArePartsOf, row_of}
-use Rattle.ix_text.specs.Sinks.{AppendsFront}
+use Rattle.ix_output.specs.Sinks.{AppendsFront}
 use Rattle.ix_file.specs.Endings.{WritesIndexText}
 use Rattle.ix_file.specs.IndexText.{IsIndexText}
 use Rattle.ix_file.specs.Sections.{FrontCoded}

@@ -5,7 +5,7 @@ use Rattle.ix_file.specs.Postings.{documents_of}
 use Rattle.ix_file.specs.Postings.{shifted}
 use Rattle.ix_text.specs.Parts.{DictionaryEntry, Posting}
 use Rattle.ix_text.specs.PartsLaws.{position_count}
-use Rattle.ix_text.specs.Sinks.{AppendsFront}
+use Rattle.ix_output.specs.Sinks.{AppendsFront}
 use Rattle.ix_file.specs.Telling.{IsClosable}
 use Rattle.ix_file.specs.Told.{Told, entries_of, position_total, settled_front, with_postings, with_term}
 use Rattle.ix_file.specs.Writers.{sink}

@@ -1,6 +1,6 @@
 //! The entry that a merge writes next: a term, and the lists of the sources that have it, one after another.
 ghost use Rattle.std.specs.Prelude.{◌≡◌, ◌≤◌, ◌⊎◌, ℕ, List, Option, length, OnOk, IfErr, string_bytes};
-ghost use Rattle.ix_text.specs.Sinks.{AppendsFront};
+ghost use Rattle.ix_output.specs.Sinks.{AppendsFront};
 ghost use Rattle.ix_file.specs.Telling.{IsClosable};
 ghost use Rattle.ix_file.specs.Told.{Told, settled_front};
 ghost use Rattle.ix_file.specs.Writers.{WasTold, sink, sink_name};

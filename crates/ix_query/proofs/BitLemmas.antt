@@ -5,7 +5,7 @@ use Rattle.std.proofs.lemmas.List.{get_or-replicate, get_or-set_same, get_or-set
 use Rattle.std.proofs.lemmas.List.Elements.{Contains-push, Contains-push_cases, Contains-append_left}
 use Rattle.std.proofs.lemmas.Nat.Bits.{bit_at-zero, bit_at-trailing_zeros, bit_at_clear_same, bit_at_clear_other, bit_at_above, bit_at_set_same, bit_at_set_other}
 use Rattle.std.specs.Int.{bit_at, bit_not, trailing_zeros}
-use Rattle.ix_text.specs.TokenMarks.{mark_of}
+use Rattle.ix_postings.specs.TokenMarks.{mark_of}
 use Rattle.ix_file.specs.Gaps.{Ascends, next_after}
 use Rattle.ix_file.proofs.Gaps.{Ascends-push, next_after-push}
 use Rattle.ix_query.specs.Marking.{AddsBits, CanAddBits, IsBitFrom}

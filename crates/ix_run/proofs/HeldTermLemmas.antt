@@ -9,8 +9,8 @@ use Rattle.ix_vbyte.proofs.Values.{length-code_of}
 use Rattle.ix_vbyte.proofs.Walks.{numbers_in-nil}
 use Rattle.ix_run.specs.HeldTerms.{HoldTerms, BeginsWithRow, MayBeHeld, ReadsRow, bytes_of_row, bytes_of_term, row_of_term, terms_in, terms_told, told_behind, told_first}
 use Rattle.std.specs.Io.KnownBytes.{Appends}
-use Rattle.ix_text.specs.Sinks.{AppendsFront}
-use Rattle.ix_text.proofs.SinkLemmas.{appends_nothing, appends_then}
+use Rattle.ix_output.specs.Sinks.{AppendsFront}
+use Rattle.ix_output.proofs.SinkLemmas.{appends_nothing, appends_then}
 use Rattle.ix_run.specs.Runs.{TermValue, value_bytes}
 use Rattle.ix_run.specs.declared.coded_terms.TermRow.{TermRow}
 use Rattle.ix_run.proofs.TermRows.{row_numbers}

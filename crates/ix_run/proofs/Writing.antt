@@ -4,8 +4,8 @@ use Rattle.std.proofs.lemmas.Grind.{flat_map-append}
 use Rattle.std.proofs.lemmas.List.{append_assoc, append-nil, map-append, take_all}
 use Rattle.std.proofs.lemmas.List.Elements.{All-nil, All-cons, All-head, All-tail}
 use Rattle.std.specs.Io.KnownBytes.{Appends}
-use Rattle.ix_text.specs.Sinks.{AppendsFront}
-use Rattle.ix_text.proofs.SinkLemmas.{appends_then}
+use Rattle.ix_output.specs.Sinks.{AppendsFront}
+use Rattle.ix_output.proofs.SinkLemmas.{appends_then}
 use Rattle.ix_run.specs.Writing.{Writes}
 use Rattle.ix_run.proofs.Blocks.{map_take_more}
 

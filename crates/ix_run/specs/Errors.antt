@@ -2,8 +2,6 @@
 use Rattle.std.specs.Prelude.{ℕ, List, codes}
 use Rattle.ix_run.specs.declared.errors.RunError.{RunError}
 use Rattle.ix_run.specs.declared.errors.RunError.TheVariants.{TooLarge, Memory}
-use Rattle.ix_run.specs.declared.errors.WriteError.{WriteError}
-use Rattle.ix_run.specs.declared.errors.WriteError.TheVariants.{Write}
 
 -- the number of a refusal to invert
 abbrev pub run_error_number : RunError → ℕ
@@ -14,7 +12,3 @@ run_error_number Memory = 2
 abbrev pub run_error_name : RunError → List ℕ
 run_error_name TooLarge = codes "TooLarge"
 run_error_name Memory = codes "Memory"
-
--- the number of a refusal to write
-abbrev pub write_error_number : WriteError → ℕ
-write_error_number Write = 1

@@ -1,12 +1,10 @@
-//! Why a block is not inverted, and why a run is not written.
+//! Why a block is not inverted.
 
 ghost use Rattle.std.specs.Prelude.{◌≡◌};
-ghost use Rattle.ix_run.specs.Errors.{run_error_number, write_error_number};
+ghost use Rattle.ix_run.specs.Errors.{run_error_number};
 
-use ix_text::WriteRefused;
 use std::alloc::{AllocError, AllocFailed};
 use std::{error, fmt};
-use thiserror::Error;
 
 /// Why documents are not inverted.
 #[derive(Clone, Copy, Debug, PartialEq, Eq)]
@@ -64,30 +62,5 @@ impl From<AllocError> for RunError {
 
     fn from(_error: AllocError) -> RunError {
         RunError::Memory
-    }
-}
-
-/// Why a run is not written.
-#[derive(Clone, Copy, Debug, PartialEq, Eq, Error)]
-pub enum WriteError {
-    /// The writer refused.
-    #[error("Write")]
-    Write,
-}
-
-impl WriteError {
-    /// The error's number, from 1.
-    pub fn number(&self) -> u8
-        ensures { result ≡ write_error_number self.now }
-    {
-        match self {
-            WriteError::Write => 1,
-        }
-    }
-}
-
-impl From<WriteRefused> for WriteError {
-    fn from(_refused: WriteRefused) -> WriteError {
-        WriteError::Write
     }
 }

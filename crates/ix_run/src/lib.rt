@@ -17,8 +17,9 @@ mod seen_words;
 mod span;
 mod write;
 
-pub use errors::{RunError, WriteError};
+pub use errors::RunError;
 pub use inversion::invert;
+pub use ix_output::WriteError;
 pub use ix_run_text::{
     ListError, Listed, RunDoc, RunHead, RunReader, RunTextError, Source, VbError,
     no_run_text_begins_another, run_text_has_eighteen_bytes, run_text_tells_collection,

@@ -1,9 +1,9 @@
 //! Runs: a block of documents inverted and sorted (IIR 4.3).
 
 use crate::coded_terms::CodedTerms;
-use crate::errors::WriteError;
 use crate::run_source::RunSource;
 use crate::write::put_run;
+use ix_output::WriteError;
 use ix_run_text::RunHead;
 use std::io::Write;
 use std::marker::Model;
@@ -29,7 +29,7 @@ impl Run {
     ghost use Rattle.std.specs.Prelude.{◌≡◌, ℕ, [], List, OnOk, OnErr};
     ghost use Rattle.std.specs.Io.KnownBytes.{Appends};
     ghost use Rattle.ix_text.specs.Collections.{Collection};
-    ghost use Rattle.ix_text.specs.Sinks.{AppendsFront};
+    ghost use Rattle.ix_output.specs.Sinks.{AppendsFront};
     ghost use Rattle.ix_text.specs.Parts.{ArePartsOf, DictionaryEntry};
     ghost use Rattle.ix_run_text.specs.Heads.{heading_of, parts_with};
     ghost use Rattle.ix_run.specs.RunSources.{HasGiven, HasLeft, heading_shown, unread};
@@ -56,10 +56,7 @@ impl Run {
         ensures text { (first : ℕ) (collection : Collection) → IsRunOf self.now first collection
             → IsRunText first collection (run_bytes self.now) }
     {
-        match put_run(out, &self.head, &self.terms) {
-            Ok(()) => Ok(()),
-            Err(_) => Err(WriteError::Write),
-        }
+        put_run(out, &self.head, &self.terms)
     }
 
     /// The run as a source of which nothing was asked yet. Takes no memory.

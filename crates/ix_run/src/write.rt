@@ -10,27 +10,27 @@ ghost use Rattle.ix_run.specs.Runs.{IsShort, front_bytes, head_value, run_bytes,
 ghost use Rattle.ix_run.specs.Writing.{Writes};
 
 use crate::coded_terms::{CodedTerm, CodedTerms};
+use ix_output::{WriteError, put_all};
 use ix_run_text::{RunDoc, RunHead};
-use ix_text::{WriteRefused, put_all};
 use ix_vbyte::encode;
 use std::io::Write;
 
 /// Writes bytes.
-fn put<W: Write>(out: &mut W, bytes: &[u8]) -> Result<(), WriteRefused>
+fn put<W: Write>(out: &mut W, bytes: &[u8]) -> Result<(), WriteError>
     ensures { Writes result (W.contents out.old) (W.contents out.new) bytes.now }
 {
     put_all(out, bytes)
 }
 
 /// Writes the code of a number.
-fn put_code<W: Write>(out: &mut W, number: u32) -> Result<(), WriteRefused>
+fn put_code<W: Write>(out: &mut W, number: u32) -> Result<(), WriteError>
     ensures { Writes result (W.contents out.old) (W.contents out.new) (code_of number) }
 {
     put(out, encode(number).as_bytes())
 }
 
 /// Writes a text behind the number of its bytes.
-fn put_counted<W: Write>(out: &mut W, text: &[u8]) -> Result<(), WriteRefused>
+fn put_counted<W: Write>(out: &mut W, text: &[u8]) -> Result<(), WriteError>
     requires { length text.now < 2 ^ 32 }
     ensures { Writes result (W.contents out.old) (W.contents out.new) (counted text.now) }
 {
@@ -39,7 +39,7 @@ fn put_counted<W: Write>(out: &mut W, text: &[u8]) -> Result<(), WriteRefused>
 }
 
 /// Writes a document's row.
-fn put_row<W: Write>(out: &mut W, doc: &RunDoc) -> Result<(), WriteRefused>
+fn put_row<W: Write>(out: &mut W, doc: &RunDoc) -> Result<(), WriteError>
     requires { IsShort (string_bytes doc.now.name) }
     ensures { Writes result (W.contents out.old) (W.contents out.new)
         (row_bytes code_of (row_of_doc doc.now)) }
@@ -49,7 +49,7 @@ fn put_row<W: Write>(out: &mut W, doc: &RunDoc) -> Result<(), WriteRefused>
 }
 
 /// Writes the rows of documents.
-fn put_rows<W: Write>(out: &mut W, docs: &[RunDoc]) -> Result<(), WriteRefused>
+fn put_rows<W: Write>(out: &mut W, docs: &[RunDoc]) -> Result<(), WriteError>
     requires { All (λ doc. IsShort (string_bytes doc.name)) docs.now }
     ensures { Writes result (W.contents out.old) (W.contents out.new)
         (flat_map (row_bytes code_of) (map row_of_doc docs.now)) }
@@ -61,7 +61,7 @@ fn put_rows<W: Write>(out: &mut W, docs: &[RunDoc]) -> Result<(), WriteRefused>
 }
 
 /// Writes stop terms.
-fn put_texts<W: Write>(out: &mut W, texts: &[String]) -> Result<(), WriteRefused>
+fn put_texts<W: Write>(out: &mut W, texts: &[String]) -> Result<(), WriteError>
     requires { All (λ text. IsShort (string_bytes text)) texts.now }
     ensures { Writes result (W.contents out.old) (W.contents out.new)
         (flat_map counted (map string_bytes texts.now)) }
@@ -73,7 +73,7 @@ fn put_texts<W: Write>(out: &mut W, texts: &[String]) -> Result<(), WriteRefused
 }
 
 /// Writes a term with its list.
-fn put_term<W: Write>(out: &mut W, term: CodedTerm<'_>) -> Result<(), WriteRefused>
+fn put_term<W: Write>(out: &mut W, term: CodedTerm<'_>) -> Result<(), WriteError>
     requires term { IsShort term.term.now }
     requires list { IsShort term.list.now }
     ensures { Writes result (W.contents out.old) (W.contents out.new)
@@ -85,7 +85,7 @@ fn put_term<W: Write>(out: &mut W, term: CodedTerm<'_>) -> Result<(), WriteRefus
 }
 
 /// Writes terms with their lists.
-fn put_terms<W: Write>(out: &mut W, terms: &CodedTerms) -> Result<(), WriteRefused>
+fn put_terms<W: Write>(out: &mut W, terms: &CodedTerms) -> Result<(), WriteError>
     requires terms { All (λ term. IsShort term.term) terms.now }
     requires lists { All (λ term. IsShort term.list) terms.now }
     ensures { Writes result (W.contents out.old) (W.contents out.new)
@@ -99,7 +99,7 @@ fn put_terms<W: Write>(out: &mut W, terms: &CodedTerms) -> Result<(), WriteRefus
 }
 
 /// Writes the magic and the two numbers.
-fn put_numbers<W: Write>(out: &mut W, first: u32, count: u32) -> Result<(), WriteRefused>
+fn put_numbers<W: Write>(out: &mut W, first: u32, count: u32) -> Result<(), WriteError>
     ensures { Writes result (W.contents out.old) (W.contents out.new)
         (codes "PIIXRUN1" ++ to_le_bytes w32 first ++ to_le_bytes w32 count) }
 {
@@ -109,7 +109,7 @@ fn put_numbers<W: Write>(out: &mut W, first: u32, count: u32) -> Result<(), Writ
 }
 
 /// Writes a head.
-fn put_head<W: Write>(out: &mut W, head: &RunHead) -> Result<(), WriteRefused>
+fn put_head<W: Write>(out: &mut W, head: &RunHead) -> Result<(), WriteError>
     requires few { length head.now.docs.items < 2 ^ 32 }
     requires names { All (λ doc. IsShort (string_bytes doc.name)) head.now.docs.items }
     ensures { Writes result (W.contents out.old) (W.contents out.new)
@@ -128,7 +128,7 @@ pub(crate) fn put_run<W: Write>(
     out: &mut W,
     head: &RunHead,
     terms: &CodedTerms,
-) -> Result<(), WriteRefused>
+) -> Result<(), WriteError>
     requires few { length head.now.docs.items < 2 ^ 32 }
     requires names { All (λ doc. IsShort (string_bytes doc.name)) head.now.docs.items }
     requires terms { All (λ term. IsShort term.term) terms.now }

@@ -2,8 +2,8 @@
 use Rattle.std.proofs.Common.{◌≡◌, ℕ, ◌-◌, ◌+◌, ◌<◌, ◌≤◌, List, [], ◌∷◌, ◌++◌, length, take, drop, refl, sym, ap, subst, ◌∙◌, arith, append_assoc, append-nil, length-append, take-append-drop}
 use Rattle.std.proofs.Math.Seq.{drop-append_seam, take-append_seam}
 use Rattle.ix_text.specs.Parts.{DocumentRow, Posting}
-use Rattle.ix_text.specs.TokenMarks.{HoldsNumbers}
-use Rattle.ix_text.specs.declared.token_marks.TokenMarks.{TokenMarks}
+use Rattle.ix_postings.specs.TokenMarks.{HoldsNumbers}
+use Rattle.ix_postings.specs.declared.token_marks.TokenMarks.{TokenMarks}
 use Rattle.ix_text.specs.TokenNumbers.{AreDistinct, numbers_of_posting, numbers_of_postings}
 use Rattle.ix_text.proofs.DistinctNumbers.{distinct_front}
 use Rattle.ix_vbyte.specs.Gaps.{next_after}

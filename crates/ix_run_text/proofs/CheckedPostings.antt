@@ -5,7 +5,7 @@ use Rattle.std.proofs.Math.Seq.{take-append-add, take-append_seam}
 use Rattle.std.specs.Io.KnownBytes.{Consumes}
 use Rattle.ix_text.specs.Parts.{DictionaryEntry, DocumentRow, Posting}
 use Rattle.ix_text.specs.TokenNumbers.{AreDistinct, numbers_of_posting}
-use Rattle.ix_text.specs.TokenTables.{HasTokens}
+use Rattle.ix_postings.specs.TokenTables.{HasTokens}
 use Rattle.ix_vbyte.specs.Postings.{list_bytes_from, posting_bytes}
 use Rattle.ix_run_text.specs.Heads.{heading_of}
 use Rattle.ix_run_text.specs.Inputs.{bytes_held, known_left}

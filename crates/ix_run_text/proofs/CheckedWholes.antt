@@ -5,7 +5,7 @@ use Rattle.std.proofs.lemmas.List.{drop_at, length-map}
 use Rattle.std.proofs.lemmas.List.Elements.{All-cons, All-head, All-nil, All-tail}
 use Rattle.std.specs.Io.KnownBytes.{Consumes}
 use Rattle.ix_text.specs.Parts.{DictionaryEntry, DocumentRow, Posting}
-use Rattle.ix_text.specs.TokenMarks.{HoldsNumbers}
+use Rattle.ix_postings.specs.TokenMarks.{HoldsNumbers}
 use Rattle.ix_text.specs.TokenNumbers.{AreDistinct, numbers_of_entries, numbers_of_postings}
 use Rattle.ix_vbyte.specs.Gaps.{Ascends}
 use Rattle.ix_vbyte.specs.Postings.{ArePostings, IsPosting, documents_of, list_bytes, list_bytes_from, shifted}

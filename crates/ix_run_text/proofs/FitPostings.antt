@@ -3,7 +3,7 @@ use Rattle.std.proofs.Common.{ℕ, ◌+◌, ◌≤◌, List, [], ◌∷◌, leng
 use Rattle.std.proofs.lemmas.List.Elements.{All-nil, All-cons, Contains-get_or}
 use Rattle.ix_text.specs.Parts.{DocumentRow, Posting}
 use Rattle.ix_text.specs.TokenNumbers.{tokens_before}
-use Rattle.ix_text.specs.TokenTables.{IsSpan}
+use Rattle.ix_postings.specs.TokenTables.{IsSpan}
 use Rattle.ix_vbyte.specs.Gaps.{next_after}
 use Rattle.ix_vbyte.specs.Postings.{ArePostings, IsPosting, documents_of}
 use Rattle.ix_vbyte.proofs.Gaps.{Ascends-wider, next_after-le}

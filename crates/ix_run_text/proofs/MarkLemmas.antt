@@ -6,11 +6,11 @@ use Rattle.ix_vbyte.specs.Reading.{IsCut, IsTooBig, StartsWithZero}
 use Rattle.std.proofs.lemmas.Bool.{cases_lt}
 use Rattle.std.proofs.lemmas.List.{drop-drop, drop_at, take-append-drop, take-append-le}
 use Rattle.ix_text.specs.Parts.{DocumentRow, Posting}
-use Rattle.ix_text.specs.TokenMarks.{HoldsNumbers, room}
+use Rattle.ix_postings.specs.TokenMarks.{HoldsNumbers, room}
 use Rattle.ix_text.specs.TokenNumbers.{AreDistinct, numbers_of_posting, tokens_before}
-use Rattle.ix_text.specs.TokenTables.{HasTokens, IsSpan}
-use Rattle.ix_text.specs.declared.token_marks.TokenMarks.{TokenMarks}
-use Rattle.ix_text.specs.declared.token_table.TokenTable.{TokenTable}
+use Rattle.ix_postings.specs.TokenTables.{HasTokens, IsSpan}
+use Rattle.ix_postings.specs.declared.token_marks.TokenMarks.{TokenMarks}
+use Rattle.ix_postings.specs.declared.token_table.TokenTable.{TokenTable}
 use Rattle.ix_vbyte.specs.Code.{code_of}
 use Rattle.ix_vbyte.specs.Decoded.{HasFault}
 use Rattle.ix_vbyte.specs.Gaps.{gaps_of}

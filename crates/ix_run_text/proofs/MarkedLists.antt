@@ -4,11 +4,11 @@ use Rattle.std.proofs.Math.Seq.{drop-append_seam, take-append-add, take-append_s
 use Rattle.std.proofs.lemmas.List.{map-append}
 use Rattle.std.proofs.lemmas.List.Elements.{All-head}
 use Rattle.ix_text.specs.Parts.{DocumentRow, Posting}
-use Rattle.ix_text.specs.TokenMarks.{HoldsNumbers}
+use Rattle.ix_postings.specs.TokenMarks.{HoldsNumbers}
 use Rattle.ix_text.specs.TokenNumbers.{AreDistinct, numbers_of_posting, numbers_of_postings}
-use Rattle.ix_text.specs.TokenTables.{HasTokens}
-use Rattle.ix_text.specs.declared.token_marks.TokenMarks.{TokenMarks}
-use Rattle.ix_text.specs.declared.token_table.TokenTable.{TokenTable}
+use Rattle.ix_postings.specs.TokenTables.{HasTokens}
+use Rattle.ix_postings.specs.declared.token_marks.TokenMarks.{TokenMarks}
+use Rattle.ix_postings.specs.declared.token_table.TokenTable.{TokenTable}
 use Rattle.ix_text.proofs.DistinctNumbers.{distinct_front}
 use Rattle.ix_text.proofs.TokensApart.{numbers_of_postings-append, numbers_of_postings-push}
 use Rattle.ix_vbyte.specs.Gaps.{next_after}

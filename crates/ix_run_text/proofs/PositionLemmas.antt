@@ -2,9 +2,9 @@
 use Rattle.std.proofs.Common.{◌≡◌, ℕ, ◌+◌, ◌-◌, ◌<◌, ◌≤◌, List, [], ◌∷◌, ◌++◌, length, take, drop, get_or, refl, sym, ap, ap₂, ◌∙◌, subst, arith, append_assoc, append-nil, take-append-drop}
 use Rattle.std.proofs.lemmas.List.{map-append, drop_more, take_more, length-append}
 use Rattle.std.specs.Prelude.{Contains}
-use Rattle.ix_text.specs.TokenMarks.{HoldsNumbers, room}
+use Rattle.ix_postings.specs.TokenMarks.{HoldsNumbers, room}
 use Rattle.ix_text.specs.TokenNumbers.{AreDistinct}
-use Rattle.ix_text.specs.declared.token_marks.TokenMarks.{TokenMarks}
+use Rattle.ix_postings.specs.declared.token_marks.TokenMarks.{TokenMarks}
 use Rattle.ix_text.proofs.DistinctNumbers.{distinct_next, distinct_push}
 use Rattle.ix_vbyte.specs.Code.{code_of}
 use Rattle.ix_vbyte.specs.Gaps.{Ascends, gaps_from, gaps_of, next_after}

@@ -5,14 +5,15 @@ use Rattle.std.proofs.lemmas.List.Elements.{All-contains, All-from_get_or, Conta
 use Rattle.std.proofs.lemmas.List.Sums.{sum_by-take-le}
 use Rattle.std.proofs.lemmas.Option.{slice_get_within}
 use Rattle.ix_text.specs.Parts.{DocumentRow, Posting}
-use Rattle.ix_text.specs.TokenMarks.{HoldsNumbers}
+use Rattle.ix_postings.specs.TokenMarks.{HoldsNumbers}
 use Rattle.ix_text.specs.TokenNumbers.{AreDistinct, numbers_of_posting}
-use Rattle.ix_text.specs.TokenTables.{HasTokens, IsSpan}
-use Rattle.ix_text.specs.declared.token_marks.TokenMarks.{TokenMarks}
-use Rattle.ix_text.specs.declared.token_table.TokenTable.{TokenTable}
+use Rattle.ix_postings.specs.TokenTables.{HasTokens, IsSpan}
+use Rattle.ix_postings.specs.declared.token_marks.TokenMarks.{TokenMarks}
+use Rattle.ix_postings.specs.declared.token_table.TokenTable.{TokenTable}
 use Rattle.std.specs.Prelude.{Contains}
 use Rattle.ix_text.proofs.DistinctNumbers.{distinct_next, distinct_push}
-use Rattle.ix_text.proofs.TokenStarts.{in_range_from_span, span_from_in_range, tokens_before_next}
+use Rattle.ix_text.proofs.TokensBefore.{tokens_before_next}
+use Rattle.ix_postings.proofs.TokenStarts.{in_range_from_span, span_from_in_range}
 use Rattle.ix_vbyte.specs.Code.{code_of}
 use Rattle.ix_vbyte.specs.Gaps.{Ascends, gaps_of}
 use Rattle.ix_vbyte.specs.Postings.{codes_of, posting_bytes}

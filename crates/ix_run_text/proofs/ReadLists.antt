@@ -2,9 +2,9 @@
 use Rattle.std.proofs.Common.{Result, Ok, Err, false, is_ok, OnErr, ◌≡◌, ℕ, ◌+◌, ◌≤◌, List, [], ◌++◌, length, take, drop, sum_by, Option, Some, IfSome, sym, ap, subst, ◌∙◌, arith, append-nil, length-append, take-append-drop}
 use Rattle.std.proofs.lemmas.List.{take-append-le}
 use Rattle.ix_text.specs.Parts.{DocumentRow, Posting}
-use Rattle.ix_text.specs.TokenMarks.{HoldsNumbers}
+use Rattle.ix_postings.specs.TokenMarks.{HoldsNumbers}
 use Rattle.ix_text.specs.TokenNumbers.{AreDistinct, numbers_of_postings}
-use Rattle.ix_text.specs.declared.token_marks.TokenMarks.{TokenMarks}
+use Rattle.ix_postings.specs.declared.token_marks.TokenMarks.{TokenMarks}
 use Rattle.ix_vbyte.specs.Postings.{list_bytes}
 use Rattle.ix_vbyte.proofs.Postings.{list_apart}
 use Rattle.ix_run_text.specs.Inputs.{BeginsWith}

@@ -5,7 +5,7 @@ use Rattle.std.proofs.lemmas.List.{drop-drop, drop_more, take_all, take_more, le
 use Rattle.std.proofs.lemmas.List.Elements.{Contains-get_or}
 use Rattle.std.proofs.lemmas.Option.{slice_get_within}
 use Rattle.ix_text.specs.Parts.{DocumentRow, Posting}
-use Rattle.ix_text.specs.TokenTables.{IsSpan}
+use Rattle.ix_postings.specs.TokenTables.{IsSpan}
 use Rattle.ix_vbyte.specs.Code.{code_of}
 use Rattle.ix_vbyte.specs.Gaps.{Ascends, gaps_from, gaps_of}
 use Rattle.ix_vbyte.specs.Postings.{codes_of, posting_bytes}

@@ -1,11 +1,11 @@
 -- A list of postings whose tokens are marked as it is gone over: the postings that its bytes spell.
 use Rattle.std.specs.Prelude.{◌≡◌, ℕ, ◌+◌, ◌-◌, ◌^◌, ◌<◌, ◌≤◌, List, [], ◌∷◌, ◌++◌, ⊤, length, take, drop}
 use Rattle.ix_text.specs.Parts.{DocumentRow, Posting}
-use Rattle.ix_text.specs.TokenMarks.{HoldsNumbers}
+use Rattle.ix_postings.specs.TokenMarks.{HoldsNumbers}
 use Rattle.ix_text.specs.TokenNumbers.{AreDistinct, numbers_of_posting, numbers_of_postings}
-use Rattle.ix_text.specs.declared.token_marks.TokenMarks.{TokenMarks}
-use Rattle.ix_text.specs.TokenTables.{HasTokens}
-use Rattle.ix_text.specs.declared.token_table.TokenTable.{TokenTable}
+use Rattle.ix_postings.specs.declared.token_marks.TokenMarks.{TokenMarks}
+use Rattle.ix_postings.specs.TokenTables.{HasTokens}
+use Rattle.ix_postings.specs.declared.token_table.TokenTable.{TokenTable}
 use Rattle.ix_vbyte.specs.Code.{code_of}
 use Rattle.ix_vbyte.specs.Gaps.{Ascends, gaps_of, next_after}
 use Rattle.ix_vbyte.specs.Postings.{ArePostings, codes_of, documents_of, list_bytes, list_bytes_from, posting_bytes, shifted}

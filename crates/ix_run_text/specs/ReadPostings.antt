@@ -2,11 +2,11 @@
 use Rattle.std.specs.Prelude.{◌≡◌, ℕ, ◌+◌, ◌^◌, ◌≤◌, List, ◌++◌, length, map, sum_by}
 use Rattle.ix_text.specs.Parts.{DocumentRow, Posting}
 use Rattle.ix_text.specs.TokenLaws.{IsPostingIn}
-use Rattle.ix_text.specs.TokenMarks.{HoldsNumbers, room}
+use Rattle.ix_postings.specs.TokenMarks.{HoldsNumbers, room}
 use Rattle.ix_text.specs.TokenNumbers.{AreDistinct, numbers_of_posting}
-use Rattle.ix_text.specs.TokenTables.{HasTokens}
-use Rattle.ix_text.specs.declared.token_marks.TokenMarks.{TokenMarks}
-use Rattle.ix_text.specs.declared.token_table.TokenTable.{TokenTable}
+use Rattle.ix_postings.specs.TokenTables.{HasTokens}
+use Rattle.ix_postings.specs.declared.token_marks.TokenMarks.{TokenMarks}
+use Rattle.ix_postings.specs.declared.token_table.TokenTable.{TokenTable}
 use Rattle.ix_vbyte.specs.Gaps.{Ascends, gaps_of}
 use Rattle.ix_vbyte.specs.Postings.{codes_of}
 

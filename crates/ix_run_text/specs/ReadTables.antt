@@ -2,8 +2,8 @@
 use Rattle.std.proofs.Common.{List}
 use denote.Struct.Props as logic
 use Rattle.ix_text.specs.Parts.{DocumentRow}
-use Rattle.ix_text.specs.TokenTables.{HasTokens}
-use Rattle.ix_text.specs.declared.token_table.TokenTable.{TokenTable}
+use Rattle.ix_postings.specs.TokenTables.{HasTokens}
+use Rattle.ix_postings.specs.declared.token_table.TokenTable.{TokenTable}
 
 pub HasTokens-prop : (table : TokenTable) (rows : List DocumentRow) → IsProp (HasTokens table rows)
 unfolding HasTokens

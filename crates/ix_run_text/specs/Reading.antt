@@ -2,7 +2,7 @@
 use Rattle.std.specs.Prelude.{◌≡◌, ◌≢◌, ℕ, ◌+◌, List, [], ◌∷◌, ◌++◌, length, drop, flat_map, string_bytes, slice_index_or, ◌-◌, ◌<◌, ◌≤◌, Option, Some, None, IfSome, option_map}
 use Rattle.ix_text.specs.Parts.{DictionaryEntry, DocumentRow, Parts, Posting, terms_of}
 use Rattle.ix_text.specs.TokenNumbers.{AreDistinct, numbers_of_entries}
-use Rattle.ix_text.specs.declared.token_marks.TokenMarks.{TokenMarks}
+use Rattle.ix_postings.specs.declared.token_marks.TokenMarks.{TokenMarks}
 use Rattle.ix_vbyte.specs.Gaps.{next_after}
 use Rattle.ix_vbyte.specs.Postings.{documents_of, list_bytes_from, shifted}
 use Rattle.ix_run_text.specs.Heads.{Heading, heading_of}

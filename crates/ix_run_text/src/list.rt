@@ -2,9 +2,9 @@
 ghost use Rattle.std.specs.Prelude.{◌≡◌, ◌≤◌, ◌++◌, List, ℕ, Some, IfOk, IfErr, OnOk, length};
 ghost use Rattle.std.specs.Io.KnownBytes.{Keeps};
 ghost use Rattle.ix_text.specs.Parts.{DocumentRow, Posting};
-ghost use Rattle.ix_text.specs.TokenMarks.{HoldsNumbers, room};
+ghost use Rattle.ix_postings.specs.TokenMarks.{HoldsNumbers, room};
 ghost use Rattle.ix_text.specs.TokenNumbers.{AreDistinct, numbers_of_postings};
-ghost use Rattle.ix_text.specs.TokenTables.{HasTokens};
+ghost use Rattle.ix_postings.specs.TokenTables.{HasTokens};
 ghost use Rattle.ix_vbyte.specs.Postings.{list_bytes};
 ghost use Rattle.ix_run_text.specs.Inputs.{bytes_held, known_left};
 ghost use Rattle.ix_run_text.specs.MarkedLists.{MarksList, PostingsFit};
@@ -15,7 +15,7 @@ use crate::RunTextError;
 use crate::input::Input;
 use crate::marking::check_list;
 use crate::term::TermCounts;
-use ix_text::{TokenMarks, TokenTable};
+use ix_postings::{TokenMarks, TokenTable};
 use ix_vbyte::VbError;
 use std::io::Read;
 

@@ -3,9 +3,9 @@
 //! A fault is found at its byte. An error of `Number(Cut)` says that the bytes end inside the list.
 ghost use Rattle.std.specs.Prelude.{◌≡◌, ◌≢◌, ◌<◌, ◌≤◌, ◌+◌, ◌-◌, ◌^◌, ◌++◌, [], ◌∷◌, List, ℕ, IfOk, IfErr, IsOk, MatchOption, MatchResult, Contains, drop, length, take};
 ghost use Rattle.ix_text.specs.Parts.{DocumentRow, Posting};
-ghost use Rattle.ix_text.specs.TokenMarks.{HoldsNumbers, room};
+ghost use Rattle.ix_postings.specs.TokenMarks.{HoldsNumbers, room};
 ghost use Rattle.ix_text.specs.TokenNumbers.{AreDistinct, numbers_of_posting};
-ghost use Rattle.ix_text.specs.TokenTables.{HasTokens, IsSpan};
+ghost use Rattle.ix_postings.specs.TokenTables.{HasTokens, IsSpan};
 ghost use Rattle.ix_vbyte.specs.Code.{code_of};
 ghost use Rattle.ix_vbyte.specs.Gaps.{gaps_of};
 ghost use Rattle.ix_vbyte.specs.Postings.{codes_of, list_bytes, posting_bytes};
@@ -15,7 +15,7 @@ ghost use Rattle.ix_run_text.specs.declared.run_text_error.RunTextError.TheVaria
 ghost use Rattle.ix_run_text.specs.MarkedLists.{BeginsWithPosition, IsCutShort, ListStands, MarksList, MarksPositions, MarksPosting};
 
 use crate::RunTextError;
-use ix_text::{TokenMarks, TokenTable};
+use ix_postings::{TokenMarks, TokenTable};
 use ix_vbyte::{decode, short_number, short_posting};
 
 /// Checks the list of `documents` postings that the bytes begin with, in `size` of them, and marks its tokens. Returns one above

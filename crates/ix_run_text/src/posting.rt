@@ -1,7 +1,7 @@
 //! Decoding a posting of a list that was checked.
 ghost use Rattle.std.specs.Prelude.{◌≡◌, ◌≤◌, ◌+◌, ◌-◌, ◌^◌, ◌++◌, List, ℕ, IfOk, IfErr, MatchResult, drop, length, vec_capacity, vec_len};
 ghost use Rattle.ix_text.specs.Parts.{DocumentRow, Posting};
-ghost use Rattle.ix_text.specs.TokenTables.{HasTokens};
+ghost use Rattle.ix_postings.specs.TokenTables.{HasTokens};
 ghost use Rattle.ix_vbyte.specs.Gaps.{Ascends, gaps_of};
 ghost use Rattle.ix_vbyte.specs.Postings.{codes_of, posting_bytes};
 ghost use Rattle.ix_run_text.specs.MarkedLists.{TellsPosting};
@@ -11,7 +11,7 @@ ghost use Rattle.ix_run_text.specs.declared.run_text_error.RunTextError.TheVaria
 
 use crate::RunTextError;
 use crate::marking::{document_behind, some_number};
-use ix_text::TokenTable;
+use ix_postings::TokenTable;
 
 /// Decodes the posting that the bytes begin with. Returns its document and how many bytes it has; `positions` then holds its
 /// positions alone. `next` is one above the document before.

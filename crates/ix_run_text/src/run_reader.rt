@@ -1,7 +1,7 @@
 //! The exact reader of a run text: it takes the bytes of a run as they come, and accepts no others.
 ghost use Rattle.std.specs.Prelude.{◌≡◌, ◌≢◌, ◌+◌, ◌<◌, ◌≤◌, ◌^◌, ℕ, length, map, sum_by};
-ghost use Rattle.ix_text.specs.TokenMarks.{room};
-ghost use Rattle.ix_text.specs.TokenTables.{HasTokens};
+ghost use Rattle.ix_postings.specs.TokenMarks.{room};
+ghost use Rattle.ix_postings.specs.TokenTables.{HasTokens};
 ghost use Rattle.ix_run_text.specs.Heads.{row_of_doc};
 ghost use Rattle.ix_run_text.specs.Inputs.{bytes_held};
 ghost use Rattle.ix_run_text.specs.ReadTables.{HasTokens-prop};
@@ -14,7 +14,7 @@ use crate::posting::tell_posting;
 use crate::term::read_term;
 use crate::token_counts::{table_of, token_total};
 use crate::{RunHead, RunTextError};
-use ix_text::{TokenMarks, TokenTable};
+use ix_postings::{TokenMarks, TokenTable};
 use std::alloc::Global;
 use std::io::Read;
 

@@ -1,10 +1,10 @@
 //! The tokens of a run's documents, counted.
 ghost use Rattle.std.specs.Prelude.{◌≡◌, ◌≤◌, ◌^◌, map, sum_by, IfOk};
-ghost use Rattle.ix_text.specs.TokenTables.{HasTokens};
+ghost use Rattle.ix_postings.specs.TokenTables.{HasTokens};
 ghost use Rattle.ix_run_text.specs.Heads.{row_of_doc};
 
 use crate::RunDoc;
-use ix_text::TokenTable;
+use ix_postings::TokenTable;
 use std::alloc::{AllocError, Global};
 
 /// The table of the documents' tokens.

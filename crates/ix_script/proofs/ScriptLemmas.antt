@@ -5,8 +5,8 @@ use Rattle.std.proofs.lemmas.Grind.{flat_map-append}
 use Rattle.std.proofs.Math.Seq.{take-add, take-append_seam}
 use Rattle.std.proofs.lemmas.List.{length-map, map-append, take-map}
 use Rattle.std.proofs.lemmas.List.Folds.{list_any-append}
-use Rattle.ix_text.specs.Sinks.{AppendsFront}
-use Rattle.ix_text.proofs.SinkLemmas.{appends_nothing, appends_then, nothing_from_keeps}
+use Rattle.ix_output.specs.Sinks.{AppendsFront}
+use Rattle.ix_output.proofs.SinkLemmas.{appends_nothing, appends_then, nothing_from_keeps}
 use Rattle.ix_live.specs.declared.live_error.LiveError.TheVariants as live
 use Rattle.ix_script.specs.Groups.{IsCutAtPublish}
 use Rattle.ix_script.specs.PrintedAnswers.{answer_lines, lines_of}

@@ -1,7 +1,7 @@
 -- What comes of a script that is carried out on a new live index, and of one that is stopped on the way.
 use Rattle.std.specs.Prelude.{◌≡◌, ℕ, ◌⊎◌, Bool, List, [], ◌∷◌, ◌++◌, Option}
 use Rattle.std.specs.Io.KnownBytes.{Appends}
-use Rattle.ix_text.specs.Sinks.{AppendsFront}
+use Rattle.ix_output.specs.Sinks.{AppendsFront}
 use Rattle.ix_live.specs.declared.live_error.LiveError.TheVariants as live
 use Rattle.ix_script.specs.PrintedAnswers.{lines_of}
 use Rattle.ix_script.specs.Runs.{Answered, Progress, Runs, some_found}

@@ -10,7 +10,7 @@ ghost use Rattle.ix_script.specs.Stops.{IsUnprinted};
 use crate::printing::lines_of;
 use crate::run_error::RunError;
 use crate::step::Step;
-use ix_text::{flush, put_all};
+use ix_output::{flush, put_all};
 use std::alloc::{AllocError, Global};
 use std::io::Write;
 

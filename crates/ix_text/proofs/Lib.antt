@@ -6,11 +6,9 @@ pub mod DistinctNumbers
 pub mod FoldLemmas
 pub mod FoldTables
 pub mod LawfulLemmas
-pub mod Marked
 pub mod PartsCounted
 pub mod PartsLawful
 pub mod PartsLemmas
-pub mod SinkLemmas
 pub mod SizeLemmas
 pub mod StopSetLemmas
 pub mod StopSlotLemmas
@@ -18,7 +16,7 @@ pub mod StopTextLaws
 pub mod StopTextLemmas
 pub mod TermLemmas
 pub mod TokenLemmas
-pub mod TokenStarts
+pub mod TokensBefore
 pub mod TokensApart
 pub mod TokensTold
 pub mod WindowLemmas

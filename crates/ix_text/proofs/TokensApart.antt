@@ -17,8 +17,8 @@ use Rattle.ix_text.specs.TokenLaws.{AreInOrder}
 use Rattle.ix_text.specs.TokenNumbers.{AreDistinct, numbers_of_entries, numbers_of_posting, numbers_of_postings, token_number, tokens_before}
 use Rattle.ix_text.proofs.AscendingLists.{all_below, contains_none, contains_map, contained_from_map}
 use Rattle.ix_text.proofs.CollectionTold.{not_less_itself}
-use Rattle.ix_text.proofs.DistinctNumbers.{KeysDiffer, contained_from_flat_map, contains_flat_map, distinct_flat_map, distinct_next, one_source, rising_distinct, rising_keys_differ}
-use Rattle.ix_text.proofs.TokenStarts.{count_of, tokens_before_next}
+use Rattle.ix_text.proofs.DistinctNumbers.{KeysDiffer, contained_from_flat_map, contains_flat_map, distinct_flat_map, one_source, rising_distinct, rising_keys_differ}
+use Rattle.ix_text.proofs.TokensBefore.{count_of, tokens_before_next}
 
 -- ---- numbers of tokens in range
 

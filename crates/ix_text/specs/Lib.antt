@@ -8,7 +8,6 @@ pub mod Docs
 pub mod IotaSubscript
 pub mod Parts
 pub mod PartsLaws
-pub mod Sinks
 pub mod Sizes
 pub mod StopErrors
 pub mod StopFaults
@@ -19,8 +18,6 @@ pub mod StopText
 pub mod Terms
 pub mod TokenLaws
 pub mod TokenLists
-pub mod TokenMarks
 pub mod TokenNumbers
-pub mod TokenTables
 pub mod WindowLaws
 pub mod Windows

@@ -7,13 +7,10 @@ mod collection;
 mod limits;
 mod memory;
 mod parts;
-mod sink;
 mod stop;
 mod stop_slots;
 mod term;
 mod token;
-mod token_marks;
-mod token_table;
 mod windows;
 
 pub use collection::{Collection, CollectionError, Doc, has_documents_or_a_fault};
@@ -25,12 +22,9 @@ pub use parts::{
     distinct_tokens_are_lawful, lawful_collections_have_lawful_parts, lawful_parts_have_collection,
     lawful_parts_lie_below, lawful_tokens_are_distinct, parts_tell_collection, terms_share_tokens,
 };
-pub use sink::{WriteRefused, flush, put_all};
 pub use stop::{StopError, StopList, has_stop_set_or_a_fault};
 pub use term::{equal_terms_match, term_of};
 pub use token::{
     lawful_collection, tokens, tokens_are_no_more_than_bytes, write_token, write_tokens,
 };
-pub use token_marks::TokenMarks;
-pub use token_table::TokenTable;
 pub use windows::{TrigramWindows, trigrams, trigrams_stand_by_place};

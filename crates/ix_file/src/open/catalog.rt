@@ -1,6 +1,6 @@
 //! What stands in an index text before its lists and grams are looked at: the stop list, the documents and the terms.
 ghost use Rattle.std.specs.Prelude.{◌≡◌, ◌⊎◌, ℕ, ◌^◌, ◌≤◌, List, sum_by, IfOk, IfErr};
-ghost use Rattle.ix_text.specs.TokenTables.{HasTokens};
+ghost use Rattle.ix_postings.specs.TokenTables.{HasTokens};
 ghost use Rattle.ix_file.specs.Catalogs.{AreNoSections, IsCatalogOf};
 ghost use Rattle.ix_file.specs.Frames.{texts_in, version_in};
 ghost use Rattle.ix_file.specs.OpenedRows.{rows_in};
@@ -16,7 +16,8 @@ use crate::open::lists::{check_lists, check_lists_beside};
 use crate::open::stop::read_stop;
 use crate::open::tables::LongList;
 use crate::open::terms::Terms;
-use ix_text::{StopList, TokenTable};
+use ix_postings::TokenTable;
+use ix_text::StopList;
 use std::alloc::{AllocError, Global};
 use std::thread::Threads;
 

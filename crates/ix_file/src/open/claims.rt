@@ -4,7 +4,7 @@ ghost use Rattle.std.specs.List.Sorted.{IsStrictlyIncreasing};
 ghost use Rattle.ix_text.specs.TokenNumbers.{AreDistinct};
 ghost use Rattle.ix_file.specs.Claimed.{HasClaimed, HasRoom, HaveClaimed, mark_count};
 
-use ix_text::TokenMarks;
+use ix_postings::TokenMarks;
 use std::alloc::{AllocError, Global};
 
 /// How many marks take a byte.

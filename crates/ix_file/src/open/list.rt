@@ -4,7 +4,7 @@ ghost use Rattle.ix_vbyte.specs.Code.{code_of};
 ghost use Rattle.ix_vbyte.specs.Skips.{AreSkipsIn};
 ghost use Rattle.ix_text.specs.Parts.{DocumentRow, Posting};
 ghost use Rattle.ix_text.specs.TokenNumbers.{numbers_of_posting, numbers_of_postings};
-ghost use Rattle.ix_text.specs.TokenTables.{HasTokens};
+ghost use Rattle.ix_postings.specs.TokenTables.{HasTokens};
 ghost use Rattle.ix_file.specs.Claimed.{HasRoom, HaveClaimed};
 ghost use Rattle.ix_file.specs.ReadLists.{AreListedIn, ArePositionsIn, IsNextPosting, MayClaim};
 ghost use Rattle.ix_file.specs.declared.open.claims.Claims.{Claims};
@@ -13,7 +13,7 @@ ghost use Rattle.ix_file.specs.declared.open_error.OpenError.TheVariants.{Memory
 use crate::open::claims::Claims;
 use crate::open::positions::check_positions;
 use crate::{OpenError, Section};
-use ix_text::TokenTable;
+use ix_postings::TokenTable;
 use ix_vbyte::cursor::Skip;
 use ix_vbyte::{VbError, decode, short_number, short_posting};
 use std::alloc::{AllocError, Global};

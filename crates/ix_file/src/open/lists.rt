@@ -1,7 +1,7 @@
 //! The lists of an index text, and that no token stands in two of them.
 ghost use Rattle.std.specs.Prelude.{◌≡◌, ◌⊎◌, ◌+◌, ◌-◌, ◌*◌, ◌<◌, ◌≤◌, ◌∷◌, ◌++◌, [], List, length, slice_range, All, IfOk, IfErr, OnOk};
 ghost use Rattle.ix_text.specs.Parts.{DocumentRow, Posting};
-ghost use Rattle.ix_text.specs.TokenTables.{HasTokens};
+ghost use Rattle.ix_postings.specs.TokenTables.{HasTokens};
 ghost use Rattle.ix_file.specs.Claimed.{HasClaimed, HasRoom, mark_count};
 ghost use Rattle.ix_file.specs.ReadListings.{AreLaidOut, HasListedCounts, listings_in, sizes_sum};
 ghost use Rattle.ix_file.specs.LongLists.{IsLongIn};
@@ -14,7 +14,7 @@ use crate::open::claims::{Claims, MARKS_A_BYTE};
 use crate::open::list::check_list;
 use crate::open::tables::LongList;
 use crate::open::terms::{ListPlace, Terms};
-use ix_text::TokenTable;
+use ix_postings::TokenTable;
 use ix_vbyte::cursor::Skip;
 use std::alloc::{AllocError, Global};
 use std::thread::{Threads, join};

@@ -1,7 +1,7 @@
 //! The positions of one posting in a list of an index text.
 ghost use Rattle.std.specs.Prelude.{◌≡◌, ◌⊎◌, ℕ, ◌+◌, ◌^◌, ◌<◌, ◌≤◌, ◌++◌, List, map, IfOk, IfErr, IfSome};
 ghost use Rattle.ix_vbyte.specs.Code.{code_of};
-ghost use Rattle.ix_text.specs.TokenMarks.{room};
+ghost use Rattle.ix_postings.specs.TokenMarks.{room};
 ghost use Rattle.ix_file.specs.Claimed.{HasRoom, HaveClaimed};
 ghost use Rattle.ix_file.specs.PositionReads.{HasReadPositions, PositionsGoOn};
 ghost use Rattle.ix_file.specs.ReadLists.{ArePositionsIn};
@@ -11,7 +11,7 @@ ghost use Rattle.ix_file.specs.declared.open_error.OpenError.TheVariants.{Memory
 use crate::OpenError;
 use crate::open::claims::Claims;
 use crate::open::list::gap_in_list;
-use ix_text::TokenMarks;
+use ix_postings::TokenMarks;
 use ix_vbyte::short_number;
 
 /// How far the positions of a posting were read.

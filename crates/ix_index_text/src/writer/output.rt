@@ -2,7 +2,7 @@
 ghost use Rattle.std.specs.Prelude.{◌≡◌, ◌++◌, ◌⊎◌, ℕ, List, [], Option, None, Some, OnOk, OnErr, IfErr};
 ghost use Rattle.std.specs.Io.KnownBytes.{Appends, Keeps};
 ghost use Rattle.ix_text.specs.Parts.{GramEntry, terms_of};
-ghost use Rattle.ix_text.specs.Sinks.{AppendsFront};
+ghost use Rattle.ix_output.specs.Sinks.{AppendsFront};
 ghost use Rattle.ix_index_text.specs.Endings.{IsFinished};
 ghost use Rattle.ix_index_text.specs.Grams.{AreGramsOfTerms};
 ghost use Rattle.ix_index_text.specs.IndexText.{layout};
@@ -13,7 +13,7 @@ ghost use Rattle.ix_index_text.specs.Told.{Told, entries_of, parts_of};
 
 use crate::sections::FULL;
 use crate::{PutError, WriterSections};
-use ix_text::{WriteRefused, flush, put_all};
+use ix_output::{WriteError, flush, put_all};
 use std::io::Write;
 
 /// Writes what is pending, if it is enough to be worth a write.
@@ -117,7 +117,7 @@ fn put_tail<W: Write>(
     out: &mut W,
     sections: &WriterSections,
     ending: &[u8],
-) -> Result<(), WriteRefused>
+) -> Result<(), WriteError>
     ensures whole { OnOk result (Appends (W.contents out.old) (W.contents out.new)
         (sections.now.stop.items ++ sections.now.documents.items
         ++ sections.now.dictionary.bytes.items ++ ending.now)) }

@@ -1,7 +1,7 @@
 //! A mark for each document.
 
 ghost use Rattle.std.specs.Prelude.{◌≡◌, ◌<◌, ◌≤◌, ◌+◌, ◌-◌, ◌*◌, ◌⊎◌, ℕ, length, IfOk, OnOk};
-ghost use Rattle.ix_text.specs.TokenMarks.{mark_of};
+ghost use Rattle.ix_postings.specs.TokenMarks.{mark_of};
 ghost use Rattle.ix_query.specs.Marking.{AddsBits, CanAddBits};
 
 use ix_text::Memory;

@@ -8,7 +8,7 @@ use Rattle.ix_vbyte.specs.Code.{code_of}
 use Rattle.ix_vbyte.specs.Texts.{counted}
 use Rattle.ix_run_text.specs.Heads.{row_of_doc}
 use Rattle.ix_run.specs.Runs.{IsShort}
-use Rattle.ix_text.proofs.SinkLemmas.{appends_then}
+use Rattle.ix_output.proofs.SinkLemmas.{appends_then}
 use Rattle.ix_run.proofs.Writing.{All-from_map, front_more, front_then, writes_refused, writes_then}
 use Rattle.ix_run.proofs.write.put_head.Goals as goal
 

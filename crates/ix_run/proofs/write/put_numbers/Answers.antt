@@ -1,6 +1,6 @@
 use Rattle.std.proofs.Common.{codes, ◌++◌}
 use Rattle.std.specs.Int.{to_le_bytes, w32}
-use Rattle.ix_text.proofs.SinkLemmas.{appends_then}
+use Rattle.ix_output.proofs.SinkLemmas.{appends_then}
 use Rattle.ix_run.proofs.Writing.{front_more, front_then, writes_refused, writes_then}
 use Rattle.ix_run.proofs.write.put_numbers.Goals as goal
 

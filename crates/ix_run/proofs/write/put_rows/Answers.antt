@@ -1,7 +1,7 @@
 use Rattle.ix_run_text.specs.Heads.{row_of_doc}
 use Rattle.ix_text.specs.Parts.{row_bytes}
 use Rattle.ix_vbyte.specs.Code.{code_of}
-use Rattle.ix_text.proofs.SinkLemmas.{appends_nothing}
+use Rattle.ix_output.proofs.SinkLemmas.{appends_nothing}
 use Rattle.ix_run.proofs.Writing.{appends_all, appends_one_more, front_within, writes_refused}
 use Rattle.ix_run.proofs.write.put_rows.Goals as goal
 

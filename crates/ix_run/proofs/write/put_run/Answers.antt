@@ -1,6 +1,6 @@
 use Rattle.std.proofs.Common.{◌++◌, ◌∷◌, [], flat_map, rules}
 use Rattle.ix_run.specs.Runs.{front_bytes, head_value, run_bytes, value_bytes}
-use Rattle.ix_text.proofs.SinkLemmas.{appends_then}
+use Rattle.ix_output.proofs.SinkLemmas.{appends_then}
 use Rattle.ix_run.proofs.Writing.{front_more, front_then, writes_refused, writes_then}
 use Rattle.ix_run.proofs.write.put_run.Goals as goal
 

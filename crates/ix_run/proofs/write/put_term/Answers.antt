@@ -1,7 +1,7 @@
 use Rattle.std.proofs.Common.{◌++◌}
 use Rattle.ix_vbyte.specs.Code.{code_of}
 use Rattle.ix_vbyte.specs.Texts.{counted}
-use Rattle.ix_text.proofs.SinkLemmas.{appends_then}
+use Rattle.ix_output.proofs.SinkLemmas.{appends_then}
 use Rattle.ix_run.proofs.Writing.{front_more, front_then, writes_refused, writes_then}
 use Rattle.ix_run.proofs.write.put_term.Goals as goal
 

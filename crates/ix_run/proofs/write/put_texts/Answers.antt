@@ -1,6 +1,6 @@
 use Rattle.std.proofs.Common.{string_bytes}
 use Rattle.ix_vbyte.specs.Texts.{counted}
-use Rattle.ix_text.proofs.SinkLemmas.{appends_nothing}
+use Rattle.ix_output.proofs.SinkLemmas.{appends_nothing}
 use Rattle.ix_run.proofs.Writing.{appends_all, appends_one_more, front_within, writes_refused}
 use Rattle.ix_run.proofs.write.put_texts.Goals as goal
 

@@ -1,8 +1,8 @@
 -- The postings so far were gone over.
 use Rattle.std.proofs.Common.{◌≡◌, ◌≤◌, ◌^◌, List, length}
 use Rattle.ix_text.specs.Parts.{DocumentRow}
-use Rattle.ix_text.specs.TokenMarks.{room}
-use Rattle.ix_text.specs.TokenTables.{HasTokens}
+use Rattle.ix_postings.specs.TokenMarks.{room}
+use Rattle.ix_postings.specs.TokenTables.{HasTokens}
 use Rattle.ix_run_text.proofs.MarkedLists.{GoneOver}
 use Rattle.ix_run_text.proofs.marking.check_list.Given as goal
 

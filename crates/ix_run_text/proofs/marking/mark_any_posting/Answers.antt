@@ -2,7 +2,7 @@
 use Rattle.std.proofs.Common.{◌≡◌, ◌≤◌, ◌^◌, ◌+◌, ◌-◌, ◌++◌, ℕ, List, length, take, drop, ap, ◌∙◌, arith, subst}
 use Rattle.std.proofs.lemmas.List.{take_rest}
 use Rattle.std.proofs.lemmas.Result.{err_from_is_err_and}
-use Rattle.ix_text.specs.TokenTables.{IsSpan}
+use Rattle.ix_postings.specs.TokenTables.{IsSpan}
 use Rattle.ix_vbyte.specs.ShortPostings.{BeginsWithShort}
 use Rattle.ix_run_text.specs.MarkedLists.{MarksPositions}
 use Rattle.ix_run_text.proofs.MarkLemmas.{cut_in_count, cut_in_gap, cut_in_positions, marks_of_parts}

@@ -1,7 +1,7 @@
 -- The document's tokens have their marks, and the one told is the posting's.
 use Rattle.std.proofs.Common.{◌≡◌, ℕ, ◌-◌, ◌∷◌, [], ◌∙◌, arith, sym, subst, refl}
 use Rattle.std.proofs.lemmas.Bool.{false≢true}
-use Rattle.ix_text.specs.TokenTables.{IsSpan}
+use Rattle.ix_postings.specs.TokenTables.{IsSpan}
 use Rattle.ix_run_text.proofs.PostingLemmas.{ascends_single, document_within, few_documents, free_single, marked_single, span_within}
 use Rattle.ix_run_text.proofs.marking.mark_single.Goals as goal
 

@@ -3,7 +3,7 @@ use Rattle.std.proofs.Common.{◌≡◌, ◌<◌, ◌≤◌, ◌^◌, ◌+◌, �
 use Rattle.ix_vbyte.specs.Code.{code_of}
 use Rattle.std.proofs.lemmas.List.{take_rest}
 use Rattle.std.proofs.lemmas.Result.{err_from_is_err_and}
-use Rattle.ix_text.specs.TokenTables.{IsSpan}
+use Rattle.ix_postings.specs.TokenTables.{IsSpan}
 use Rattle.ix_vbyte.specs.ShortPostings.{BeginsWithShort}
 use Rattle.ix_run_text.proofs.PostingLemmas.{behind_count, behind_gap, positions_ascend, posting_parts, same_count}
 use Rattle.ix_run_text.proofs.TellLemmas.{AreTold, count_below, document_in, not_cut, tells_of_parts}

@@ -1,5 +1,5 @@
 use Rattle.std.proofs.Common.{map, take}
-use Rattle.ix_text.specs.TokenTables.{HasTokens}
+use Rattle.ix_postings.specs.TokenTables.{HasTokens}
 use Rattle.ix_run_text.specs.Heads.{row_of_doc}
 use Rattle.ix_run_text.proofs.token_counts.table_of.Given as goal
 

@@ -1,6 +1,6 @@
 use Rattle.std.proofs.Common.{get_or, take, refl, sym, subst}
 use Rattle.std.proofs.lemmas.List.{take_all}
-use Rattle.ix_text.specs.TokenTables.{HasTokens}
+use Rattle.ix_postings.specs.TokenTables.{HasTokens}
 use Rattle.ix_file.specs.OpenedRows.{row_in, rows_in}
 use Rattle.ix_file.specs.declared.open.documents.Row.{Row}
 use Rattle.ix_file.proofs.TokenTotals.{room_for, rows_more}

@@ -1,5 +1,5 @@
 use Rattle.std.proofs.Common.{ℕ, List, take}
-use Rattle.ix_text.specs.TokenTables.{HasTokens}
+use Rattle.ix_postings.specs.TokenTables.{HasTokens}
 use Rattle.ix_file.specs.OpenedRows.{rows_in}
 use Rattle.ix_file.proofs.open.catalog.table_of.Given as goal
 

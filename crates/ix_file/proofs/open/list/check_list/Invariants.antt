@@ -1,6 +1,6 @@
 use Rattle.std.proofs.Common.{List}
 use Rattle.ix_text.specs.Parts.{DocumentRow, Posting}
-use Rattle.ix_text.specs.TokenTables.{HasTokens}
+use Rattle.ix_postings.specs.TokenTables.{HasTokens}
 use Rattle.ix_vbyte.specs.Skips.{AreSkipsIn}
 use Rattle.ix_file.specs.ReadLists.{AreListedIn, MayClaim}
 use Rattle.ix_file.proofs.ListReading.{HasReadList, ListGoesOn}

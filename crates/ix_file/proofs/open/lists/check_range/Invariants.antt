@@ -1,6 +1,6 @@
 use Rattle.std.proofs.Common.{All, List, slice_range}
 use Rattle.ix_text.specs.Parts.{DocumentRow}
-use Rattle.ix_text.specs.TokenTables.{HasTokens}
+use Rattle.ix_postings.specs.TokenTables.{HasTokens}
 use Rattle.ix_file.specs.LongLists.{IsLongIn}
 use Rattle.ix_file.specs.ReadLists.{MayClaim}
 use Rattle.ix_file.proofs.AllLists.{HasReadLists}

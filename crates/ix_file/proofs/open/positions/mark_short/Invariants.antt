@@ -1,5 +1,5 @@
 use Rattle.std.proofs.Common.{◌≡◌, ℕ, List}
-use Rattle.ix_text.specs.TokenMarks.{room}
+use Rattle.ix_postings.specs.TokenMarks.{room}
 use Rattle.ix_file.specs.PositionReads.{HasReadPositions, PositionsGoOn}
 use Rattle.ix_file.specs.ReadLists.{ArePositionsIn}
 use Rattle.ix_file.specs.declared.open.claims.Claims.TheVariants.{Marked}

@@ -1,5 +1,5 @@
 use Rattle.std.proofs.Common.{refl, ap, arith}
-use Rattle.ix_text.proofs.SinkLemmas.{on_err_always}
+use Rattle.ix_output.proofs.SinkLemmas.{on_err_always}
 use Rattle.ix_index_text.proofs.TellingLemmas.{refusal_set}
 use Rattle.ix_index_text.proofs.ListTold.{fits_list, list_kept, front_told, spelled_told, taken_spells, keeps_then}
 use Rattle.ix_index_text.proofs.writer.IndexWriter+W.list.Goals as goal

@@ -1,5 +1,5 @@
 use Rattle.std.proofs.Common.{refl}
-use Rattle.ix_text.proofs.SinkLemmas.{on_err_always}
+use Rattle.ix_output.proofs.SinkLemmas.{on_err_always}
 use Rattle.ix_index_text.proofs.TellingLemmas.{refusal_set}
 use Rattle.ix_index_text.proofs.ListTold.{front_of_list, one_posting, posting_kept, posting_may, spelled_listed}
 use Rattle.ix_index_text.proofs.writer.IndexWriter+W.posting.Goals as goal

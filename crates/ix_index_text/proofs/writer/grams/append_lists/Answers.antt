@@ -1,4 +1,4 @@
-use Rattle.ix_text.proofs.SinkLemmas.{on_err_always}
+use Rattle.ix_output.proofs.SinkLemmas.{on_err_always}
 use Rattle.ix_index_text.proofs.SectionLemmas.{appended-more, appended-begun}
 use Rattle.ix_index_text.proofs.writer.grams.append_lists.Goals as goal
 

@@ -1,4 +1,4 @@
-use Rattle.ix_text.proofs.SinkLemmas.{on_err_always}
+use Rattle.ix_output.proofs.SinkLemmas.{on_err_always}
 use Rattle.ix_text.specs.Parts.{terms_of}
 use Rattle.ix_index_text.specs.Told.{entries_of, settled_front}
 use Rattle.ix_index_text.proofs.EndingLemmas.{closed, front_of_spelled, front_of_layout, front_of_tail, front_of_finished, finished, finished_keeps, spells_on, ending_kept}

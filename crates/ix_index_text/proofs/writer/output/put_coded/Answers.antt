@@ -1,4 +1,4 @@
-use Rattle.ix_text.proofs.SinkLemmas.{on_err_always}
+use Rattle.ix_output.proofs.SinkLemmas.{on_err_always}
 use Rattle.ix_index_text.proofs.EndingLemmas.{front_more, front_then}
 use Rattle.ix_index_text.proofs.SpellLemmas.{spells_behind, all_spelled}
 use Rattle.ix_index_text.proofs.writer.output.put_coded.Goals as goal

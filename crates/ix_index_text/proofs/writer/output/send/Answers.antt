@@ -1,5 +1,5 @@
 use Rattle.std.proofs.Common.{◌≡◌}
-use Rattle.ix_text.proofs.SinkLemmas.{on_err_always}
+use Rattle.ix_output.proofs.SinkLemmas.{on_err_always}
 use Rattle.ix_index_text.proofs.SpellLemmas.{spells_sent, spells_front}
 use Rattle.ix_index_text.proofs.writer.output.send.Goals as goal
 

@@ -1,5 +1,5 @@
 use Rattle.std.proofs.Common.{ℕ, List, sym, subst, arith}
-use Rattle.ix_text.specs.Sinks.{AppendsFront}
+use Rattle.ix_output.specs.Sinks.{AppendsFront}
 use Rattle.ix_file.specs.Telling.{MayList}
 use Rattle.ix_file.specs.Told.{Told, settled_front}
 use Rattle.ix_file.specs.Writers.{WasTold, sink}

@@ -22,8 +22,5 @@ put_run-requires-clause-terms g c = short_terms (head_value c.self.inside.head c
 pub put_run-requires-clause-lists : goal.put_run-requires-clause-lists
 put_run-requires-clause-lists g c = short_lists (head_value c.self.inside.head c.self.inside.terms) c.self.invariant
 
-pub returns-in-Ok-clause-text : goal.returns-in-Ok-clause-text
-returns-in-Ok-clause-text g c = run_text c.args.self.now
-
-pub returns-in-Err-clause-text : goal.returns-in-Err-clause-text
-returns-in-Err-clause-text g c = run_text c.args.self.now
+pub returns-clause-text : goal.returns-clause-text
+returns-clause-text g c = run_text c.args.self.now

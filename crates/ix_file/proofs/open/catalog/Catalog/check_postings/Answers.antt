@@ -2,9 +2,9 @@ use Rattle.std.proofs.Common.{◌≡◌, ◌∙◌, sym, ap, subst, ⊎_elim, in
 use Rattle.std.specs.List.{sum_by}
 use Rattle.std.proofs.lemmas.List.{length-map}
 use Rattle.std.proofs.lemmas.Result.{err_from_is_err_and}
-use Rattle.ix_text.specs.TokenTables.{HasTokens}
+use Rattle.ix_postings.specs.TokenTables.{HasTokens}
 use Rattle.ix_text.proofs.PartsLawful.{sum_by-map}
-use Rattle.ix_text.proofs.TokenStarts.{count_of}
+use Rattle.ix_text.proofs.TokensBefore.{count_of}
 use Rattle.ix_file.specs.Claimed.{HasRoom}
 use Rattle.ix_file.specs.Frames.{texts_in, version_in}
 use Rattle.ix_file.specs.OpenedRows.{row_in, rows_in}

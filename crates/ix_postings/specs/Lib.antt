@@ -1,0 +1,2 @@
+pub mod TokenMarks
+pub mod TokenTables

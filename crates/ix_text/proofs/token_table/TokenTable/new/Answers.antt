@@ -1,7 +1,0 @@
-use Rattle.ix_text.proofs.TokenStarts.{starts_none}
-use Rattle.ix_text.specs.TokenTables.{HasTokens}
-use Rattle.ix_text.proofs.token_table.TokenTable.new.Goals as goal
-
-pub returns : goal.returns
-unfolding HasTokens
-returns c = rw c.in_ok-vec.ensures.items starts_none
