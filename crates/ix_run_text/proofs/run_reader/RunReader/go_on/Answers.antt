@@ -84,12 +84,22 @@ returns-in_err-after-clause-accepted g c (entry ∷ entries) postings faces =
     let p = err_from_is_err_and c.from_residual-in_err-after.result c.from_residual-in_err-after.ensures.1 in
     rw (p.1, p.2) (c.in_err-after.ensures.accepted rows _ entry.postings (flat_map term_bytes entries ++ 128 ∷ []) mid.table known.0 lies.0 lies.1 (sym found.1) (sym found.2) found.3)
 
-pub invariant_of-self-in-Break-branch-2-clause-held : goal.invariant_of-self-in-Break-branch-2-clause-held
-invariant_of-self-in-Break-branch-2-clause-held g c = (let empty = none_ahead c.skip.new.self c.skip.ensures.drained in omega (arith, empty))
-
-pub invariant_of-self-in-Break-branch-2-clause-left : goal.invariant_of-self-in-Break-branch-2-clause-left
-invariant_of-self-in-Break-branch-2-clause-left g c =
-    let mid = c.skip.new.self in none_spelled (bytes_held mid.input) _ mid.left (none_ahead mid c.skip.ensures.drained)
+pub invariant_of-self-in-Break-branch-2 : goal.invariant_of-self-in-Break-branch-2
+invariant_of-self-in-Break-branch-2 g c =
+    let mid = c.skip.new.self in
+    let same = c.read_list.ensures.room in
+    let empty = none_ahead mid c.skip.ensures.drained in
+    record {
+      table = mid.table;
+      few_documents = mid.few_documents;
+      few_tokens = mid.few_tokens;
+      narrow = (let narrow = mid.narrow in omega (arith, narrow, same));
+      room = (let room = mid.room in omega (arith, room, same));
+      far = mid.far;
+      drained = mid.drained;
+      held = omega (arith, empty);
+      left = none_spelled (bytes_held mid.input) _ mid.left empty;
+    }
 
 pub invariant_of-self : goal.invariant_of-self
 invariant_of-self g c =
