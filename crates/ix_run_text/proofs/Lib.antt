@@ -1,13 +1,11 @@
 pub mod CheckedLists
-pub mod CheckedPostings
-pub mod CheckedWholes
 pub mod CodeLemmas
 pub mod Faulting
 pub mod FillLemmas
+pub mod FirstPostings
 pub mod FitPostings
 pub mod Fronts
 pub mod HeadLemmas
-pub mod HeldLists
 pub mod InputLemmas
 pub mod ListSteps
 pub mod MarkLemmas
@@ -17,6 +15,7 @@ pub mod OrderLemmas
 pub mod PieceLemmas
 pub mod PositionLemmas
 pub mod PostingLemmas
+pub mod RaisedLists
 pub mod ReadFronts
 pub mod ReadLists
 pub mod ReadNext
@@ -26,10 +25,10 @@ pub mod ReadSteps
 pub mod ReadWholes
 pub mod RowLemmas
 pub mod RunTold
-pub mod ShiftedLists
 pub mod SpelledLemmas
+pub mod SpelledSteps
 pub mod StopTermLemmas
-pub mod TellLemmas
+pub mod TakenLists
 pub mod TermLemmas
 pub mod TextLaws
 pub mod WholeLists

@@ -37,15 +37,6 @@ all_fit heading finished entry (p ∷ ps) entries whole =
           (all_fit heading finished longer ps entries (subst (AreWhole heading) (ap (λ (es : List DictionaryEntry). es ++ entries) (closed-given finished entry p ps)) whole)),
     )
 
-held_parts : (held list tail : List ℕ) (known : Option (List ℕ)) → prepend_known held known ≡ Some (list ++ tail) → length list ≤ length held → held ≡ list ++ drop (length list) held
-held_parts held list tail None e within = absurd (cc)
-held_parts held list tail (Some xs) e within = (let is : held ++ xs ≡ list ++ tail = cc in front_within held xs list tail is within)
-
-pub held_front : {R : Type 0} (remaining : R → Option (List ℕ)) (input : Input R) (list tail : List ℕ) → known_left remaining input ≡ Some (list ++ tail) → length list ≤ length (bytes_held input)
-    → bytes_held input ≡ list ++ drop (length list) (bytes_held input)
-unfolding known_left bytes_held
-held_front remaining input list tail e within = held_parts (bytes_held input) list tail (remaining input.reader) e within
-
 pub all_free : (heading : Heading) (finished : List DictionaryEntry) (entry : DictionaryEntry) (postings : List Posting) (entries : List DictionaryEntry) → AreWhole heading (closed finished (Some entry) postings ++ entries)
     → AreDistinct (numbers_of_entries heading.rows (closed finished (Some entry) []) ++ numbers_of_postings heading.rows postings)
 all_free heading finished entry postings entries whole =

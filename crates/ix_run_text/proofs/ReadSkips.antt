@@ -1,15 +1,20 @@
 -- A reader of a run text that goes over what is left of a list.
-use Rattle.std.proofs.Common.{◌≡◌, ◌≢◌, ℕ, ◌+◌, List, [], ◌∷◌, ◌++◌, string_bytes, Option, Some, None, option_map, refl, sym, ap, subst, arith, length-append}
-use Rattle.std.proofs.lemmas.List.{append_assoc, append-nil, nil_from_length}
+use Rattle.std.proofs.Common.{◌≡◌, ◌≢◌, ℕ, ◌-◌, ◌<◌, ◌^◌, List, [], ◌∷◌, ◌++◌, string_bytes, Option, Some, None, option_map, take, drop, refl, sym, ap, subst, ◌∙◌, arith}
+use Rattle.std.proofs.lemmas.List.{append-nil, nil_from_length}
 use Rattle.ix_text.specs.Parts.{DictionaryEntry, Posting}
+use Rattle.std.specs.Io.KnownBytes.{Consumes}
+use Rattle.ix_vbyte.specs.Gaps.{next_after}
+use Rattle.ix_vbyte.specs.Postings.{documents_of}
 use Rattle.ix_run_text.specs.Heads.{heading_of}
-use Rattle.ix_run_text.specs.Reading.{Faces, HasRead, IsDrained, MayYield, Skips, term_at}
-use Rattle.ix_run_text.specs.Sources.{AreWhole, EndsPostings, EndsTerms, GivesPosting, closed, entry_with, extended}
+use Rattle.ix_run_text.specs.Inputs.{bytes_held, known_left}
+use Rattle.ix_run_text.specs.Reading.{Faces, HasRead, IsDrained, LieAhead, LieBehind, MayLieAhead, MayYield, Skips, Standing, postings_ahead, standing, term_at}
+use Rattle.ix_run_text.specs.Sources.{AreWhole, EndsPostings, EndsTerms, closed, extended}
 use Rattle.ix_run_text.specs.declared.run_reader.Place.{Place}
 use Rattle.ix_run_text.specs.declared.run_reader.Place.TheVariants.{Begun, AtTerm, Ended, Failed}
 use Rattle.ix_run_text.specs.declared.run_reader.RunReader.{RunReader}
 use Rattle.ix_run_text.proofs.ReadFronts.{closed-none, extended-nil}
 use Rattle.ix_run_text.proofs.ReadSteps.{no_entry}
+use Rattle.ix_run_text.proofs.TakenLists.{Takes, ahead_taken, behind_taken, documents_ahead, faces_taken, takes_front, there}
 
 pub option_same : (at_hand : Option DictionaryEntry) → option_map (λ entry. extended entry []) at_hand ≡ at_hand
 option_same None = refl
@@ -22,67 +27,16 @@ no_documents AtTerm term documents drained none = (none (λ e. cc)).1
 no_documents Ended term documents drained none = drained (λ e. cc)
 no_documents Failed term documents drained none = drained (λ e. cc)
 
--- What a loop over the list keeps.
-pub record Skipping {R : Type 0} (remaining : R → Option (List ℕ)) (old now : RunReader R) : Type 0 where
-  pub heading : heading_of now.head ≡ heading_of old.head
-  pub place : now.place ≡ old.place
-  pub term : now.term ≡ old.term
-  pub skips : Skips remaining old now
-  pub accepted : (postings : List Posting) (entries : List DictionaryEntry) → Faces remaining old postings entries → (rest : List Posting) × Faces remaining now rest entries
-
-module _ {R : Type 0} (remaining : R → Option (List ℕ)) where
-  pub skips_none : (reader : RunReader R) → Skipping remaining reader reader
-  skips_none reader = record {
-    heading = refl;
-    place = refl;
-    term = refl;
-    skips = record {
-      skipped = [];
-      counted = omega arith;
-      yielded = λ postings entries may. may;
-      given = λ finished at_hand read. subst (HasRead reader finished) (sym (option_same at_hand)) read;
-    };
-    accepted = λ postings entries faces. (postings, faces);
-  }
-
-  -- one posting more
-  pub skips_more : (old now new : RunReader R) (posting : Posting) → Skips remaining old now → now.place ≡ AtTerm → new.documents + 1 ≡ now.documents → GivesPosting (MayYield remaining) HasRead now new posting → Skips remaining old new
-  skips_more old now new posting skips here one gives = record {
-    skipped = skips.skipped ++ posting ∷ [];
-    counted = (let counted = skips.counted in omega (arith, length-append skips.skipped (posting ∷ [])));
-    yielded = λ postings entries may.
-        subst (λ (ps : List Posting). MayYield remaining old ps entries) (sym (append_assoc skips.skipped (posting ∷ []) postings))
-        (skips.yielded (posting ∷ postings) entries (gives.yielded postings entries may));
-    given = λ finished at_hand read. by finished at_hand (skips.given finished at_hand read);
-  }
-    where
-      by : (finished : List DictionaryEntry) (at_hand : Option DictionaryEntry) → HasRead now finished (option_map (λ entry. extended entry skips.skipped) at_hand)
-          → HasRead new finished (option_map (λ entry. extended entry (skips.skipped ++ posting ∷ [])) at_hand)
-      by finished None read = no_entry now.place _ here read.of_term
-      by finished (Some entry) read =
-          subst (λ (ps : List Posting). HasRead new finished (Some (entry_with entry.term ps))) (append_assoc entry.postings skips.skipped (posting ∷ []))
-          (gives.given finished (extended entry skips.skipped) read)
-
--- where no posting is left, none lies ahead
-pub none_ahead : {R : Type 0} (remaining : R → Option (List ℕ)) (reader : RunReader R) (postings : List Posting) (entries : List DictionaryEntry) → reader.documents ≡ 0
-    → Faces remaining reader postings entries → Faces remaining reader [] entries
-none_ahead remaining reader [] entries none faces = faces
-none_ahead remaining reader (p ∷ ps) entries none faces = absurd (let counted = faces.are.counted in omega arith)
-
 -- the postings gone over are the last of the term at hand
 pub closed-skipped : (finished : List DictionaryEntry) (at_hand : Option DictionaryEntry) (skipped : List Posting)
     → closed finished (option_map (λ entry. extended entry skipped) at_hand) [] ≡ closed finished at_hand skipped
 closed-skipped finished None skipped = refl
 closed-skipped finished (Some entry) skipped = closed-none finished (extended entry skipped)
 
-module _ {R : Type 0} (remaining : R → Option (List ℕ)) (old mid : RunReader R) (skips : Skips remaining old mid) where
-  -- what lies ahead of it lay ahead behind those gone over
-  pub skips_yielded : (entries : List DictionaryEntry) → MayYield remaining mid [] entries → MayYield remaining old skips.skipped entries
-  skips_yielded entries may = subst (λ (ps : List Posting). MayYield remaining old ps entries) (append-nil skips.skipped) (skips.yielded [] entries may)
-
-  -- none, where none was left
-  pub skips_drained : (old.place ≢ AtTerm → old.documents ≡ 0) → IsDrained old → skips.skipped ≡ []
-  skips_drained drained none = nil_from_length skips.skipped (let counted = skips.counted in let zero = no_documents old.place (string_bytes old.term) old.documents drained none in omega arith)
+-- none is left where none was
+pub none_left_of : {R : Type 0} (reader : RunReader R) → IsDrained reader → postings_ahead reader ≡ []
+none_left_of reader none =
+    nil_from_length (postings_ahead reader) (let counted = documents_ahead reader in let zero = no_documents reader.place (string_bytes reader.term) reader.documents reader.drained none in omega arith)
 
 module _ {R : Type 0} (remaining : R → Option (List ℕ)) (reader : RunReader R) where
   -- where no posting is left, none was left out
@@ -127,3 +81,68 @@ pub none_left : {R : Type 0} (remaining : R → Option (List ℕ)) (reader : Run
     → Faces remaining reader postings entries → (postings ≡ []) × Faces remaining reader [] entries
 none_left remaining reader [] entries none faces = (refl, faces)
 none_left remaining reader (p ∷ ps) entries none faces = absurd (let counted = faces.are.counted in omega arith)
+
+-- over all that are left
+module _ {at : Standing} {front : List Posting} {later : List ℕ} {left behind : Option (List ℕ)} (takes : Takes at front 0 0 later left behind) where
+  all_yielded : (postings : List Posting) (entries : List DictionaryEntry) → MayLieAhead (there takes) behind postings entries → (postings ≡ []) × MayLieAhead at left front entries
+  all_yielded [] entries may = (refl, subst (λ (ps : List Posting). MayLieAhead at left ps entries) (append-nil front) (ahead_taken takes [] entries may))
+  all_yielded (p ∷ ps) entries may = absurd (let counted = may.are.counted in omega arith)
+
+  all_given : (finished : List DictionaryEntry) (at_hand : Option DictionaryEntry) → LieBehind at finished at_hand → LieBehind (there takes) finished (option_map (λ entry. extended entry front) at_hand)
+  all_given finished None lies = no_entry at.place at.last takes.here lies.of_term
+  all_given finished (Some entry) lies = behind_taken takes finished entry lies
+
+  all_faced : (postings : List Posting) (entries : List DictionaryEntry) → LieAhead at left postings entries → (postings ≡ front) × LieAhead (there takes) behind [] entries
+  all_faced postings entries ahead = let found = faces_taken takes postings entries ahead in by found.0 found.1.0 found.1.1
+    where
+      by : (rest : List Posting) → postings ≡ front ++ rest → LieAhead (there takes) behind rest entries → (postings ≡ front) × LieAhead (there takes) behind [] entries
+      by [] is lies = (is ∙ append-nil front, lies)
+      by (p ∷ ps) is lies = absurd (let counted = lies.are.counted in omega arith)
+
+-- its state then that passed a list
+abbrev pub emptied : Standing → ℕ → List ℕ → Standing
+emptied at next later = record {
+  heading = at.heading;
+  place = at.place;
+  last = at.last;
+  next = next;
+  documents = 0;
+  bytes = 0;
+  checked = record { marks = at.checked.marks; held = later };
+}
+
+module _ {R : Type 0} (remaining : R → Option (List ℕ)) where
+  -- over no posting
+  pub skips_none : (reader : RunReader R) → reader.documents ≡ 0 → Skips remaining reader reader
+  skips_none reader none =
+      let empty : postings_ahead reader ≡ [] = nil_from_length (postings_ahead reader) (let counted = documents_ahead reader in omega (arith, counted, none)) in
+      record {
+        yielded = λ postings entries may.
+            let nothing = (ends_postings remaining reader none).yielded postings entries may in
+            (nothing.0, subst (λ (ps : List Posting). MayYield remaining reader ps entries) (sym empty) nothing.1);
+        given = λ finished at_hand read. subst (HasRead reader finished) (sym (ap (λ (ps : List Posting). option_map (λ entry. extended entry ps) at_hand) empty ∙ option_same at_hand)) read;
+        accepted = λ postings entries faces. let nothing = none_left remaining reader postings entries none faces in (nothing.0 ∙ sym empty, nothing.1);
+      }
+
+  -- over all that are left
+  pub skips_all : (old new : RunReader R) → 0 < old.documents → Consumes (known_left remaining old.input) (known_left remaining new.input) (take old.bytes (bytes_held old.input)) → bytes_held new.input ≡ drop old.bytes (bytes_held old.input)
+      → standing new ≡ emptied (standing old) old.after (bytes_held new.input) → Skips remaining old new
+  skips_all old new some consumes stays stands =
+      let all : List Posting = postings_ahead old in
+      let later : List ℕ = bytes_held new.input in
+      let left : Option (List ℕ) = known_left remaining old.input in
+      let behind : Option (List ℕ) = known_left remaining new.input in
+      let whole : old.bytes ≡ old.bytes - 0 = omega arith in
+      let count = documents_ahead old in
+      let takes : Takes (standing old) all 0 0 later left behind =
+      takes_front old remaining all [] 0 0 new.input (omega (arith, count, some)) (sym (append-nil all)) refl refl
+      (subst (λ (n : ℕ). Consumes left behind (take n (bytes_held old.input))) whole consumes) (subst (λ (n : ℕ). later ≡ drop n (bytes_held old.input)) whole stays) in
+      let is : standing new ≡ there takes = stands ∙ ap (λ (n : ℕ). emptied (standing old) n later) old.left.last in
+      record {
+        yielded = λ postings entries may. all_yielded takes postings entries (subst (λ (at : Standing). MayLieAhead at behind postings entries) is may);
+        given = λ finished at_hand read.
+            subst (λ (at : Standing). LieBehind at finished (option_map (λ entry. extended entry all) at_hand)) (sym is) (all_given takes finished at_hand read);
+        accepted = λ postings entries faces.
+            let found = all_faced takes postings entries faces in
+            (found.0, subst (λ (at : Standing). LieAhead at behind [] entries) (sym is) found.1);
+      }

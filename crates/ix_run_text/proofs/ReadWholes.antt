@@ -59,22 +59,6 @@ posting_fits heading finished entry posting postings entries whole =
       };
     }
 
-distinct_front : (xs ys : List ℕ) → AreDistinct (xs ++ ys) → AreDistinct xs
-distinct_front [] ys distinct = tt
-distinct_front (x ∷ xs) ys distinct = (λ has. distinct.0 (Contains-append_left xs ys x has), distinct_front xs ys distinct.1)
-
--- and no token of it was told
-pub posting_free : (heading : Heading) (finished : List DictionaryEntry) (entry : DictionaryEntry) (posting : Posting) (postings : List Posting) (entries : List DictionaryEntry)
-    → AreWhole heading (closed finished (Some entry) (posting ∷ postings) ++ entries) → IsFree heading.rows (numbers_of_entries heading.rows (closed finished (Some entry) [])) posting
-posting_free heading finished entry posting postings entries whole =
-    let rows = heading.rows in
-    let front = whole_front heading (closed finished (Some entry) (posting ∷ postings)) entries whole in
-    let distinct = lawful_distinct (parts_with heading (closed finished (Some entry) (posting ∷ postings))) front.lawful in
-    let before : List ℕ = numbers_of_entries rows (closed finished (Some entry) []) in
-    let told : numbers_of_entries rows (closed finished (Some entry) (posting ∷ postings)) ≡ (before ++ numbers_of_posting rows posting) ++ numbers_of_postings rows postings =
-    numbers_more rows finished entry (posting ∷ postings) ∙ sym (append_assoc before (numbers_of_posting rows posting) (numbers_of_postings rows postings)) in
-    distinct_front (before ++ numbers_of_posting rows posting) (numbers_of_postings rows postings) (subst AreDistinct told distinct)
-
 -- a list of a lawful dictionary is short
 list_fits : (heading : Heading) (entries : List DictionaryEntry) (k : ℕ) (none : DictionaryEntry) → AreWhole heading entries → k < length entries
     → (length (get_or entries k none).postings < 2 ^ 32) × (length (list_bytes (get_or entries k none).postings) < 2 ^ 32)

@@ -14,3 +14,4 @@ pub mod RunReaders
 pub mod RunText
 pub mod RunTextErrors
 pub mod Sources
+pub mod SpelledLists

@@ -8,7 +8,7 @@ use Rattle.ix_postings.specs.TokenTables.{HasTokens}
 use Rattle.ix_postings.specs.declared.token_table.TokenTable.{TokenTable}
 use Rattle.ix_vbyte.specs.Code.{code_of}
 use Rattle.ix_vbyte.specs.Gaps.{Ascends, gaps_of, next_after}
-use Rattle.ix_vbyte.specs.Postings.{ArePostings, codes_of, documents_of, list_bytes, list_bytes_from, posting_bytes, shifted}
+use Rattle.ix_vbyte.specs.Postings.{codes_of, documents_of, list_bytes, list_bytes_from, posting_bytes}
 use Rattle.ix_vbyte.specs.declared.errors.VbError.TheVariants.{Cut}
 use Rattle.ix_run_text.specs.ReadPostings.{IsFree, PostingFits, numbers_at}
 use Rattle.ix_run_text.specs.declared.run_text_error.RunTextError.{RunTextError}
@@ -83,25 +83,9 @@ pub record ListLies (rows : List DocumentRow) (next documents size : ℕ) (bytes
   pub spelled : bytes ≡ list_bytes_from next postings ++ behind
   pub free : AreDistinct (numbers ++ numbers_of_postings rows postings)
 
--- Such postings are the first of the bytes, one above the last of them is `after`, and exactly their tokens and those of the numbers
--- are marked.
-pub record IsChecked (rows : List DocumentRow) (marks : TokenMarks) (after next documents size : ℕ) (bytes numbers : List ℕ) : Type 0 where
+-- Such postings are the first of the bytes, and exactly their tokens and those of the numbers are marked.
+pub record IsChecked (rows : List DocumentRow) (marks : TokenMarks) (next documents size : ℕ) (bytes numbers : List ℕ) : Type 0 where
   pub postings : List Posting
   pub behind : List ℕ
   pub lies : ListLies rows next documents size bytes numbers postings behind
-  pub last : after ≡ next_after next (documents_of postings)
   pub marked : HoldsNumbers marks (numbers ++ numbers_of_postings rows postings)
-
--- The bytes begin with a posting of this document at these positions, in so many of them, that may come next.
-pub record TellsPosting (rows : List DocumentRow) (next : ℕ) (bytes : List ℕ) (document size : ℕ) (positions : List ℕ) : Type 0 where
-  pub fits : PostingFits rows next (document, positions)
-  pub spelled : bytes ≡ posting_bytes (document + 1 - next) (document, positions) ++ drop size bytes
-  pub sized : size ≡ length (posting_bytes (document + 1 - next) (document, positions))
-
--- The bytes are the list of these postings, of which there is one; their documents may be counted from another number, behind a
--- document one below `next`.
-pub record MayShift (first next : ℕ) (bytes : List ℕ) (postings : List Posting) : Type 0 where
-  pub some : 0 < length postings
-  pub are : ArePostings 0 (2 ^ 32 - 1) postings
-  pub coded : bytes ≡ list_bytes postings
-  pub may : ArePostings next (2 ^ 32 - 1) (shifted first postings)

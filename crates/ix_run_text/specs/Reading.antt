@@ -1,10 +1,11 @@
 -- What a reader of a run text has read of its terms, and what it has left of them.
-use Rattle.std.specs.Prelude.{◌≡◌, ◌≢◌, ℕ, ◌+◌, List, [], ◌∷◌, ◌++◌, length, drop, flat_map, string_bytes, slice_index_or, ◌-◌, ◌<◌, ◌≤◌, Option, Some, None, IfSome, option_map}
+use Rattle.std.specs.Prelude.{◌≡◌, ◌≢◌, ℕ, ◌+◌, List, [], ◌∷◌, ◌++◌, length, flat_map, take, string_bytes, slice_index_or, ◌-◌, ◌<◌, ◌≤◌, Option, Some, None, IfSome, option_map}
 use Rattle.ix_text.specs.Parts.{DictionaryEntry, DocumentRow, Parts, Posting, terms_of}
 use Rattle.ix_text.specs.TokenNumbers.{AreDistinct, numbers_of_entries}
 use Rattle.ix_postings.specs.declared.token_marks.TokenMarks.{TokenMarks}
 use Rattle.ix_vbyte.specs.Gaps.{next_after}
 use Rattle.ix_vbyte.specs.Postings.{documents_of, list_bytes_from, shifted}
+use Rattle.ix_vbyte.specs.Walking.{postings_told}
 use Rattle.ix_run_text.specs.Heads.{Heading, heading_of}
 use Rattle.ix_run_text.specs.Inputs.{bytes_held, known_left}
 use Rattle.ix_run_text.specs.MarkedLists.{IsChecked}
@@ -14,11 +15,9 @@ use Rattle.ix_run_text.specs.declared.run_reader.Place.{Place}
 use Rattle.ix_run_text.specs.declared.run_reader.Place.TheVariants.{AtTerm, Ended, Failed}
 use Rattle.ix_run_text.specs.declared.run_reader.RunReader.{RunReader}
 
--- What a reader knows of the current list: the tokens that it marked; one above the last document; and the bytes that are buffered,
--- with the list's in front.
+-- What a reader knows of the current list: the tokens that it marked, and the bytes that are buffered, with the list's in front.
 pub record Checked : Type 0 where
   pub marks : TokenMarks
-  pub after : ℕ
   pub held : List ℕ
 
 -- The state of a reader: the term that it read last, or none; one above the last document given of it; how many of its postings
@@ -33,7 +32,7 @@ pub record Standing : Type 0 where
   pub checked : Checked
 
 abbrev pub checked_of : {R : Type 0} → RunReader R → Checked
-checked_of reader = record { marks = reader.marks; after = reader.after; held = bytes_held reader.input }
+checked_of reader = record { marks = reader.marks; held = bytes_held reader.input }
 
 abbrev pub standing : {R : Type 0} → RunReader R → Standing
 standing reader = record {
@@ -49,7 +48,7 @@ standing reader = record {
 -- The numbers are those of the tokens of all postings that were given: with those of the list that is left they are exactly the
 -- marked ones.
 abbrev pub Told : Standing → List ℕ → Type 0
-Told at numbers = IsChecked at.heading.rows at.checked.marks at.checked.after at.next at.documents at.bytes at.checked.held numbers
+Told at numbers = IsChecked at.heading.rows at.checked.marks at.next at.documents at.bytes at.checked.held numbers
 
 -- the term at hand, if one is; where a call was refused, the text that was read last
 abbrev pub term_at : Place → List ℕ → Option (List ℕ)
@@ -111,14 +110,18 @@ pub record LieAhead (at : Standing) (left : Option (List ℕ)) (postings : List 
 abbrev pub Faces : {R : Type 0} → (R → Option (List ℕ)) → RunReader R → List Posting → List DictionaryEntry → Type 0
 Faces remaining reader postings entries = LieAhead (standing reader) (known_left remaining reader.input) postings entries
 
--- From the old state to the new one a reader went over some postings of the term at hand, if one is.
+-- the postings that are left of the current list
+abbrev pub postings_ahead : {R : Type 0} → RunReader R → List Posting
+postings_ahead reader = postings_told reader.documents reader.next (take reader.bytes (bytes_held reader.input))
+
+-- From the old state to the new one a reader passed the postings that were left of the current list.
 pub record Skips {R : Type 0} (remaining : R → Option (List ℕ)) (old new : RunReader R) : Type 0 where
-  pub skipped : List Posting
-  pub counted : length skipped + new.documents ≡ old.documents
   pub yielded : (postings : List Posting) (entries : List DictionaryEntry) → MayYield remaining new postings entries
-      → MayYield remaining old (skipped ++ postings) entries
+      → (postings ≡ []) × MayYield remaining old (postings_ahead old) entries
   pub given : (finished : List DictionaryEntry) (at_hand : Option DictionaryEntry) → HasRead old finished at_hand
-      → HasRead new finished (option_map (λ entry. extended entry skipped) at_hand)
+      → HasRead new finished (option_map (λ entry. extended entry (postings_ahead old)) at_hand)
+  pub accepted : (postings : List Posting) (entries : List DictionaryEntry) → Faces remaining old postings entries
+      → (postings ≡ postings_ahead old) × Faces remaining new [] entries
 
 -- the term at hand of a reader, if one is
 abbrev pub term_of : {R : Type 0} → RunReader R → Option (List ℕ)

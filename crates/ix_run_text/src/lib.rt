@@ -3,7 +3,6 @@
 //! A source yields the postings of a collection in the order of a run text, from a text or from elsewhere.
 #![tactic(auto)]
 
-mod copying;
 mod head;
 mod heading;
 mod input;
@@ -11,7 +10,6 @@ mod laws;
 mod list;
 mod listed;
 mod marking;
-mod posting;
 mod rows;
 mod run_reader;
 mod run_text_error;

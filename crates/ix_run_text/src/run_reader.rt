@@ -1,21 +1,22 @@
 //! The exact reader of a run text: it takes the bytes of a run as they come, and accepts no others.
-ghost use Rattle.std.specs.Prelude.{◌≡◌, ◌≢◌, ◌+◌, ◌<◌, ◌≤◌, ◌^◌, ℕ, length, map, sum_by};
+ghost use Rattle.std.specs.Prelude.{◌≡◌, ◌≢◌, ◌+◌, ◌<◌, ◌≤◌, ◌^◌, ℕ, length, map, sum_by, take};
 ghost use Rattle.ix_postings.specs.TokenMarks.{room};
 ghost use Rattle.ix_postings.specs.TokenTables.{HasTokens};
 ghost use Rattle.ix_run_text.specs.Heads.{row_of_doc};
 ghost use Rattle.ix_run_text.specs.Inputs.{bytes_held};
 ghost use Rattle.ix_run_text.specs.ReadTables.{HasTokens-prop};
+ghost use Rattle.ix_run_text.specs.SpelledLists.{SpellsList, SpellsList-prop};
 ghost use Rattle.ix_run_text.specs.declared.run_reader.Place.TheVariants.{AtTerm};
 
 use crate::heading::read_head;
 use crate::input::Input;
 use crate::list::read_list;
-use crate::posting::tell_posting;
 use crate::term::read_term;
 use crate::token_counts::{table_of, token_total};
 use crate::{RunHead, RunTextError};
 use ix_postings::{TokenMarks, TokenTable};
-use std::alloc::Global;
+use ix_vbyte::cursor::first_posting;
+use std::alloc::{AllocError, Global};
 use std::io::Read;
 
 /// Where a reader is among the terms.
@@ -64,12 +65,10 @@ pub struct RunReader<R> {
     ghost few_tokens: { sum_by (λ row. row.tokens) (map row_of_doc head.docs.items) ≤ 2 ^ 28 },
     ghost narrow: { room marks < sum_by (λ row. row.tokens) (map row_of_doc head.docs.items) + 64 },
     ghost room: { sum_by (λ row. row.tokens) (map row_of_doc head.docs.items) ≤ room marks },
-    ghost near: { next ≤ 2 ^ 28 },
     ghost far: { after ≤ 2 ^ 28 },
-    ghost listed: { documents ≡ 0 → bytes ≡ 0 },
     ghost drained: { place ≢ AtTerm → documents ≡ 0 },
     ghost held: { bytes ≤ length (bytes_held input) },
-    ghost short: { bytes < 2 ^ 32 },
+    ghost left: { SpellsList next after documents (take bytes (bytes_held input)) } by { SpellsList-prop next after documents (take bytes (bytes_held input)) },
 }
 
 impl<R: Read + Drop> RunReader<R> {
@@ -81,9 +80,8 @@ impl<R: Read + Drop> RunReader<R> {
     ghost use Rattle.ix_run_text.specs.RunReaders.{bytes_left, heading_read};
     ghost use Rattle.ix_run_text.specs.RunText.{IsRunText, heading_bytes, run_layout};
     ghost use Rattle.ix_run_text.specs.RunTextErrors.{IsRefusal};
-    ghost use Rattle.ix_run_text.specs.Reading.{BeginsFirst, Faces, HasRead, IsDrained, MayYield, Skips, heading_from};
+    ghost use Rattle.ix_run_text.specs.Reading.{BeginsFirst, Faces, GivesFirst, HasRead, IsDrained, MayYield, Skips, heading_from};
     ghost use Rattle.ix_run_text.specs.declared.run_reader.Place.TheVariants.{AtTerm, Ended, Failed};
-    ghost use Rattle.ix_run_text.specs.declared.run_text_error.RunTextError.TheVariants.{Memory};
     ghost use Rattle.ix_run_text.specs.Sources.{AreWhole, BeginsTerm, EndsTerms, GivesPosting, IsUnread};
 
     /// Reads the head of a run text: its magic, its first document number and number of documents, its stop terms and
@@ -154,8 +152,11 @@ impl<R: Read + Drop> RunReader<R> {
         self.head
     }
 
-    /// Takes the next posting of the current list. After an error the reader is as it was.
-    fn posting(&mut self, positions: &mut Vec<u32>) -> Result<u32, RunTextError>
+    /// Takes the next posting of the current list, whose positions `positions` then holds alone.
+    ///
+    /// # Errors
+    /// Out of memory, if the positions find no room. The reader is then as it was.
+    fn posting(&mut self, positions: &mut Vec<u32>) -> Result<u32, AllocError>
         requires { 0 < self.old.documents }
         ensures heading { heading_of self.new.head ≡ heading_of self.old.head }
         ensures place { self.new.place ≡ self.old.place }
@@ -166,47 +167,38 @@ impl<R: Read + Drop> RunReader<R> {
             (document, positions.new.items)) }
         ensures accepted { (postings : List Posting) (entries : List DictionaryEntry)
             → Faces R.remaining self.old postings entries
-            → MatchResult result (λ document. (rest : List Posting)
-            × (postings ≡ (document, positions.new.items) ∷ rest)
-            × Faces R.remaining self.new rest entries) IsRefusal }
-        ensures full { IfErr result (λ error. error ≡ Memory
-            → vec_capacity positions.old ≤ vec_len positions.new) }
+            → IfOk result (λ document. GivesFirst R.remaining self.new
+            (document, positions.new.items) postings entries) }
+        ensures full { OnErr result (vec_capacity positions.old ≤ vec_len positions.new) }
     {
-        let held = self.input.held();
-        let (document, taken) = tell_posting(
-            &held[..self.bytes],
-            self.next,
-            &self.tokens,
-            positions,
-        )?;
-        let documents = self.documents - 1;
-        let bytes = self.bytes - taken;
-        if documents == 0 && bytes > 0 {
-            return Err(RunTextError::ListLength);
-        }
-        self.input.pass(taken);
+        let list = &self.input.held()[..self.bytes];
+        let (posting, rest) = first_posting(list, self.next);
+        posting.read_positions(positions)?;
+        let document = posting.document;
+        let bytes = rest.len();
+        self.input.pass(self.bytes - bytes);
         self.next = document + 1;
-        self.documents = documents;
+        self.documents -= 1;
         self.bytes = bytes;
         Ok(document)
     }
 
-    /// Takes the postings that are left of the current list. After an error the place is as it was.
-    fn skip(&mut self) -> Result<(), RunTextError>
+    /// Passes the postings that are left of the current list.
+    fn skip(&mut self)
         ensures heading { heading_of self.new.head ≡ heading_of self.old.head }
         ensures place { self.new.place ≡ self.old.place }
         ensures term { self.new.term ≡ self.old.term }
-        ensures drained { OnOk result (self.new.documents ≡ 0) }
-        ensures skipped { OnOk result (Skips R.remaining self.old self.new) }
-        ensures accepted { (postings : List Posting) (entries : List DictionaryEntry)
-            → Faces R.remaining self.old postings entries
-            → MatchResult result (λ _. Faces R.remaining self.new [] entries) IsRefusal }
+        ensures after { self.new.after ≡ self.old.after }
+        ensures drained { self.new.documents ≡ 0 }
+        ensures skipped { Skips R.remaining self.old self.new }
     {
-        let mut positions = Vec::new(self.alloc);
-        while self.documents > 0 {
-            self.posting(&mut positions)?;
+        if self.documents == 0 {
+            return;
         }
-        Ok(())
+        self.input.pass(self.bytes);
+        self.next = self.after;
+        self.documents = 0;
+        self.bytes = 0;
     }
 
     /// Reads the next term and its list, over what is left of the current one. False: the end mark was read. After an error the place is
@@ -225,7 +217,7 @@ impl<R: Read + Drop> RunReader<R> {
             → MatchResult result (λ more.
             MatchBool more (BeginsFirst R.remaining self.new entries) (entries ≡ [])) IsRefusal }
     {
-        self.skip()?;
+        self.skip();
         let found = read_term(
             &mut self.input,
             &self.head.stop,
@@ -251,9 +243,8 @@ impl<R: Read + Drop> RunReader<R> {
         ensures term { self.new.term ≡ self.old.term }
         ensures heading { heading_of self.new.head ≡ heading_of self.old.head }
     {
+        self.skip();
         self.place = Place::Failed;
-        self.documents = 0;
-        self.bytes = 0;
     }
 }
 

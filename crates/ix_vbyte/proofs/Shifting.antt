@@ -3,9 +3,8 @@ use Rattle.std.proofs.Common.{◌≡◌, ℕ, ◌+◌, ◌-◌, ◌^◌, ◌<◌
 use Rattle.std.proofs.lemmas.List.{append_assoc}
 use Rattle.ix_vbyte.specs.Code.{code_of}
 use Rattle.ix_vbyte.specs.Gaps.{gaps_of}
-use Rattle.ix_vbyte.specs.Postings.{Posting, ArePostings, codes_of, list_bytes, posting_bytes, list_bytes_from, shifted}
-use Rattle.ix_vbyte.proofs.Values.{code_of-apart}
-use Rattle.ix_vbyte.specs.Walking.{ArePostingsFrom, BeginsWithNumber, ReadsNumber, postings_told}
+use Rattle.ix_vbyte.specs.Postings.{Posting, ArePostings, codes_of, posting_bytes, list_bytes_from, shifted}
+use Rattle.ix_vbyte.specs.Walking.{ArePostingsFrom, ReadsNumber, postings_told}
 use Rattle.ix_vbyte.proofs.Walks.{first_posting, gap_read, no_postings}
 
 -- the bytes do not tell from where documents are counted
@@ -56,41 +55,3 @@ is_shifted next count bytes first to gap rest postings are some reads told may =
 -- no postings have no bytes
 pub none_shifted : (next count : ℕ) (bytes : List ℕ) (first to : ℕ) (postings : List Posting) → postings_told count next bytes ≡ postings → length bytes ≡ 0 → list_bytes_from to (shifted first postings) ≡ []
 none_shifted next count bytes first to postings told none = ap (λ ps. list_bytes_from to (shifted first ps)) (sym told ∙ no_postings next count bytes none)
-
--- ---- a list of which nothing was taken, and whose first gap was read
-
-pub begins_with_gap : (postings : List Posting) → ArePostings 0 (2 ^ 32 - 1) postings → 0 < length postings → BeginsWithNumber (list_bytes postings)
-begins_with_gap [] are some = absurd (omega arith)
-begins_with_gap (posting ∷ others) are some =
-    let below : posting.0 < 2 ^ 32 - 1 = are.documents.1 in
-    record {
-      number = posting.0 + 1 - 0;
-      rest = code_of (length posting.1) ++ (codes_of (gaps_of posting.1) ++ list_bytes_from (posting.0 + 1) others);
-      fits = omega arith;
-      coded = regroup (code_of (posting.0 + 1 - 0)) (code_of (length posting.1)) (codes_of (gaps_of posting.1)) (list_bytes_from (posting.0 + 1) others);
-    }
-
-pub shifted_parts : (gap first next : ℕ) (rest : List ℕ) (postings : List Posting) → list_bytes postings ≡ code_of gap ++ rest → 0 < length postings → ArePostings next (2 ^ 32 - 1) (shifted first postings)
-    → IsShifted 0 postings first next gap rest
-shifted_parts gap first next rest [] parts any are = absurd (omega arith)
-shifted_parts gap first next rest (posting ∷ others) parts any are =
-    let places = code_of (length posting.1) in
-    let positions = codes_of (gaps_of posting.1) in
-    let told : code_of (posting.0 + 1 - 0) ++ (places ++ (positions ++ list_bytes_from (posting.0 + 1) others)) ≡ code_of gap ++ rest =
-    sym (regroup (code_of (posting.0 + 1 - 0)) places positions (list_bytes_from (posting.0 + 1) others)) ∙ parts in
-    let read = code_of-apart (posting.0 + 1 - 0) gap _ rest told in
-    let from : next ≤ first + posting.0 = are.documents.0 in
-    let below : first + posting.0 < 2 ^ 32 - 1 = are.documents.1 in
-    let is : posting.0 + 1 - 0 ≡ gap = read.0 in
-    let raised : first + 0 + gap - next ≡ first + posting.0 + 1 - next = omega arith in
-    let after : first + (posting.0 + 1) ≡ first + posting.0 + 1 = omega arith in
-    let behind : list_bytes_from (posting.0 + 1) others ≡ list_bytes_from (first + posting.0 + 1) (shifted first others) =
-    sym (list_bytes-shifted first (posting.0 + 1) others) ∙ ap (λ n. list_bytes_from n (shifted first others)) after in
-    record {
-      fits = omega arith;
-      low = omega arith;
-      spelled =
-          ap₂ (λ n xs. code_of n ++ xs) raised (sym read.1)
-          ∙ sym (regroup (code_of (first + posting.0 + 1 - next)) places positions (list_bytes_from (posting.0 + 1) others))
-          ∙ ap (λ xs. posting_bytes (first + posting.0 + 1 - next) posting ++ xs) behind;
-    }

@@ -46,28 +46,6 @@ pub fn push_code_and(out: &mut Vec<u8>, n: u32, bytes: &[u8]) -> Result<(), Allo
     pushed
 }
 
-/// Appends the code of a number, and the first `count` of these bytes behind it.
-///
-/// # Errors
-/// Out of memory, if they find no room. `out` is then as it was.
-#[inline]
-pub fn push_code_and_front(
-    out: &mut Vec<u8>,
-    n: u32,
-    bytes: &[u8],
-    count: usize,
-) -> Result<(), AllocError>
-    requires { count ≤ length bytes.now }
-    ensures ok { OnOk result (out.new.items
-        ≡ out.old.items ++ (code_of n ++ take count bytes.now)) }
-    ensures err { OnErr result (out.new.items ≡ out.old.items) }
-    ensures full { OnErr result
-        (vec_capacity out.old < vec_len out.old + length (code_of n ++ take count bytes.now)) }
-    ensures capacity { vec_capacity out.old ≤ vec_capacity out.new }
-{
-    push_code_and(out, n, &bytes[..count])
-}
-
 /// The same, but an error may leave a beginning of what is appended.
 #[inline]
 fn append_code_and(out: &mut Vec<u8>, n: u32, bytes: &[u8]) -> Result<(), AllocError>

@@ -5,7 +5,7 @@ ghost use Rattle.std.specs.Iterator.{YieldsFirstBy, item_count};
 ghost use Rattle.ix_vbyte.specs.Postings.{ArePostings, list_bytes, list_bytes_from, shifted};
 ghost use Rattle.ix_vbyte.specs.ShortPostings.{BeginsWithSingle};
 ghost use Rattle.ix_vbyte.specs.Skips.{AreSkips};
-ghost use Rattle.ix_vbyte.specs.Walking.{IsCodedList, BeginsWithPosting, ReadsPosting, from_document};
+ghost use Rattle.ix_vbyte.specs.Walking.{ArePostingsFrom, IsCodedList, BeginsWithPosting, ReadsPosting, from_document, postings_told};
 
 use crate::appending::push_code_and;
 use crate::decoding::first_number;
@@ -39,10 +39,11 @@ impl<'a> Posting<'a> {
     /// Replaces what a vector holds by the positions.
     ///
     /// # Errors
-    /// Out of memory, if they find no room. The vector then holds anything.
+    /// Out of memory, if they find no room. The vector is then full of anything.
     pub fn read_positions(&self, positions: &mut Vec<u32>) -> Result<(), AllocError>
         ensures ok { OnOk result (positions.new.items ≡ self.now.positions) }
         ensures full { OnErr result (vec_capacity positions.old < length self.now.positions) }
+        ensures filled { OnErr result (vec_capacity positions.old ≤ vec_len positions.new) }
         ensures capacity { vec_capacity positions.old ≤ vec_capacity positions.new }
     {
         positions.clear();
@@ -53,9 +54,10 @@ impl<'a> Posting<'a> {
     }
 }
 
-/// The posting at the front of the bytes, and what follows it.
+/// Returns the posting that the bytes begin with, and the bytes behind it. `next` is one above the document before it, or 0.
+/// It takes no memory.
 #[inline(always)]
-fn first_posting(bytes: &[u8], next: u32) -> (Posting<'_>, &[u8])
+pub fn first_posting(bytes: &[u8], next: u32) -> (Posting<'_>, &[u8])
     requires { BeginsWithPosting next bytes.now }
     ensures { ReadsPosting next bytes.now result.0.document result.0.positions result.1.now }
 {
@@ -133,9 +135,19 @@ impl<'a> Postings<'a> {
         ensures { (postings : List (ℕ × List ℕ)) → ArePostings 0 (2 ^ 32 - 1) postings
             → length postings ≡ count → bytes.now ≡ list_bytes postings → result ≡ postings }
     {
+        Postings::resume(bytes, 0, count)
+    }
+
+    /// The postings that are left of a coded list: `bytes` are theirs and nothing else, `next` is one above the document
+    /// before them, or 0, and there are `count` of them.
+    #[inline]
+    pub fn resume(bytes: &'a [u8], next: u32, count: u32) -> Postings<'a>
+        requires { ArePostingsFrom next count bytes.now }
+        ensures { result ≡ postings_told count next bytes.now }
+    {
         Postings {
             bytes,
-            next: 0,
+            next,
             count,
             skips: &[],
         }

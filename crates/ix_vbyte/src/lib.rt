@@ -15,7 +15,7 @@ mod short_postings;
 mod skipping;
 mod skips;
 
-pub use appending::{push_code_and, push_code_and_front, push_counted, push_gaps, push_posting};
+pub use appending::{push_code_and, push_counted, push_gaps, push_posting};
 pub use decoding::{decode, first_number};
 pub use encoding::{Code, code_len, encode, push_code};
 pub use errors::VbError;

@@ -1,8 +1,8 @@
 //! What a reader of a run text tells as a source: its terms, their postings, and its lists as they are coded.
 
 use super::{Place, RunReader};
-use crate::copying::{MORE_BYTES, push_list};
 use crate::{ListError, Listed, RunHead, RunTextError, Source};
+use ix_vbyte::cursor::Postings;
 use std::io::Read;
 
 impl<R: Read + Drop> Source for RunReader<R> {
@@ -131,9 +131,9 @@ impl<R: Read + Drop> Source for RunReader<R> {
         }
         match self.posting(positions) {
             Ok(document) => Ok(Some(document)),
-            Err(error) => {
+            Err(_) => {
                 self.fail();
-                Err(error)
+                Err(RunTextError::Memory)
             }
         }
     }
@@ -180,21 +180,16 @@ impl<R: Read + Drop> Source for RunReader<R> {
         if matches!(self.place, Place::Failed) {
             return Err(ListError::Source(RunTextError::Failed));
         }
-        let (documents, size) = (self.documents, self.bytes);
+        let documents = self.documents;
         if documents == 0 {
             return Ok(Listed { documents, next });
         }
-        if out.try_reserve(size + MORE_BYTES).is_err() {
+        let first = self.head.first;
+        let left = Postings::resume(&self.input.held()[..self.bytes], self.next, documents);
+        if left.push_shifted(out, first, next).is_err() {
             return Err(ListError::Memory);
         }
-        let first = self.head.first;
-        let Ok(()) = push_list(self.input.held(), size, first + self.next, next, out) else {
-            unreachable!()
-        };
-        self.input.pass(size);
-        self.next = self.after;
-        self.documents = 0;
-        self.bytes = 0;
+        self.skip();
         Ok(Listed {
             documents,
             next: first + self.after,

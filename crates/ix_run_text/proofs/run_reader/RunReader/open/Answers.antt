@@ -1,5 +1,5 @@
 -- Nothing is buffered at first, so that what is left is what the reader has.
-use Rattle.std.proofs.Common.{ℕ, List, [], Some, string_bytes, ap, subst, sym, ◌∙◌, rules}
+use Rattle.std.proofs.Common.{ℕ, List, [], Some, string_bytes, ap, subst, sym, ◌∙◌}
 use Rattle.std.proofs.lemmas.Result.{err_from_is_err_and}
 use Rattle.ix_run_text.specs.Heads.{Heading, heading_of}
 use Rattle.ix_run_text.specs.Inputs.{bytes_held, known_left}
@@ -8,6 +8,7 @@ use Rattle.ix_run_text.specs.Sources.{AreWhole}
 use Rattle.ix_run_text.proofs.CheckedLists.{checked_none}
 use Rattle.ix_run_text.proofs.ReadOpen.{opened_faces, opened_yields, text_heading, text_parts, text_whole, unread}
 use Rattle.ix_run_text.specs.RunReaders.{bytes_left}
+use Rattle.ix_run_text.proofs.SpelledSteps.{nothing_spelled}
 use Rattle.ix_run_text.proofs.run_reader.RunReader.open.Goals as goal
 
 pub returns-clause-taken : goal.returns-clause-taken
@@ -29,7 +30,7 @@ returns-clause-unread g c =
     let last = string_bytes c.new-3.result in
     let none = c.new-3.ensures.bytes in
     let told = checked_none heading.rows marks 0 (bytes_held input) [] c.in_ok-marks.ensures.none tt in
-    unread heading (record { marks = marks; after = 0; held = bytes_held input }) last none c.in_ok-head.ensures.lawful told
+    unread heading (record { marks = marks; held = bytes_held input }) last none c.in_ok-head.ensures.lawful told
 
 pub returns-clause-yields : goal.returns-clause-yields
 returns-clause-yields g c bytes entries known may =
@@ -39,7 +40,7 @@ returns-clause-yields g c bytes entries known may =
     let last = string_bytes c.new-3.result in
     let none = c.new-3.ensures.bytes in
     let told = checked_none heading.rows marks 0 (bytes_held input) [] c.in_ok-marks.ensures.none tt in
-    opened_yields heading (record { marks = marks; after = 0; held = bytes_held input }) last none
+    opened_yields heading (record { marks = marks; held = bytes_held input }) last none
     (known_left g.R.Read.remaining c.in_ok-input.input) (known_left g.R.Read.remaining input) bytes entries
     c.in_ok-head.ensures.lawful told c.in_ok-head.ensures.taken (c.in_ok-input.ensures ∙ known) may
 
@@ -60,11 +61,10 @@ returns-clause-faced g c first collection bytes is known =
     let found = c.in_ok-head.ensures.accepted (heading_from first is.parts) (bytes_ahead [] is.parts.entries) (text_heading first collection bytes is)
     (c.in_ok-input.ensures ∙ known ∙ ap (λ (bs : List ℕ). Some bs) (text_parts first collection bytes is)) in (
       found.0,
-      opened_faces heading (record { marks = marks; after = 0; held = bytes_held input }) last none (known_left g.R.Read.remaining input) is.parts.entries
+      opened_faces heading (record { marks = marks; held = bytes_held input }) last none (known_left g.R.Read.remaining input) is.parts.entries
           c.in_ok-head.ensures.lawful told
           (subst (λ (h : Heading). AreWhole h is.parts.entries) (sym found.0) (text_whole first collection bytes is)) found.1,
     )
 
--- The check finds it too; with an answer a wrong body that falls here is refused sooner.
-pub invariant_of-result : goal.invariant_of-result
-invariant_of-result g c = search rules
+pub invariant_of-result-clause-left : goal.invariant_of-result-clause-left
+invariant_of-result-clause-left g c = nothing_spelled 0 (bytes_held c.read_head.new.input)

@@ -1,23 +1,19 @@
 use Rattle.ix_run_text.proofs.ReadSkips.{none_left}
 use Rattle.ix_run_text.proofs.Faulting.{going_at_term, keeps_faults, may_fault}
+use Rattle.ix_run_text.specs.declared.run_text_error.RunTextError.TheVariants.{Memory}
 use Rattle.ix_run_text.proofs.run_reader.reading.RunReaderSource.next_posting.Goals as goal
 use Rattle.ix_run_text.proofs.run_reader.reading.RunReaderSource.next_posting.Goals.{in-Failed, in_default}
 
 pub returns-then-self-eq0-clause-accepted : goal.returns-then-self-eq0-clause-accepted
 returns-then-self-eq0-clause-accepted g c postings entries faces = none_left g.R.Read.remaining c.args.self.now postings entries c.if-self-eq0.true faces
 
-pub returns-in-Ok-clause-accepted : goal.returns-in-Ok-clause-accepted
-returns-in-Ok-clause-accepted g c postings entries faces =
-    let next = c.in-Ok.ensures.accepted postings entries faces in
-    record { rest = next.0; parts = next.1; ahead = next.2 }
-
 pub returns-in-Ok-clause-no_more_faults : goal.returns-in-Ok-clause-no_more_faults
 returns-in-Ok-clause-no_more_faults g c =
     let self = c.args.self.now in
     keeps_faults g.R.Read.remaining self (going_at_term g.R.Read.remaining self c.requires) (λ failed. elim c.match-matches.branch [ in-Failed w ↦ (let yes = w.matches-is in cc) | in_default w ↦ w.in_default.not-Failed failed ]) c.posting.new.self
-    (λ postings entries faces. let next = c.in-Ok.ensures.accepted postings entries faces in (next.0, (entries, next.2)))
+    (λ postings entries faces. let next = c.in-Ok.ensures.accepted postings entries faces in (next.rest, (entries, next.ahead)))
 
 pub returns-in-Err-clause-fault : goal.returns-in-Err-clause-fault
 returns-in-Err-clause-fault g c =
     let self = c.args.self.now in
-    may_fault g.R.Read.remaining self (going_at_term g.R.Read.remaining self c.requires) (λ failed. elim c.match-matches.branch [ in-Failed w ↦ (let yes = w.matches-is in cc) | in_default w ↦ w.in_default.not-Failed failed ]) c.in-Err.error c.in-Err.ensures.accepted
+    may_fault g.R.Read.remaining self (going_at_term g.R.Read.remaining self c.requires) (λ failed. elim c.match-matches.branch [ in-Failed w ↦ (let yes = w.matches-is in cc) | in_default w ↦ w.in_default.not-Failed failed ]) Memory (λ postings entries faces. tt)

@@ -5,6 +5,7 @@ use Rattle.ix_run_text.specs.declared.run_reader.Place.{Place}
 use Rattle.ix_run_text.specs.declared.run_reader.Place.TheVariants.{AtTerm, Ended}
 use Rattle.ix_run_text.proofs.Faulting.{going_begun, keeps_faults_on, may_fault, well_begun}
 use Rattle.ix_run_text.proofs.ReadSkips.{ends_again}
+use Rattle.ix_run_text.proofs.TakenLists.{none_ahead}
 use Rattle.ix_run_text.proofs.run_reader.reading.RunReaderSource.next_term.Goals as goal
 
 at_no_term : (place : Place) → place ≡ Ended → place ≡ AtTerm → ⊥
@@ -14,7 +15,7 @@ pub returns-in-Ended-clause-begun : goal.returns-in-Ended-clause-begun
 returns-in-Ended-clause-begun g c =
     let self = c.args.self.now in
     let none = self.drained (at_no_term self.place c.in-Ended.is) in
-    (ap (λ (place : Place). term_at place (string_bytes self.term)) c.in-Ended.is, c.in-Ended.is, ends_again g.R.Read.remaining self c.in-Ended.is none (self.listed none))
+    (ap (λ (place : Place). term_at place (string_bytes self.term)) c.in-Ended.is, c.in-Ended.is, ends_again g.R.Read.remaining self c.in-Ended.is none (none_ahead self none))
 
 pub returns-in-Ok-clause-accepted : goal.returns-in-Ok-clause-accepted
 returns-in-Ok-clause-accepted g c postings entries faces = c.in-Ok.ensures.accepted entries postings faces
