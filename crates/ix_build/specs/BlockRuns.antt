@@ -4,9 +4,9 @@ use Rattle.ix_text.specs.Collections.{NamedText, collection_of}
 use Rattle.ix_text.specs.Docs.{named_text}
 use Rattle.ix_run.specs.Runs.{RunValue, IsRunOf}
 use Rattle.ix_build.specs.declared.block_maker.BlockMaker.{BlockMaker}
-use Rattle.ix_build.specs.declared.errors.MakeError.TheVariants.{Refused}
-use Rattle.ix_build.specs.declared.maker.Asked.{Asked}
-use Rattle.ix_build.specs.Shares.{gained}
+use Rattle.ix_pool.specs.declared.maker.MakeError.TheVariants.{Refused}
+use Rattle.ix_pool.specs.declared.maker.Asked.{Asked}
+use Rattle.ix_pool.specs.Shares.{gained}
 
 -- The run is that of a block under the stop set: of the texts from the bound of that place up to the next one, where
 -- the first has the bound as its number.

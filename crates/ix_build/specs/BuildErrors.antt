@@ -5,9 +5,9 @@ use Rattle.ix_merge.specs.declared.merge_error.MergeError.{MergeError}
 use Rattle.ix_merge.specs.declared.merge_error.MergeError.TheVariants as merge
 use Rattle.ix_build.specs.declared.build_error.BuildError.{BuildError}
 use Rattle.ix_build.specs.declared.build_error.BuildError.TheVariants.{Thread, Spill, Write, Memory}
-use Rattle.ix_build.specs.declared.errors.MakeError.TheVariants as make
-use Rattle.ix_build.specs.declared.errors.WorkError.{WorkError}
-use Rattle.ix_build.specs.declared.errors.WorkError.TheVariants as work
+use Rattle.ix_pool.specs.declared.maker.MakeError.TheVariants as make
+use Rattle.ix_pool.specs.declared.pool.WorkError.{WorkError}
+use Rattle.ix_pool.specs.declared.pool.WorkError.TheVariants as work
 use Rattle.ix_build.specs.Blocks.{IsBlockPlace}
 use Rattle.ix_build.specs.Plans.{PlanValue}
 

@@ -8,10 +8,10 @@ use Rattle.ix_run.specs.RunSources.{heading_shown}
 use Rattle.ix_merge.specs.Pieces.{LeavesFront}
 use Rattle.ix_merge.specs.Refusals.{AreMergeable, IsEarly, IsRefusal}
 use Rattle.ix_merge.specs.declared.merge_error.MergeError.{MergeError}
-use Rattle.ix_build.specs.declared.by_error.ByError.{ByError}
-use Rattle.ix_build.specs.declared.by_error.ByError.TheVariants.{Thread, Make, Merge, Memory}
-use Rattle.ix_build.specs.declared.maker.Asked.{Asked}
-use Rattle.ix_build.specs.Outcomes.{IsMade, IsRefusedAt, IsStopped}
+use Rattle.ix_build.specs.declared.by_makers.ByError.{ByError}
+use Rattle.ix_build.specs.declared.by_makers.ByError.TheVariants.{Thread, Make, Merge, Memory}
+use Rattle.ix_pool.specs.declared.maker.Asked.{Asked}
+use Rattle.ix_pool.specs.Outcomes.{IsMade, IsRefusedAt, IsStopped}
 use Rattle.ix_build.specs.RunPieces.{WritesRuns}
 
 -- the headings of runs
