@@ -15,7 +15,7 @@ folder_of store = store.folder.now
 abbrev pub saved_of : {F : Type 0} → FolderStore F → List ℕ
 saved_of store = store.saved.items
 
--- how many refusals it counted
+-- how many of its calls failed
 abbrev pub faults_of : {F : Type 0} → FolderStore F → ℕ
 faults_of store = store.faults
 

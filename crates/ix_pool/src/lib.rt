@@ -1,5 +1,8 @@
 //! A pool of workers over a claim board: makers, each driven by a worker in a thread of its own, make the piece of each
 //! place once. What is made, and of what, is the caller's.
+//!
+//! Proved for every interleaving: each place is asked for once, of one maker; maker w begins with place w; the pieces come
+//! in the order of the places, each from the maker that was asked for it. Only tested: that makers work side by side.
 #![tactic(auto)]
 
 mod laws;
