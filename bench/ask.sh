@@ -5,7 +5,7 @@
 . "$(dirname "$0")/prelude.sh"
 needs rt python3
 
-copy_crates ix_output ix_text ix_vbyte ix_postings ix_board ix_run_text ix_run ix_index_text ix_file ix_merge ix_build ix_gram ix_query_text ix_query ix_live ix_ask ix_script ix_line ix_command ix
+copy_crates ix_output ix_text ix_vbyte ix_postings ix_board ix_run_text ix_run ix_index_text ix_file ix_merge ix_pool ix_build ix_gram ix_query_text ix_query ix_ask ix ix_command ix_line ix_script ix_live
 add_program ask ix_text unicode_segmentation anyhow
 build ask_bench
 build ix

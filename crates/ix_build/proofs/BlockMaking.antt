@@ -9,13 +9,13 @@ use Rattle.ix_board.proofs.SliceGets.{contains_cases}
 use Rattle.ix_text.specs.Collections.{NamedText}
 use Rattle.ix_run.specs.Runs.{RunValue}
 use Rattle.ix_build.specs.declared.block_maker.BlockMaker.{BlockMaker}
-use Rattle.ix_build.specs.declared.errors.MakeError.TheVariants.{Refused}
-use Rattle.ix_build.specs.declared.maker.Asked.{Asked}
-use Rattle.ix_build.specs.Askings.{asking, asks, times_asked}
+use Rattle.ix_pool.specs.declared.maker.MakeError.TheVariants.{Refused}
+use Rattle.ix_pool.specs.declared.maker.Asked.{Asked}
+use Rattle.ix_pool.specs.Askings.{asking, asks, times_asked}
 use Rattle.ix_build.specs.BlockMakers.{IsMakerOf}
 use Rattle.ix_build.specs.BlockRuns.{GivesRun, IsRunOfBlock, RefusesNoBlock, StaysMakerOf}
-use Rattle.ix_build.specs.Outcomes.{IsMade, IsRefusedAt}
-use Rattle.ix_build.specs.Shares.{all_of, gained, new_askings}
+use Rattle.ix_pool.specs.Outcomes.{IsMade, IsRefusedAt}
+use Rattle.ix_pool.specs.Shares.{all_of, gained, new_askings}
 
 abbrev pub asked_of : {V : Type 0} → BlockMaker V → List Asked
 asked_of maker = maker.asked.items

@@ -10,7 +10,7 @@ use Rattle.ix_build.specs.GivenBack.{GivesBlocksBack}
 use Rattle.ix_build.specs.ReadBack.{TellsUnread}
 use Rattle.ix_build.specs.RunPaths.{run_path}
 use Rattle.ix_build.specs.declared.build_error.BuildError.{BuildError}
-use Rattle.ix_build.specs.declared.folder.FolderStore.{FolderStore}
+use Rattle.ix_build.specs.declared.folder_store.FolderStore.{FolderStore}
 use Rattle.ix_build.specs.declared.plan.Cut.{Cut}
 use Rattle.ix_build.proofs.UnreadLemmas.{unread_before}
 

@@ -6,11 +6,11 @@ use Rattle.std.proofs.lemmas.Bool.Decides.{nat_tests}
 use Rattle.std.proofs.lemmas.List.Sums.{sum_by-cons}
 use Rattle.std.proofs.lemmas.Option.{none-some}
 use Rattle.ix_board.proofs.SliceGets.{contains_cases, contains_there}
-use Rattle.ix_build.specs.declared.errors.MakeError.{MakeError}
-use Rattle.ix_build.specs.declared.maker.Asked.{Asked}
-use Rattle.ix_build.specs.Askings.{IsLowestRefused, asking, asks, times_asked}
+use Rattle.ix_pool.specs.declared.maker.MakeError.{MakeError}
+use Rattle.ix_pool.specs.declared.maker.Asked.{Asked}
+use Rattle.ix_pool.specs.Askings.{IsLowestRefused, asking, asks, times_asked}
 use Rattle.ix_build.specs.SavingMakers.{made_places, with_place}
-use Rattle.ix_build.specs.Shares.{EachOnce, all_of}
+use Rattle.ix_pool.specs.Shares.{EachOnce, all_of}
 use Rattle.ix_build.specs.Stores.{IsLowestUnsaved, is_place}
 use Rattle.ix_build.proofs.SavedPlaces.{flat_made, made_asked}
 

@@ -22,7 +22,7 @@ use Rattle.ix_build.specs.declared.build_error.BuildError.{BuildError}
 use Rattle.ix_build.specs.declared.build_error.BuildError.TheVariants.{Thread, Spill, Write, Memory}
 use Rattle.ix_build.specs.ReadBack.{AreReadBack, ComesOfMerging, ComesOfReading, IsReadBack, told_of_read_merge, told_of_reading}
 use Rattle.ix_build.proofs.Consecutive.{same_at_each}
-use Rattle.ix_build.proofs.Sums.{all_from_get}
+use Rattle.ix_pool.proofs.Sums.{all_from_get}
 
 get_push_cases : {A : Type 0} (xs : List A) (x : A) (k : ℕ) (y : A) → slice_get (xs ++ x ∷ []) k ≡ Some y → (slice_get xs k ≡ Some y) ⊎ ((k ≡ length xs) × (x ≡ y))
 get_push_cases [] x zero y at = inr (refl, same_Some x y at)

@@ -9,14 +9,14 @@ use Rattle.std.proofs.lemmas.List.Sums.{sum_by-cons}
 use Rattle.std.proofs.lemmas.Option.{none-some, same_Some}
 use Rattle.ix_board.proofs.Closings.{got-map}
 use Rattle.ix_board.proofs.SliceGets.{contains_there}
-use Rattle.ix_build.specs.declared.errors.MakeError.{MakeError}
-use Rattle.ix_build.specs.declared.maker.Asked.{Asked}
+use Rattle.ix_pool.specs.declared.maker.MakeError.{MakeError}
+use Rattle.ix_pool.specs.declared.maker.Asked.{Asked}
 use Rattle.ix_build.specs.declared.saving_maker.SavingMaker.{SavingMaker}
-use Rattle.ix_build.specs.Askings.{NoneRefused, asks, first_place, times_asked}
-use Rattle.ix_build.specs.Outcomes.{CameBack, IsLater}
+use Rattle.ix_pool.specs.Askings.{NoneRefused, asks, first_place, times_asked}
+use Rattle.ix_pool.specs.Outcomes.{CameBack, IsLater}
 use Rattle.ix_build.specs.SavingLaws.{made_places-append}
 use Rattle.ix_build.specs.SavingMakers.{GivesHead, HasSaved, StaysSavingMaker, asked_of_saving, made_places, store_of, with_place}
-use Rattle.ix_build.specs.Shares.{BeginWithOwn, EachOnce, NoneTwice, all_of, gained, new_askings}
+use Rattle.ix_pool.specs.Shares.{BeginWithOwn, EachOnce, NoneTwice, all_of, gained, new_askings}
 use Rattle.ix_build.specs.Stores.{AreSaved, AreSavedInPart, IsLaterStore, NoneSavedTwice, SaveOwnFirst, SavedOnce, StoresCameBack, gained_places, is_place, new_places, times_saved}
 
 -- ---- one list of askings

@@ -9,15 +9,15 @@ use Rattle.std.proofs.lemmas.Option.{none-some, same_Some}
 use Rattle.ix_board.proofs.Closings.{got-All}
 use Rattle.ix_text.specs.Collections.{NamedText}
 use Rattle.ix_run.specs.RunHead.{RunHead}
-use Rattle.ix_build.specs.declared.errors.MakeError.{MakeError}
-use Rattle.ix_build.specs.declared.errors.MakeError.TheVariants as make
-use Rattle.ix_build.specs.declared.maker.Asked.{Asked}
+use Rattle.ix_pool.specs.declared.maker.MakeError.{MakeError}
+use Rattle.ix_pool.specs.declared.maker.MakeError.TheVariants as make
+use Rattle.ix_pool.specs.declared.maker.Asked.{Asked}
 use Rattle.ix_build.specs.declared.saving_maker.SavingMaker.{SavingMaker}
-use Rattle.ix_build.specs.Askings.{asking, times_asked}
-use Rattle.ix_build.specs.Outcomes.{IsMade, IsRefusedAt, IsStopped}
+use Rattle.ix_pool.specs.Askings.{asking, times_asked}
+use Rattle.ix_pool.specs.Outcomes.{IsMade, IsRefusedAt, IsStopped}
 use Rattle.ix_build.specs.SavedBlocks.{AreHeadsOf, FailsToSave, unsaved_at}
 use Rattle.ix_build.specs.SavingMakers.{GivesHead, HasSaved, IsHeadOfBlock, IsSavingMakerOf, StaysSavingMaker, asked_of_saving, store_of}
-use Rattle.ix_build.specs.Shares.{NoneTwice, all_of, new_askings}
+use Rattle.ix_pool.specs.Shares.{NoneTwice, all_of, new_askings}
 use Rattle.ix_build.specs.Stores.{AreSaved, AreSavedInPart, IsLaterStore, IsLowestUnsaved, SaveOwnFirst, SavedOnce, StoresCameBack, gained_places, is_place, new_places, times_saved}
 use Rattle.ix_build.proofs.BlockMaking.{counted_there, weight_within}
 use Rattle.ix_build.proofs.LowestUnsaved.{lowest_unsaved}

@@ -6,12 +6,12 @@ use Rattle.ix_build.specs.Blocks.{AreBounds, bounds_from}
 use Rattle.ix_build.specs.BlockMakers.{IsMakerOf}
 use Rattle.ix_build.specs.BlockRuns.{GivesRun, StaysMakerOf}
 use Rattle.ix_build.specs.BuildErrors.{MayComeOfWork}
-use Rattle.ix_build.specs.Outcomes.{Fails, IsMade}
+use Rattle.ix_pool.specs.Outcomes.{Fails, IsMade}
 use Rattle.ix_build.specs.RunPieces.{AreRunsOfTexts}
 use Rattle.ix_build.specs.declared.block_maker.BlockMaker.{BlockMaker}
-use Rattle.ix_build.specs.declared.errors.MakeError.TheVariants as make
-use Rattle.ix_build.specs.declared.errors.WorkError.{WorkError}
-use Rattle.ix_build.specs.declared.errors.WorkError.TheVariants.{Thread, Make, Memory}
+use Rattle.ix_pool.specs.declared.maker.MakeError.TheVariants as make
+use Rattle.ix_pool.specs.declared.pool.WorkError.{WorkError}
+use Rattle.ix_pool.specs.declared.pool.WorkError.TheVariants.{Thread, Make, Memory}
 use Rattle.ix_build.specs.declared.plan.Cut.{Cut}
 use Rattle.ix_build.proofs.BlockMaking.{asked_of, made_between, none_refused}
 use Rattle.ix_build.proofs.BuiltBlocks.{runs_of_blocks}

@@ -1,4 +1,4 @@
--- What a refused build leaves, and what a build over stores writes.
+-- What a build that fails leaves, and what a build over stores writes.
 use Rattle.std.specs.Prelude.{◌≡◌, ◌⊎◌, ℕ, List, Option, map}
 use Rattle.std.specs.Io.KnownBytes.{Keeps}
 use Rattle.ix_text.specs.Collections.{Collection}
@@ -13,7 +13,7 @@ pub record AreAlike (one other : Collection) : Type 0 where
   pub stop : one.stop ≡ other.stop
   pub rows : map row_of one.documents ≡ map row_of other.documents
 
--- Since `before`, a front went out of the index text of a collection like this one.
+-- Since `before`, a prefix of the index text of a collection like this one was written.
 pub record WritesAlikeFront (collection : Collection) (before now : Option (List ℕ)) : Type 0 where
   pub whole : Collection
   pub alike : AreAlike whole collection
@@ -21,11 +21,11 @@ pub record WritesAlikeFront (collection : Collection) (before now : Option (List
   pub of_whole : IsIndexText FrontCoded whole text
   pub gained : AppendsFront before now text
 
--- nothing went out, or a front of such a text
+-- nothing was written, or a prefix of such a text
 abbrev pub LeavesAlikeFront : Collection → Option (List ℕ) → Option (List ℕ) → Type 0
 LeavesAlikeFront collection before now = Keeps before now ⊎ WritesAlikeFront collection before now
 
--- Since `before`, the index text went out of a collection like this one.
+-- Since `before`, the index text of a collection like this one was written.
 pub record WritesAlike (collection : Collection) (before now : Option (List ℕ)) : Type 0 where
   pub whole : Collection
   pub alike : AreAlike whole collection

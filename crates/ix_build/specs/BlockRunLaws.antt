@@ -3,8 +3,8 @@ use Rattle.std.proofs.Common.{◌≡◌, ℕ, List, [], ◌++◌, length, All, r
 use Rattle.std.proofs.lemmas.List.{append-nil, append_assoc, drop_all, drop_at}
 use Rattle.std.proofs.lemmas.List.Elements.{All-nil, All-append}
 use Rattle.ix_build.specs.declared.block_maker.BlockMaker.{BlockMaker}
-use Rattle.ix_build.specs.declared.maker.Asked.{Asked}
-use Rattle.ix_build.specs.Shares.{gained}
+use Rattle.ix_pool.specs.declared.maker.Asked.{Asked}
+use Rattle.ix_pool.specs.Shares.{gained}
 use Rattle.ix_build.specs.BlockRuns.{RefusesNoBlock, StaysMakerOf}
 
 pub stays_itself : {V : Type 0} (maker : BlockMaker V) → StaysMakerOf maker maker

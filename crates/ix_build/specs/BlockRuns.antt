@@ -4,12 +4,12 @@ use Rattle.ix_text.specs.Collections.{NamedText, collection_of}
 use Rattle.ix_text.specs.Docs.{named_text}
 use Rattle.ix_run.specs.Runs.{RunValue, IsRunOf}
 use Rattle.ix_build.specs.declared.block_maker.BlockMaker.{BlockMaker}
-use Rattle.ix_build.specs.declared.errors.MakeError.TheVariants.{Refused}
-use Rattle.ix_build.specs.declared.maker.Asked.{Asked}
-use Rattle.ix_build.specs.Shares.{gained}
+use Rattle.ix_pool.specs.declared.maker.MakeError.TheVariants.{Refused}
+use Rattle.ix_pool.specs.declared.maker.Asked.{Asked}
+use Rattle.ix_pool.specs.Shares.{gained}
 
--- The run is that of a block under the stop set: of the texts from the bound of that place up to the next one, where
--- the first has the bound as its number.
+-- The run is that of a block under the stop set: of the texts from the bound of that place up to the next one, numbered
+-- from that bound.
 pub record IsRunOfBlock (texts : List NamedText) (stop : List (List ℕ)) (bounds : List ℕ) (place : ℕ) (run : RunValue) : Type 0 where
   pub from : ℕ
   pub to : ℕ
@@ -21,7 +21,7 @@ pub record IsRunOfBlock (texts : List NamedText) (stop : List (List ℕ)) (bound
 abbrev pub GivesRun : {V : Type 0} → BlockMaker V → ℕ → RunValue → Type 0
 GivesRun maker place run = IsRunOfBlock (map named_text maker.docs.now) maker.stop.now maker.bounds.now place run
 
--- no block was refused: the place has none, or the error is another
+-- not a refused block: the place has none, or the error is another
 abbrev pub RefusesNoBlock : List ℕ → Asked → Type 0
 RefusesNoBlock bounds asked = asked.place + 1 < length bounds → asked.error ≢ Some Refused
 

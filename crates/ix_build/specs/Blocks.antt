@@ -22,17 +22,17 @@ abbrev pub weight_of : Cut → NamedText → ℕ
 weight_of (Docs n) text = 1
 weight_of (Bytes n) text = length text.text
 
--- The block is full: it has so many documents, or its documents' texts have so many bytes together.
+-- The block is full: it has as many documents as the cut says, or its texts have as many bytes together.
 abbrev pub IsFull : Cut → List NamedText → Type 0
 IsFull (Docs n) block = n ≤ length block
 IsFull (Bytes n) block = n ≤ text_bytes block
 
--- No front of the block is full, but perhaps the whole.
+-- No shorter prefix of the block is full.
 abbrev pub IsFullNoSooner : Cut → List NamedText → Type 0
 IsFullNoSooner cut block = (count : ℕ) → count < length block → ¬ (IsFull cut (take count block))
 
--- The blocks of texts under a cut. One after another they are the texts. Each ends where it becomes full; the last one
--- may end before, and has a document. Where there are no texts there is one block, without documents.
+-- The blocks of texts under a cut. One after another they are the texts. Each ends as soon as it is full; the last one
+-- may end before, and has a document. Without texts there is one block, without documents.
 pub record AreBlocks (cut : Cut) (texts : List NamedText) (blocks : List (List NamedText)) : Type 0 where
   pub before : List (List NamedText)
   pub last : List NamedText
@@ -49,8 +49,8 @@ pub record IsBlockPlace (cut : Cut) (texts : List NamedText) (place : ℕ) : Typ
   pub of_cut : AreBlocks cut texts blocks
   pub within : place < length blocks
 
--- the number of the first element of each block, where the first block begins with this number, and behind them the
--- number at which the last block ends
+-- the number of the first element of each block, if the first block begins with this number, and behind them the number
+-- at which the last block ends
 abbrev pub bounds_from : {X : Type 0} → ℕ → List (List X) → List ℕ
 bounds_from first [] = first ∷ []
 bounds_from first (block ∷ blocks) = first ∷ bounds_from (first + length block) blocks

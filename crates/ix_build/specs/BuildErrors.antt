@@ -1,13 +1,13 @@
--- The errors of building a collection: their numbers, their names, as they are printed, and for what each one stands.
+-- The errors of building a collection: their numbers, their names as they are printed, and when each one comes.
 use Rattle.std.specs.Prelude.{ℕ, ◌<◌, List, ◌++◌, codes, decimal}
 use Rattle.ix_text.specs.Collections.{NamedText}
 use Rattle.ix_merge.specs.declared.merge_error.MergeError.{MergeError}
 use Rattle.ix_merge.specs.declared.merge_error.MergeError.TheVariants as merge
 use Rattle.ix_build.specs.declared.build_error.BuildError.{BuildError}
 use Rattle.ix_build.specs.declared.build_error.BuildError.TheVariants.{Thread, Spill, Write, Memory}
-use Rattle.ix_build.specs.declared.errors.MakeError.TheVariants as make
-use Rattle.ix_build.specs.declared.errors.WorkError.{WorkError}
-use Rattle.ix_build.specs.declared.errors.WorkError.TheVariants as work
+use Rattle.ix_pool.specs.declared.maker.MakeError.TheVariants as make
+use Rattle.ix_pool.specs.declared.pool.WorkError.{WorkError}
+use Rattle.ix_pool.specs.declared.pool.WorkError.TheVariants as work
 use Rattle.ix_build.specs.Blocks.{IsBlockPlace}
 use Rattle.ix_build.specs.Plans.{PlanValue}
 
@@ -35,14 +35,14 @@ MayComeOfMerge merge.TooLarge = ⊥
 MayComeOfMerge merge.Write = Unit {0}
 MayComeOfMerge merge.Memory = Unit {0}
 
--- the errors of work shared among makers that refuse no place
+-- the errors of work shared by makers that refuse no place
 abbrev pub MayComeOfWork : WorkError → Type 0
 MayComeOfWork (work.Thread worker) = Unit {0}
 MayComeOfWork (work.Make place make.Refused) = ⊥
 MayComeOfWork (work.Make place make.Memory) = Unit {0}
 MayComeOfWork work.Memory = Unit {0}
 
--- a merge's refused write, or want of memory
+-- the error of a merge as that of a build: a failed write, or out of memory
 abbrev pub told_of_merge : {E : Type 0} → MergeError E → BuildError
 told_of_merge (merge.Gap number) = Memory
 told_of_merge (merge.Overlap number) = Memory
@@ -52,7 +52,7 @@ told_of_merge merge.TooLarge = Memory
 told_of_merge merge.Write = Write
 told_of_merge merge.Memory = Memory
 
--- a thread that was not started, or want of memory
+-- the error of shared work as that of a build: a thread that was not started, or out of memory
 abbrev pub told_of_work : WorkError → BuildError
 told_of_work (work.Thread worker) = Thread worker
 told_of_work (work.Make place error) = Memory
@@ -65,14 +65,14 @@ IsFolderRefusal plan texts (Spill place) = IsBlockPlace plan.cut texts place
 IsFolderRefusal plan texts Write = Unit {0}
 IsFolderRefusal plan texts Memory = Unit {0}
 
--- which errors come with runs in memory: `Thread` of one of so many workers, and `Spill` never
+-- which errors come with runs in memory: `Thread` of one of the workers, and `Spill` never
 abbrev pub IsBuildRefusal : ℕ → BuildError → Type 0
 IsBuildRefusal workers (Thread worker) = worker < workers
 IsBuildRefusal workers (Spill place) = ⊥
 IsBuildRefusal workers Write = Unit {0}
 IsBuildRefusal workers Memory = Unit {0}
 
--- which errors come of inverting by so many workers
+-- which errors come of inverting by these workers
 abbrev pub IsInvertRefusal : ℕ → BuildError → Type 0
 IsInvertRefusal workers (Thread worker) = worker < workers
 IsInvertRefusal workers (Spill place) = ⊥

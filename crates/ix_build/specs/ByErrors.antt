@@ -1,7 +1,7 @@
 -- The numbers of the errors of building by makers.
 use Rattle.std.specs.Prelude.{ℕ}
-use Rattle.ix_build.specs.declared.by_error.ByError.{ByError}
-use Rattle.ix_build.specs.declared.by_error.ByError.TheVariants.{Thread, Make, Merge, Memory}
+use Rattle.ix_build.specs.declared.by_makers.ByError.{ByError}
+use Rattle.ix_build.specs.declared.by_makers.ByError.TheVariants.{Thread, Make, Merge, Memory}
 
 -- an error's place in the list of these errors, from 1
 abbrev pub by_error_number : ByError → ℕ

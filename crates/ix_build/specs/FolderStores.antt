@@ -1,7 +1,7 @@
 -- Stores of runs in the files of a folder.
 use Rattle.std.specs.Prelude.{◌≡◌, ℕ, List}
 use Rattle.ix_build.specs.RunPaths.{run_path}
-use Rattle.ix_build.specs.declared.folder.FolderStore.{FolderStore}
+use Rattle.ix_build.specs.declared.folder_store.FolderStore.{FolderStore}
 
 -- the files in which a store keeps its runs
 abbrev pub files_of : {F : Type 0} → FolderStore F → F
@@ -15,7 +15,7 @@ folder_of store = store.folder.now
 abbrev pub saved_of : {F : Type 0} → FolderStore F → List ℕ
 saved_of store = store.saved.items
 
--- how many refusals it counted
+-- how many of its calls failed
 abbrev pub faults_of : {F : Type 0} → FolderStore F → ℕ
 faults_of store = store.faults
 

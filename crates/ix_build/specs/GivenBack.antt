@@ -6,7 +6,7 @@ use Rattle.ix_build.specs.Blocks.{AreBounds}
 use Rattle.ix_build.specs.declared.plan.Cut.{Cut}
 
 -- The bytes are the run text of a block under the stop set: of the texts from the bound of that place up to the next one,
--- where the first has the bound as its number.
+-- numbered from that bound.
 pub record IsTextOfBlock (texts : List NamedText) (stop : List (List ℕ)) (bounds : List ℕ) (place : ℕ) (bytes : List ℕ) : Type 0 where
   pub from : ℕ
   pub to : ℕ

@@ -1,5 +1,4 @@
 pub mod AlikeFronts
-pub mod Askings
 pub mod Balanced
 pub mod BlockMakers
 pub mod BlockRunLaws
@@ -9,12 +8,8 @@ pub mod BuildErrors
 pub mod Built
 pub mod BuiltOver
 pub mod ByErrors
-pub mod Endings
-pub mod Errors
 pub mod FolderStores
 pub mod GivenBack
-pub mod Lowest
-pub mod Outcomes
 pub mod Plans
 pub mod ReadBack
 pub mod RunPaths
@@ -22,10 +17,13 @@ pub mod RunPieces
 pub mod SavedBlocks
 pub mod SavingLaws
 pub mod SavingMakers
-pub mod ShareLaws
-pub mod Shares
-pub mod Shifts
 pub mod StoreErrors
 pub mod Stores
-pub mod Taking
-pub mod Working
+pub use Rattle.ix_pool.specs.Askings
+pub use Rattle.ix_pool.specs.Errors
+pub use Rattle.ix_pool.specs.Outcomes
+pub use Rattle.ix_pool.specs.ShareLaws
+pub use Rattle.ix_pool.specs.Shares
+pub use Rattle.ix_pool.specs.declared.maker.Asked
+pub use Rattle.ix_pool.specs.declared.maker.MakeError
+pub use Rattle.ix_pool.specs.declared.pool.WorkError

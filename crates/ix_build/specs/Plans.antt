@@ -5,8 +5,7 @@ use Rattle.ix_build.specs.declared.plan.Runs.{Runs}
 use Rattle.ix_build.specs.declared.plan.Runs.TheVariants.{Memory, Folder}
 use Rattle.ix_build.specs.Blocks.{cut_number}
 
--- how a collection is cut into blocks, by how many workers these are made, and in which folder their runs are kept, where they
--- are not kept in memory
+-- how a collection is cut into blocks, how many workers make these, and in which folder their runs are kept, if not in memory
 pub record PlanValue : Type 0 where
   pub cut : Cut
   pub workers : ℕ
@@ -16,7 +15,7 @@ pub record PlanValue : Type 0 where
 abbrev pub plan_of : Cut → ℕ → Option (List ℕ) → PlanValue
 plan_of cut workers folder = record { cut = cut; workers = workers; folder = folder }
 
--- the path of the folder in which runs are kept, or none where they are kept in memory
+-- the path of the folder in which runs are kept, or none if they are kept in memory
 abbrev pub folder_of : Runs → Option (List ℕ)
 folder_of Memory = None
 folder_of (Folder path) = Some (string_bytes path)

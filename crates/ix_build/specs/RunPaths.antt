@@ -2,7 +2,7 @@
 use Rattle.std.specs.Prelude.{ℕ, ◌-◌, List, ◌++◌, length, codes, decimal, replicate}
 use Rattle.std.specs.Path.{path_join}
 
--- the number in ten digits, or in more where it has more
+-- the number in ten digits, or in more if it has more
 abbrev pub ten_digits : ℕ → List ℕ
 ten_digits number = replicate (10 - length (decimal number)) 48 ++ decimal number
 

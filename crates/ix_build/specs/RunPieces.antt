@@ -11,8 +11,8 @@ pub record AreRunsOf (runs : List RunValue) (pieces : List Piece) : Type 0 where
   pub each : (place : ℕ) (run : RunValue) (piece : Piece) → slice_get runs place ≡ Some run → slice_get pieces place ≡ Some piece
       → IsRunOf run piece.first piece.collection
 
--- the collections of parts under a stop set, where each part counts from the end of the one before it on, and the first from this
--- number on
+-- the collections of parts under a stop set: each part is numbered from the end of the one before it, and the first from this
+-- number
 abbrev pub pieces_from : ℕ → List (List ℕ) → List (List NamedText) → List Piece
 pieces_from first stop [] = []
 pieces_from first stop (part ∷ parts) = record { first = first; collection = collection_of stop part } ∷ pieces_from (first + length part) stop parts
@@ -32,7 +32,7 @@ pub record AreInverted (runs : List RunValue) : Type 0 where
   pub of_texts : AreRunsOfTexts stop texts runs
   pub few : token_total (collection_of stop texts) ≤ 2 ^ 28
 
--- Since `before`, the index text went out of the concatenation of the collections of which the runs are.
+-- Since `before`, the index text of the concatenation of the runs' collections was written.
 pub record WritesRuns (runs : List RunValue) (before now : Option (List ℕ)) : Type 0 where
   pub pieces : List Piece
   pub of_pieces : AreRunsOf runs pieces

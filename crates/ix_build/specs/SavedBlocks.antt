@@ -6,8 +6,8 @@ use Rattle.ix_build.specs.SavingMakers.{IsHeadOfBlock}
 use Rattle.ix_build.specs.Stores.{AreSavedInPart, IsLowestUnsaved, new_places}
 use Rattle.ix_build.specs.declared.build_error.BuildError.{BuildError}
 use Rattle.ix_build.specs.declared.build_error.BuildError.TheVariants.{Thread, Spill, Write, Memory}
-use Rattle.ix_build.specs.declared.errors.MakeError.{MakeError}
-use Rattle.ix_build.specs.declared.errors.MakeError.TheVariants as make
+use Rattle.ix_pool.specs.declared.maker.MakeError.{MakeError}
+use Rattle.ix_pool.specs.declared.maker.MakeError.TheVariants as make
 
 -- why the run of a place was not saved
 abbrev pub unsaved_at : ℕ → MakeError → BuildError

@@ -2,11 +2,11 @@
 use Rattle.std.proofs.Common.{◌≡◌, ℕ, List, [], ◌∷◌, ◌++◌, length, refl, sym, ap, subst, ◌∙◌, arith}
 use Rattle.std.specs.Prelude.{Option, Some, None}
 use Rattle.std.proofs.lemmas.List.{append-nil, append_assoc, drop_all, drop_at}
-use Rattle.ix_build.specs.declared.errors.MakeError.{MakeError}
-use Rattle.ix_build.specs.declared.maker.Asked.{Asked}
+use Rattle.ix_pool.specs.declared.maker.MakeError.{MakeError}
+use Rattle.ix_pool.specs.declared.maker.Asked.{Asked}
 use Rattle.ix_build.specs.declared.saving_maker.SavingMaker.{SavingMaker}
 use Rattle.ix_build.specs.SavingMakers.{HasSaved, StaysSavingMaker, made_places, with_place}
-use Rattle.ix_build.specs.Shares.{gained}
+use Rattle.ix_pool.specs.Shares.{gained}
 
 -- what two lists of askings made one after another
 pub made_places-append : (askings more : List Asked) → made_places (askings ++ more) ≡ made_places askings ++ made_places more

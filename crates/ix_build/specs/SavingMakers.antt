@@ -9,10 +9,10 @@ use Rattle.ix_run.specs.Runs.{RunValue}
 use Rattle.ix_run.specs.RunHead.{RunHead}
 use Rattle.ix_build.specs.BlockMakers.{IsMakerOf}
 use Rattle.ix_build.specs.BlockRuns.{IsRunOfBlock}
-use Rattle.ix_build.specs.Shares.{gained}
-use Rattle.ix_build.specs.declared.errors.MakeError.{MakeError}
-use Rattle.ix_build.specs.declared.errors.MakeError.TheVariants as make
-use Rattle.ix_build.specs.declared.maker.Asked.{Asked}
+use Rattle.ix_pool.specs.Shares.{gained}
+use Rattle.ix_pool.specs.declared.maker.MakeError.{MakeError}
+use Rattle.ix_pool.specs.declared.maker.MakeError.TheVariants as make
+use Rattle.ix_pool.specs.declared.maker.Asked.{Asked}
 use Rattle.ix_build.specs.declared.saving_maker.SavingMaker.{SavingMaker}
 use Rattle.ix_build.specs.declared.store.StoreError.{StoreError}
 use Rattle.ix_build.specs.declared.store.StoreError.TheVariants as store

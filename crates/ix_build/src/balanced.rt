@@ -8,14 +8,14 @@ ghost use Rattle.ix_build.specs.Blocks.{IsNoCoarser, cut_number};
 use crate::plan::Cut;
 use ix_text::Doc;
 
-/// For each of several workers a collection is shared out among so many blocks, if its texts are long enough: so all of them
-/// end at about the same time, although some blocks take longer than others.
+/// How many blocks each of several workers gets, if the texts are long enough: so all workers end at about the same time,
+/// although some blocks take longer than others.
 const BLOCKS_EACH: usize = 8;
 
-/// But among no more blocks than there are texts of this many bytes, since each run takes its part of the merge.
+/// The least bytes of text for each block, since each further run slows the merge.
 const LEAST_BYTES: usize = 1 << 19;
 
-/// The cut into blocks, or a finer one where some of several workers would have too few of its blocks.
+/// The cut into blocks, or a finer one if some of several workers would have too few of its blocks.
 pub(crate) fn balanced_cut(docs: &[Doc<'_>], cut: Cut, workers: usize) -> Cut
     requires { 0 < cut_number cut }
     ensures exact { result ≡ balanced_cut cut workers (map named_text docs.now) }
@@ -45,15 +45,15 @@ fn text_bytes(docs: &[Doc<'_>]) -> usize
     bytes
 }
 
-/// Among how many blocks texts of so many bytes are shared out for so many workers.
+/// Into how many blocks texts of this many bytes are cut for this many workers.
 fn blocks_among(workers: usize, bytes: usize) -> usize
     ensures exact { result ≡ blocks_among workers bytes }
 {
     workers.saturating_mul(BLOCKS_EACH).min(bytes / LEAST_BYTES)
 }
 
-/// How many of so many a block has where they are shared out among this many blocks: one at least, and where there are
-/// no two blocks to share them out among, as many as the cut allows.
+/// How many of `count` a block gets if they are shared out among this many blocks: at least one, and for fewer than two
+/// blocks as many as the cut allows.
 fn share(count: usize, blocks: usize) -> u32
     ensures exact { result ≡ share count blocks }
     ensures some { 0 < result }

@@ -1,14 +1,14 @@
 //! A maker of runs, which inverts blocks of documents.
 
-ghost use Rattle.std.specs.Prelude.{◌≡◌, ◌+◌, ◌^◌, ◌≤◌, [], map, length, Some, IfSome, IfNone, slice_get};
+ghost use Rattle.std.specs.Prelude.{◌≡◌, ◌+◌, ◌^◌, ◌≤◌, [], map, length, Some};
 ghost use Rattle.ix_text.specs.Collections.{collection_of, token_total};
 ghost use Rattle.ix_text.specs.Docs.{named_text};
 ghost use Rattle.ix_text.specs.Sizes.{AreSmall};
 ghost use Rattle.ix_build.specs.Blocks.{AscendUpTo};
 
-use crate::errors::MakeError;
-use crate::maker::{Asked, Maker};
+use crate::blocks::block_at;
 use crate::watch::Watch;
+use ix_pool::{Asked, MakeError, Maker};
 use ix_run::{Run, RunError, invert};
 use ix_text::{Doc, Memory, StopList, tokens_are_no_more_than_bytes};
 use std::alloc::Global;
@@ -32,7 +32,7 @@ impl<'a, V> BlockMaker<'a, V> {
     ghost use Rattle.std.specs.Prelude.{◌<◌, ◌-◌, ◌∷◌, ◌++◌, vec_len};
     ghost use Rattle.std.specs.Vec.{vec_capacity};
 
-    /// A maker of the blocks of small documents, which was asked for no place yet. Takes no memory.
+    /// A maker of the blocks of small documents, with no askings. Allocates nothing.
     pub(crate) fn new(
         alloc: Global,
         docs: &'a [Doc<'a>],
@@ -58,7 +58,7 @@ impl<'a, V> BlockMaker<'a, V> {
         }
     }
 
-    /// Notes an asking, for which there is room.
+    /// Appends an asking, for which there is room.
     pub(crate) fn note(&mut self, asked: Asked)
         requires { 0 < vec_capacity self.old.asked - vec_len self.old.asked }
         ensures documents { self.new.docs.now ≡ self.old.docs.now }
@@ -72,22 +72,10 @@ impl<'a, V> BlockMaker<'a, V> {
     }
 }
 
-/// The bound of a place and the next one, or none where the place has no block.
-pub(crate) fn block_at(bounds: &[usize], place: usize) -> Option<(usize, usize)>
-    ensures some { IfSome result (λ block. (slice_get bounds.now place ≡ Some block.0)
-        × (slice_get bounds.now (place + 1) ≡ Some block.1)) }
-    ensures none { IfNone result (length bounds.now ≤ place + 1) }
-{
-    if place >= bounds.len().saturating_sub(1) {
-        return None;
-    }
-    Some((bounds[place], bounds[place + 1]))
-}
-
 impl<'a, V: Watch> Maker for BlockMaker<'a, V> {
     ghost use Rattle.std.specs.Prelude.{◌-◌, ◌<◌, ◌↔◌, ◌∷◌, ◌++◌, ℕ, Err, IfErr, IfOk, None, vec_len};
     ghost use Rattle.std.specs.Vec.{vec_capacity};
-    ghost use Rattle.ix_build.specs.Askings.{asking};
+    ghost use Rattle.ix_pool.specs.Askings.{asking};
     ghost use Rattle.ix_build.specs.BlockRuns.{GivesRun, StaysMakerOf};
     ghost use Rattle.ix_build.specs.BlockRunLaws.{stays_itself, stays_on};
 
@@ -113,8 +101,7 @@ impl<'a, V: Watch> Maker for BlockMaker<'a, V> {
         self.asked.capacity() - self.asked.len()
     }
 
-    /// Inverts the block of a place. `Refused` where the place has no block, and `Memory` where memory is refused; the room
-    /// is used up by one.
+    /// Inverts the block of a place. Returns `Refused` if the place has no block, and `Memory` if out of memory.
     fn make(&mut self, place: usize) -> Result<Run, MakeError>
         requires { 0 < vec_capacity self.old.asked - vec_len self.old.asked }
         ensures asked { IfOk result (λ piece. self.new.asked.items ≡ self.old.asked.items
@@ -128,7 +115,7 @@ impl<'a, V: Watch> Maker for BlockMaker<'a, V> {
             GivesRun self.new other piece ↔ GivesRun self.old other piece }
         ensures follows { StaysMakerOf self.old self.new }
 
-        // A place behind the last block is refused as such, and no other is.
+        // `Refused` comes at a place behind the last block, and at no other.
         ensures behind { length self.old.bounds.now ≤ place + 1 → result ≡ Err MakeError.Refused }
         ensures within { place + 1 < length self.old.bounds.now →
             IfErr result (λ error. error ≡ MakeError.Memory) }

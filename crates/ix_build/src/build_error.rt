@@ -1,8 +1,8 @@
 //! Why a collection is not built.
 ghost use Rattle.std.specs.Prelude.{◌≡◌};
 
-use crate::errors::{MakeError, WorkError};
 use ix_merge::MergeError;
+use ix_pool::{MakeError, WorkError};
 use ix_run::RunTextError;
 use ix_text::Memory;
 use std::{error, fmt};
@@ -12,12 +12,11 @@ use std::{error, fmt};
 pub enum BuildError {
     /// The thread of the worker with this number, from 0, could not be started.
     Thread(usize),
-    /// The run of the block at this place, from 0, was not kept or not given back. It does not come while runs are
-    /// kept in memory.
+    /// The run of the block at this place, from 0, was not saved or not given back. Never with runs in memory.
     Spill(usize),
-    /// A write or the flush was refused.
+    /// A write or the flush failed.
     Write,
-    /// Memory was refused.
+    /// Out of memory.
     Memory,
 }
 
@@ -37,7 +36,7 @@ impl BuildError {
         }
     }
 
-    /// The error of work that makers of blocks share, none of whom refuses a block.
+    /// The error of work shared by makers of blocks, none of whom refuses a block.
     pub(crate) fn of_work(error: WorkError) -> BuildError
         requires { MayComeOfWork error }
         ensures { result ≡ told_of_work error }
@@ -49,7 +48,7 @@ impl BuildError {
         }
     }
 
-    /// The error of a merge of runs in memory, which is not for what they are.
+    /// The error of a merge of runs in memory that may be merged.
     pub(crate) fn of_merge(error: MergeError<Memory>) -> BuildError
         requires { MayComeOfMerge error }
         ensures { result ≡ told_of_merge error }
@@ -61,8 +60,8 @@ impl BuildError {
         }
     }
 
-    /// The error of a merge of runs that were read back, which is not for what they are. A run that does not read as one
-    /// is told by its place.
+    /// The error of a merge of runs that were read back and may be merged. A run that does not read as one is reported by
+    /// its place.
     pub(crate) fn of_read_merge(error: MergeError<RunTextError>) -> BuildError
         requires { MayComeOfMerge error }
         ensures { result ≡ told_of_read_merge error }

@@ -1,27 +1,68 @@
-//! Building an index text of what makers make.
+//! Building an index text of the runs that makers make.
 ghost use Rattle.std.specs.Prelude.{◌<◌, ◌≤◌, IfErr, OnOk, vec_len};
 ghost use Rattle.ix_build.specs.Built.{FailsToBuild, IsBuilt};
 
-use crate::built::Built;
-use crate::by_error::ByError;
-use crate::errors::WorkError;
-use crate::maker::Maker;
-use crate::merged_runs::merge_runs;
-use crate::outcome::Outcome;
-use crate::shared_work::work_all;
+use crate::inverted_blocks::merge_runs;
+use ix_merge::MergeError;
+use ix_pool::{MakeError, Maker, Outcome, WorkError, work_all};
 use ix_run::Run;
+use ix_text::Memory;
 use std::alloc::Global;
 use std::io::Write;
 use std::sync::Wait;
 use std::thread::Threads;
+use thiserror::Error;
+
+/// Why makers of runs built no index.
+#[derive(Debug, Drop, PartialEq, Eq, Error)]
+pub enum ByError {
+    /// The thread of the worker with this number, from 0, could not be started.
+    #[error("Thread({0})")]
+    Thread(usize),
+    /// The lowest place that a maker did not make, and why.
+    #[error("Make({0}, {1})")]
+    Make(usize, MakeError),
+    /// All runs were made, and their merge failed.
+    #[error("Merge({0})")]
+    Merge(MergeError<Memory>),
+    /// Out of memory in the work that the makers share.
+    #[error("Memory")]
+    Memory,
+}
+
+impl ByError {
+    ghost use Rattle.std.specs.Prelude.{◌≡◌};
+    ghost use Rattle.ix_build.specs.ByErrors.{by_error_number};
+
+    /// The error's number in the list of these errors, from 1.
+    pub fn number(&self) -> u8
+        ensures { result ≡ by_error_number self.now }
+    {
+        match self {
+            ByError::Thread(_) => 1,
+            ByError::Make(_, _) => 2,
+            ByError::Merge(_) => 3,
+            ByError::Memory => 4,
+        }
+    }
+}
+
+/// The makers that come back, and whether the index text was written.
+pub struct Built<M: Maker> {
+    /// The makers, in the order in which they were handed in. After `Thread` nothing is said of them.
+    pub makers: Vec<M>,
+    /// Nothing, or why the index text was not written whole.
+    pub result: Result<(), ByError>,
+}
 
 /// Has a run made of each place below `count`, by makers that each work in a thread of their own, and merges the runs
 /// into the index text, version 2, of the concatenation of their collections (IIR 4.3). The makers come back in their
 /// order.
 ///
-/// Fails with `Thread` where a thread cannot be started, after which nothing is said of the makers; with `Memory` where
-/// a growth is refused to the work that they share; with `Make` at the lowest place that was refused. Before any of these
-/// nothing is written. `Merge` where the runs are made and their merge is refused.
+/// # Errors
+/// Before anything is written: `Thread` if a thread cannot be started, after which nothing is said of the makers;
+/// `Memory` if the work that they share is out of memory; `Make` with the lowest place that was not made. `Merge` if all
+/// runs are made and their merge fails.
 pub fn build_by<M: Maker<Piece = Run>, W: Write, R: Threads + Wait + Sync>(
     rt: &R,
     alloc: Global,

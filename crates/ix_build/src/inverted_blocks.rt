@@ -1,8 +1,15 @@
-//! The runs of a collection's blocks, in memory.
+//! The runs of a collection's blocks, in memory, and the merge of runs in memory.
+ghost use Rattle.std.specs.Prelude.{IfErr, OnErr, OnOk};
+ghost use Rattle.std.specs.Io.KnownBytes.{Keeps};
+ghost use Rattle.ix_merge.specs.Pieces.{LeavesFront};
+ghost use Rattle.ix_merge.specs.Refusals.{AreMergeable, IsEarly, IsRefusal};
+ghost use Rattle.ix_build.specs.Built.{headings_of};
+ghost use Rattle.ix_build.specs.RunPieces.{WritesRuns};
 
 use crate::build_error::BuildError;
-use crate::merged_runs::merge_runs;
+use ix_merge::{MergeError, merge};
 use ix_run::Run;
+use ix_text::Memory;
 use std::alloc::Global;
 use std::io::Write;
 use std::marker::Model;
@@ -26,7 +33,7 @@ impl Model for InvertedBlocks {
 }
 
 impl InvertedBlocks {
-    ghost use Rattle.std.specs.Prelude.{◌≡◌, ℕ, List, IfErr, OnErr, OnOk};
+    ghost use Rattle.std.specs.Prelude.{◌≡◌, ℕ, List};
     ghost use Rattle.ix_build.specs.AlikeFronts.{LeavesAlikeFront};
     ghost use Rattle.ix_build.specs.BuildErrors.{IsMergeRefusal};
     ghost use Rattle.ix_build.specs.RunPieces.{AreInverted, AreRunsOfTexts};
@@ -41,11 +48,11 @@ impl InvertedBlocks {
         InvertedBlocks { runs }
     }
 
-    /// Writes the index text, version 2, of the collection: merges the runs (IIR 4.3), and lets them go.
+    /// Writes the index text, version 2, of the collection: merges the runs (IIR 4.3), and drops them.
     ///
-    /// Fails with `Write` where a write or the flush is refused; with `Memory` where memory is. After these a front of
-    /// an index text is written, perhaps nothing of it, or after a refused flush all of it. `Thread` and `Spill` do not
-    /// come.
+    /// # Errors
+    /// `Write` if a write or the flush fails; `Memory` if out of memory. A prefix of an index text is then written,
+    /// perhaps nothing of it, or after a failed flush all of it. Never `Thread` or `Spill`.
     pub fn merge_into<W: Write>(self, alloc: Global, out: &mut W) -> Result<(), BuildError>
         ensures written { (stop : List (List ℕ)) (texts : List NamedText)
             → AreRunsOfTexts stop texts self → OnOk result (WritesIndexText
@@ -60,4 +67,26 @@ impl InvertedBlocks {
             Err(error) => Err(BuildError::of_merge(error)),
         }
     }
+}
+
+/// Writes the index text of the concatenation of the runs' collections. Its errors are those of `merge`.
+pub(crate) fn merge_runs<W: Write>(
+    alloc: Global,
+    runs: &[Run],
+    out: &mut W,
+) -> Result<(), MergeError<Memory>>
+    ensures written { OnOk result (WritesRuns runs.now
+        (W.contents out.old) (W.contents out.new)) }
+    ensures mergeable { OnOk result (AreMergeable (headings_of runs.now)) }
+    ensures refused { IfErr result (IsRefusal (headings_of runs.now)) }
+    ensures early { IfErr result (λ error. IsEarly error
+        → Keeps (W.contents out.old) (W.contents out.new)) }
+    ensures front { OnErr result (LeavesFront (headings_of runs.now)
+        (W.contents out.old) (W.contents out.new)) }
+{
+    let mut sources = Vec::with_capacity(alloc, runs.len())?;
+    for run in runs {
+        sources.push_reserved(run.source());
+    }
+    merge(alloc, sources, out)
 }

@@ -1,14 +1,14 @@
-//! Plans: how a collection is cut into blocks, by how many workers these are made, and where their runs are kept.
+//! Plans: how a collection is cut into blocks, how many workers make these, and where their runs are kept.
 
 use std::marker::Model;
 
 /// How documents, in their order, are cut into blocks. Its number is at least 1 in a plan.
 #[derive(Clone, Copy, Debug, PartialEq, Eq)]
 pub enum Cut {
-    /// So many documents a block. The last block may have fewer.
+    /// The number of documents of a block. The last block may have fewer.
     Docs(u32),
-    /// A block is closed by the document that brings its texts up to this many bytes; names do not count. The last
-    /// block is what is left then, unless nothing is.
+    /// A block ends with the document that brings its texts up to this many bytes; names do not count. The last block is
+    /// the rest, if there is any.
     Bytes(u32),
 }
 
@@ -60,7 +60,7 @@ impl Plan {
     ghost use Rattle.ix_build.specs.Blocks.{cut_number};
     ghost use Rattle.ix_build.specs.Plans.{IsPlan, folder_of, plan_of};
 
-    /// The plan of these, or none where the cut's number is 0 or the workers are not 1 to 64.
+    /// The plan of these, or none if the cut's number is 0 or the workers are not 1 to 64.
     pub fn new(cut: Cut, workers: usize, runs: Runs) -> Option<Plan>
         ensures { SomeIff result (IsPlan (plan_of cut workers (folder_of runs)))
             (plan_of cut workers (folder_of runs)) }
@@ -87,7 +87,7 @@ impl Plan {
         self.workers
     }
 
-    /// The path of the folder in which runs are kept, or none where they are kept in memory.
+    /// The path of the folder in which runs are kept, or none if they are kept in memory.
     pub fn folder(&self) -> Option<&str>
         ensures { option_map (λ path. path.now) result ≡ self.now.folder }
     {

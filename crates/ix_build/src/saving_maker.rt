@@ -1,22 +1,22 @@
 //! A maker that saves the runs of blocks, and leaves their heads.
 
 ghost use Rattle.std.specs.Prelude.{◌≡◌, Some};
-ghost use Rattle.ix_build.specs.Askings.{asking};
+ghost use Rattle.ix_pool.specs.Askings.{asking};
 ghost use Rattle.ix_build.specs.SavingMakers.{make_error_of};
 
-use crate::block_maker::{BlockMaker, block_at};
-use crate::errors::MakeError;
-use crate::maker::{Asked, Maker};
+use crate::block_maker::BlockMaker;
+use crate::blocks::block_at;
 use crate::store::{RunStore, StoreError};
 use crate::watch::Unwatched;
+use ix_pool::{Asked, MakeError, Maker};
 use ix_run::{RunError, RunHead, invert};
 use ix_text::Memory;
 
-/// Inverts the block of a place (IIR 4.3), saves the run in its own store, and gives the run's head alone. A place whose
-/// run the store refuses is refused.
+/// Inverts the block of a place (IIR 4.3), saves the run in its own store, and gives only the run's head. If the store
+/// does not save the run, the place is refused.
 #[derive(Drop)]
 pub(crate) struct SavingMaker<'a, T> {
-    // The blocks, and what was asked. Whoever watches sees the runs arrive in the store.
+    // The blocks, and the askings. Progress is shown by the files, as runs are saved.
     pub(crate) inverter: BlockMaker<'a, Unwatched>,
     pub(crate) store: T,
 }
@@ -31,7 +31,7 @@ fn make_error(error: StoreError) -> MakeError
     }
 }
 
-/// The asking for a place that was refused.
+/// The asking for a place that was not made.
 fn refused(place: usize, error: MakeError) -> Asked
     ensures { result ≡ asking place (Some error) }
 {

@@ -9,10 +9,10 @@ use thiserror::Error;
 /// Why a store did not keep a run, or did not give one back.
 #[derive(Clone, Copy, Debug, PartialEq, Eq, Error)]
 pub enum StoreError {
-    /// The store refused.
+    /// The store failed.
     #[error("Store")]
     Store,
-    /// Memory was refused.
+    /// Out of memory.
     #[error("Memory")]
     Memory,
 }
@@ -31,8 +31,8 @@ impl StoreError {
     }
 }
 
-/// Keeps runs by their places, and gives their bytes back. Several stores may keep theirs in one spot, as in one folder,
-/// so that one of them gives back what another one saved.
+/// Keeps runs by their places, and gives their bytes back. Several stores may share one spot, as one folder, so that one of
+/// them gives back what another one saved.
 pub trait RunStore: Drop + Send {
     /// What the bytes of a run are read by.
     type Reader: Read + Drop + Send;
@@ -40,7 +40,7 @@ pub trait RunStore: Drop + Send {
     // The places that it saved, in order.
     ghost places: { Self → List ℕ };
 
-    // How many calls it refused.
+    // How many of its calls failed.
     ghost refusals: { Self → ℕ };
 
     // The bytes that may come back for a place. No call changes what may: it is a promise for as long as the store lives.
@@ -54,7 +54,7 @@ pub trait RunStore: Drop + Send {
         ensures back { (other : ℕ) (bytes : List ℕ) →
             back self.new other bytes ↔ back self.old other bytes };
 
-    /// A reader of the run of a place, which gives bytes that may come back for it, if it tells them.
+    /// A reader of the run of a place: its bytes, if they are known, may come back for that place.
     fn load(&mut self, place: usize) -> Result<Self::Reader, StoreError>
         ensures given { IfOk result (λ reader.
             IfSome (Self.Reader.remaining reader) (back self.old place)) }
@@ -67,7 +67,7 @@ pub trait RunStore: Drop + Send {
     fn saved(&self) -> &[usize]
         ensures { result.now ≡ places self.now };
 
-    /// How many calls it refused, where the greatest number stands for itself and each one above it.
+    /// How many of its calls failed; `u64::MAX` stands for any greater number too.
     fn faults(&self) -> u64
         ensures { result ≡ refusals self.now };
 }

@@ -1,12 +1,12 @@
-//! Who watches a build as it goes on.
+//! Progress of a build.
 
-/// Whoever wants to know how far a build has come, as one who waits for it does.
+/// Receives progress of a build.
 pub trait Watch: Sync {
-    /// One more block was inverted, of so many in all. Each thread that inverts blocks calls it for its own.
+    /// One more block was inverted, of `blocks` in all. Called in the thread that inverted it.
     fn inverted(&self, blocks: usize);
 }
 
-/// Nobody watches.
+/// Ignores progress.
 pub struct Unwatched;
 
 impl Watch for Unwatched {

@@ -1,5 +1,5 @@
-//! Tests of the calls of `ix_build`, and nothing else. A crate that has tests is proved twice; `ix_build` has none of its own,
-//! and is proved once.
+//! Tests of the calls of `ix_pool` and `ix_build`, and nothing else. A crate that has tests is proved twice; these two have
+//! none of their own, and are proved once.
 #![tactic(auto)]
 
 #[cfg(test)]

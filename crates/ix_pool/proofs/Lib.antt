@@ -1,0 +1,9 @@
+pub mod LowestLemmas
+pub mod OutcomeLemmas
+pub mod ShareLemmas
+pub mod ShiftCounts
+pub mod ShiftLemmas
+pub mod Sums
+pub mod TakingLemmas
+pub mod ThreadLemmas
+pub mod WorkLemmas

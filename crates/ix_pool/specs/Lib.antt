@@ -1,0 +1,10 @@
+pub mod Askings
+pub mod Endings
+pub mod Errors
+pub mod Lowest
+pub mod Outcomes
+pub mod ShareLaws
+pub mod Shares
+pub mod Shifts
+pub mod Taking
+pub mod Working
