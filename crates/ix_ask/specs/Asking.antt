@@ -16,8 +16,8 @@ use Rattle.ix_build.specs.BuildErrors.{IsBuildRefusal}
 use Rattle.ix_build.specs.declared.build_error.BuildError.TheVariants as build_error
 use Rattle.ix_file.specs.declared.open_error.OpenError.TheVariants as open_error
 use Rattle.ix_ask.specs.NameLines.{name_lines, names_read}
-use Rattle.ix_ask.specs.declared.asking.AskError.{AskError}
-use Rattle.ix_ask.specs.declared.asking.AskError.TheVariants as asking
+use Rattle.ix_ask.specs.declared.ask_error.AskError.{AskError}
+use Rattle.ix_ask.specs.declared.ask_error.AskError.TheVariants as asking
 
 -- The query reads as a tree, and these are the numbers of exactly the documents that satisfy it, ascending.
 pub record AreFound (stop : List (List ℕ)) (query : List ℕ) (documents : List NamedText) (numbers : List ℕ) : Type 0 where
@@ -55,28 +55,12 @@ RefusesCollection text error = (error ≡ collection.Memory) ⊎ IsCollectionFau
 abbrev pub IsCollection : List ℕ → Type 0
 IsCollection text = (documents : List NamedText) × IsCollectionText text documents
 
--- Why the documents were not read.
-abbrev pub RefusesText : List ℕ → AskError → Type 0
-RefusesText text (asking.Collection error) = RefusesCollection text error
-RefusesText text (asking.Query error) = ⊥
-RefusesText text (asking.Build error) = ⊥
-RefusesText text (asking.Open error) = ⊥
-RefusesText text asking.Write = ⊥
-RefusesText text asking.Memory = ⊥
-
 -- Why an index of documents gave no numbers: so many workers did not build it, for no refused write, or memory ran out.
 abbrev pub RefusesIndex : ℕ → AskError → Type 0
-RefusesIndex workers (asking.Collection error) = ⊥
-RefusesIndex workers (asking.Query error) = ⊥
 RefusesIndex workers (asking.Build error) = IsBuildRefusal workers error × (error ≢ build_error.Write)
 RefusesIndex workers (asking.Open error) = error ≡ open_error.Memory
-RefusesIndex workers asking.Write = ⊥
 RefusesIndex workers asking.Memory = Unit {0}
-
--- Why the numbers were not found: the text is no query, with this first fault, or the index gave none.
-abbrev pub RefusesInQuery : ℕ → List (List ℕ) → List ℕ → AskError → Type 0
-RefusesInQuery workers stop query (asking.Query error) = Fails error (query_of stop query)
-RefusesInQuery workers stop query error = RefusesIndex workers error
+RefusesIndex workers _ = ⊥
 
 -- Why there is no answer, before anything was written.
 abbrev pub Refuses : ℕ → List ℕ → List (List ℕ) → List ℕ → AskError → Type 0

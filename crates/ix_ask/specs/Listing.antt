@@ -10,8 +10,8 @@ use Rattle.ix_output.specs.Sinks.{AppendsFront}
 use Rattle.ix_gram.specs.Patterns.{HasPiece, HasStar, Matches, pieces_of}
 use Rattle.ix_gram.specs.declared.error.PatternError.{PatternError}
 use Rattle.ix_gram.specs.declared.error.PatternError.TheVariants as pattern_error
-use Rattle.ix_ask.specs.declared.listing.ListingError.{ListingError}
-use Rattle.ix_ask.specs.declared.listing.ListingError.TheVariants as listing
+use Rattle.ix_ask.specs.declared.ask_error.AskError.{AskError}
+use Rattle.ix_ask.specs.declared.ask_error.AskError.TheVariants as asking
 
 -- a term, and a number of documents
 pub record TermRow : Type 0 where
@@ -84,16 +84,15 @@ IsNoPattern pattern pattern_error.BareStar = HasStar pattern × ¬ (HasPiece pat
 IsNoPattern pattern pattern_error.Memory = Unit {0}
 
 -- Why there are no lines, before anything was written.
-abbrev pub RefusesPattern : List ℕ → ListingError → Type 0
-RefusesPattern pattern (listing.Pattern error) = IsNoPattern pattern error
-RefusesPattern pattern listing.Write = ⊥
-RefusesPattern pattern listing.Memory = Unit {0}
+abbrev pub RefusesPattern : List ℕ → AskError → Type 0
+RefusesPattern pattern (asking.Pattern error) = IsNoPattern pattern error
+RefusesPattern pattern asking.Memory = Unit {0}
+RefusesPattern pattern _ = ⊥
 
 -- Why the terms were not listed, and what went out.
-abbrev pub LeavesListing : Collection → List ℕ → Option (List ℕ) → Option (List ℕ) → ListingError → Type 0
-LeavesListing collection pattern old new (listing.Pattern error) = IsNoPattern pattern error × Keeps old new
-LeavesListing collection pattern old new listing.Write = IsPrintCut collection pattern old new
-LeavesListing collection pattern old new listing.Memory = Keeps old new
+abbrev pub LeavesListing : Collection → List ℕ → Option (List ℕ) → Option (List ℕ) → AskError → Type 0
+LeavesListing collection pattern old new asking.Write = IsPrintCut collection pattern old new
+LeavesListing collection pattern old new error = RefusesPattern pattern error × Keeps old new
 
 -- ---- rows by the numbers of terms
 

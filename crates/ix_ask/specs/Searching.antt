@@ -9,8 +9,8 @@ use Rattle.ix_query.specs.Machine.{query_of}
 use Rattle.ix_query.specs.QueryErrors.{Fails}
 use Rattle.ix_query.specs.Scans.{IsScan}
 use Rattle.ix_ask.specs.NameLines.{name_lines, names_indexed}
-use Rattle.ix_ask.specs.declared.searching.SearchError.{SearchError}
-use Rattle.ix_ask.specs.declared.searching.SearchError.TheVariants as searching
+use Rattle.ix_ask.specs.declared.ask_error.AskError.{AskError}
+use Rattle.ix_ask.specs.declared.ask_error.AskError.TheVariants as asking
 
 -- The query reads as a tree under the collection's own stop list, the lines are the names of exactly the documents that
 -- satisfy it, and `count` is how many.
@@ -37,13 +37,12 @@ pub record IsSearchCut (collection : Collection) (query : List ℕ) (old new : O
 
 -- Why nothing was found, before anything was written: the text is no query under the collection's own stop list, with this
 -- first fault, or memory ran out.
-abbrev pub RefusesQuery : Collection → List ℕ → SearchError → Type 0
-RefusesQuery collection query (searching.Query error) = Fails error (query_of collection.stop query)
-RefusesQuery collection query searching.Write = ⊥
-RefusesQuery collection query searching.Memory = Unit {0}
+abbrev pub RefusesQuery : Collection → List ℕ → AskError → Type 0
+RefusesQuery collection query (asking.Query error) = Fails error (query_of collection.stop query)
+RefusesQuery collection query asking.Memory = Unit {0}
+RefusesQuery collection query _ = ⊥
 
 -- Why a question was refused, and what went out.
-abbrev pub LeavesSearch : Collection → List ℕ → Option (List ℕ) → Option (List ℕ) → SearchError → Type 0
-LeavesSearch collection query old new (searching.Query error) = Fails error (query_of collection.stop query) × Keeps old new
-LeavesSearch collection query old new searching.Write = IsSearchCut collection query old new
-LeavesSearch collection query old new searching.Memory = Keeps old new
+abbrev pub LeavesSearch : Collection → List ℕ → Option (List ℕ) → Option (List ℕ) → AskError → Type 0
+LeavesSearch collection query old new asking.Write = IsSearchCut collection query old new
+LeavesSearch collection query old new error = RefusesQuery collection query error × Keeps old new

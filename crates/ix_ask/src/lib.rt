@@ -3,23 +3,25 @@
 #![tactic(auto)]
 
 mod alone;
-mod asking;
-mod inverting;
+mod ask_collection;
+mod ask_error;
+mod invert_part;
 mod laws;
-mod listing;
-mod merging;
+mod list_index;
+mod merge_runs;
 mod names;
 mod output;
 mod refusal;
-mod searching;
+mod search_index;
 
 pub use alone::{ask_alone, index_alone};
-pub use asking::{AskError, ask};
-pub use inverting::run_alone;
+pub use ask_collection::ask;
+pub use ask_error::AskError;
+pub use invert_part::run_alone;
 pub use laws::what_is_built_opens_and_answers;
-pub use listing::{ListingError, find_terms, list_terms};
-pub use merging::merge_alone;
+pub use list_index::{find_terms, list_terms};
+pub use merge_runs::merge_alone;
 pub use names::list_names;
 pub use output::Lines;
 pub use refusal::{Area, EngineRefusal};
-pub use searching::{SearchError, find_names, search};
+pub use search_index::{find_names, search};

@@ -11,7 +11,7 @@ ghost use Rattle.ix_c.specs.Searching.{RefusesFinding, RefusesListing, RefusesMa
 ghost use Rattle.ix_c.specs.Telling.{IsNotUtf8, IsRefused};
 
 use crate::found::{Found, answer, tell, tell_not_utf8};
-use ix_ask::{Area, EngineRefusal, Lines, ListingError, SearchError, find_names, find_terms};
+use ix_ask::{Area, AskError, EngineRefusal, Lines, find_names, find_terms};
 use ix_file::Index;
 use std::alloc::Global;
 use std::str::from_utf8;
@@ -66,7 +66,7 @@ pub(crate) fn find_in(alloc: Global, index: &Index<'_>, query: &str) -> Result<L
 {
     match find_names(alloc, index, query) {
         Ok(names) => Ok(names),
-        Err(SearchError::Query(error)) => Err(EngineRefusal::Query(error)),
+        Err(AskError::Query(error)) => Err(EngineRefusal::Query(error)),
         Err(_) => Err(EngineRefusal::Memory),
     }
 }
@@ -124,7 +124,7 @@ pub(crate) fn match_in(
 {
     match find_terms(alloc, index, pattern) {
         Ok(rows) => Ok(rows),
-        Err(ListingError::Pattern(error)) => Err(EngineRefusal::Pattern(error)),
+        Err(AskError::Pattern(error)) => Err(EngineRefusal::Pattern(error)),
         Err(_) => Err(EngineRefusal::Memory),
     }
 }

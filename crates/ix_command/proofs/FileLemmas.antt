@@ -12,8 +12,8 @@ use Rattle.ix_text.specs.declared.collection.CollectionError.TheVariants.{TooLar
 use Rattle.ix_command.specs.AskedFiles.{IsNoStopText, IsStopHeld, RefusesStop}
 use Rattle.ix_ask.specs.Asking.{IsAnswered, IsCutShort, Leaves, RefusesCollection}
 use Rattle.ix_command.specs.Files.{Holding, IsFront}
-use Rattle.ix_ask.specs.declared.asking.AskError.{AskError}
-use Rattle.ix_ask.specs.declared.asking.AskError.TheVariants as asking
+use Rattle.ix_ask.specs.declared.ask_error.AskError.{AskError}
+use Rattle.ix_ask.specs.declared.ask_error.AskError.TheVariants as asking
 use Rattle.ix_command.specs.declared.refusal.Refusal.{Refusal}
 
 abbrev pub room : ℕ
@@ -64,6 +64,7 @@ leaves_whole workers bytes whole stop query old new (asking.Collection error) cu
 leaves_whole workers bytes whole stop query old new (asking.Query error) cut leaves =
     let same = read_whole bytes whole cut leaves.0.0.1.size in
     ((subst (λ text. (documents : List NamedText) × IsCollectionText text documents) same leaves.0.0, leaves.0.1), leaves.1)
+leaves_whole workers bytes whole stop query old new (asking.Pattern error) cut leaves = leaves
 leaves_whole workers bytes whole stop query old new (asking.Build error) cut leaves = leaves
 leaves_whole workers bytes whole stop query old new (asking.Open error) cut leaves = leaves
 leaves_whole workers bytes whole stop query old new asking.Write cut leaves =

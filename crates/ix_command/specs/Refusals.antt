@@ -4,12 +4,8 @@ use Rattle.std.specs.Char.{digit_char, is_control}
 use Rattle.std.specs.Str.{chars}
 use Rattle.clap.specs.Walk.{Text}
 use Rattle.ix_output.specs.Sinks.{AppendsFront}
-use Rattle.ix_ask.specs.declared.asking.AskError.{AskError}
-use Rattle.ix_ask.specs.declared.asking.AskError.TheVariants as asking
-use Rattle.ix_ask.specs.declared.searching.SearchError.{SearchError}
-use Rattle.ix_ask.specs.declared.searching.SearchError.TheVariants as searching
-use Rattle.ix_ask.specs.declared.listing.ListingError.{ListingError}
-use Rattle.ix_ask.specs.declared.listing.ListingError.TheVariants as listing
+use Rattle.ix_ask.specs.declared.ask_error.AskError.{AskError}
+use Rattle.ix_ask.specs.declared.ask_error.AskError.TheVariants as asking
 use Rattle.ix_ask.specs.EngineRefusals.{error_text, line_of}
 use Rattle.ix_ask.specs.declared.refusal.EngineRefusal.TheVariants as engine
 use Rattle.ix_live.specs.LiveErrors.{live_error_name, live_error_number}
@@ -29,25 +25,12 @@ use Rattle.ix_command.specs.declared.refusal.Refusal.TheVariants as refusal
 abbrev pub Tells : AskError → Refusal → Type 0
 Tells (asking.Collection error) told = told ≡ refusal.Engine (engine.Collection error)
 Tells (asking.Query error) told = told ≡ refusal.Engine (engine.Query error)
+Tells (asking.Pattern error) told = told ≡ refusal.Engine (engine.Pattern error)
 Tells (asking.Build error) told = told ≡ refusal.Engine (engine.Build error)
 Tells (asking.Open error) told = told ≡ refusal.Engine (engine.Index error)
 Tells asking.Write (refusal.Write path) = path.now ≡ codes "-"
 Tells asking.Write _ = ⊥
 Tells asking.Memory told = told ≡ refusal.Engine engine.Memory
-
--- the same of a question to an index
-abbrev pub TellsSearch : SearchError → Refusal → Type 0
-TellsSearch (searching.Query error) told = told ≡ refusal.Engine (engine.Query error)
-TellsSearch searching.Write (refusal.Write path) = path.now ≡ codes "-"
-TellsSearch searching.Write _ = ⊥
-TellsSearch searching.Memory told = told ≡ refusal.Engine engine.Memory
-
--- the same of a listing of terms
-abbrev pub TellsListing : ListingError → Refusal → Type 0
-TellsListing (listing.Pattern error) told = told ≡ refusal.Engine (engine.Pattern error)
-TellsListing listing.Write (refusal.Write path) = path.now ≡ codes "-"
-TellsListing listing.Write _ = ⊥
-TellsListing listing.Memory told = told ≡ refusal.Engine engine.Memory
 
 -- the same of a live index: what was not built is told as it is of `build`
 abbrev pub TellsLive : LiveError → Refusal → Type 0

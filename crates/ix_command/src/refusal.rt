@@ -1,7 +1,7 @@
 //! The one line by which the program says why it refused.
 
 use crate::files::WriteFault;
-use ix_ask::{AskError, EngineRefusal, ListingError, SearchError};
+use ix_ask::{AskError, EngineRefusal};
 use ix_live::LiveError;
 use ix_script::{RunError, ScriptError};
 use std::alloc::{AllocError, Global};
@@ -99,38 +99,11 @@ impl From<AskError> for Refusal<'_> {
         match error {
             AskError::Collection(error) => Refusal::Engine(EngineRefusal::Collection(error)),
             AskError::Query(error) => Refusal::Engine(EngineRefusal::Query(error)),
+            AskError::Pattern(error) => Refusal::Engine(EngineRefusal::Pattern(error)),
             AskError::Build(error) => Refusal::Engine(EngineRefusal::Build(error)),
             AskError::Open(error) => Refusal::Engine(EngineRefusal::Index(error)),
             AskError::Write => Refusal::Write("-"),
             AskError::Memory => Refusal::Engine(EngineRefusal::Memory),
-        }
-    }
-}
-
-impl From<SearchError> for Refusal<'_> {
-    ghost use Rattle.ix_command.specs.Refusals.{TellsSearch};
-
-    ghost from_gives = { TellsSearch };
-
-    fn from(error: SearchError) -> Self {
-        match error {
-            SearchError::Query(error) => Refusal::Engine(EngineRefusal::Query(error)),
-            SearchError::Write => Refusal::Write("-"),
-            SearchError::Memory => Refusal::Engine(EngineRefusal::Memory),
-        }
-    }
-}
-
-impl From<ListingError> for Refusal<'_> {
-    ghost use Rattle.ix_command.specs.Refusals.{TellsListing};
-
-    ghost from_gives = { TellsListing };
-
-    fn from(error: ListingError) -> Self {
-        match error {
-            ListingError::Pattern(error) => Refusal::Engine(EngineRefusal::Pattern(error)),
-            ListingError::Write => Refusal::Write("-"),
-            ListingError::Memory => Refusal::Engine(EngineRefusal::Memory),
         }
     }
 }

@@ -78,11 +78,6 @@ given_text P app name id rows low high such is entered = go (find (λ s. answers
     go None known e = absurd known
     go (Some s) known e = given_in P s rows id low high such known e
 
-pub number_given : (app : App) (name id : Text) (rows : List Row) (low high : ℕ) → high < 2 ^ 32 → parser_at app name id ≡ Some (Signed (pos low) (pos high)) → Entered app name rows
-    → IfSome (one_of id rows) IsNumberText
-number_given app name id rows low high small = given_text IsNumberText app name id rows low high
-    (λ word is. record { word = word; low = low; high = high; read = refl; small = small; in_range = is })
-
 -- the number that such a text is written as is in the range
 in_range : (low high : ℕ) → high < 2 ^ 32 → (word : Text) → IsSignedIn (pos low) (pos high) word → (low ≤ number_of (without_minus word)) × (number_of (without_minus word) ≤ high)
 in_range low high small word is = go (number_of (without_minus word)) refl

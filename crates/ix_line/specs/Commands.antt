@@ -1,5 +1,5 @@
 -- The commands of the program, with their options and operands, as `clap` reads them.
-use Rattle.std.specs.Prelude.{◌∷◌, [], ℤ, List, Some, codes, pos, true}
+use Rattle.std.specs.Prelude.{◌∷◌, [], ℤ, List, Some, codes, fold, pos, true}
 use Rattle.clap.specs.Lexer.{usize_max}
 use Rattle.clap.specs.Simple.{App, Shape, built, new_app, new_rule, new_shape, with_subcommand}
 use Rattle.clap.specs.Walk.{Rule, Text}
@@ -106,10 +106,6 @@ upgrade_shape = record (new_shape (codes "upgrade")) {
 abbrev pub leaf : Shape → App
 leaf s = record { top = s; subs = [] }
 
--- a command of this name that takes the options of a stop list and of a plan, and nothing else yet
-abbrev pub planned : Text → App
-planned name = leaf (record (new_shape name) { rules = with_plan_rules [] })
-
 -- the words after the program's name are given, one of its commands has to be named, and there is
 -- no command `help`
 abbrev pub program : App
@@ -121,10 +117,14 @@ program = record (new_app (codes "ix")) {
   };
 }
 
+-- the commands, in their order
+abbrev pub ix_shapes : List Shape
+ix_shapes =
+    ask_shape ∷ search_shape ∷ terms_shape ∷ run_shape ∷ merge_shape ∷ upgrade_shape ∷ build_shape ∷ live_shape ∷ []
+
+-- the program with its commands
 unfoldable pub ix_app : App
-ix_app =
-    with_subcommand (with_subcommand (with_subcommand (with_subcommand (with_subcommand (with_subcommand (with_subcommand (with_subcommand program ask_shape) search_shape)
-    terms_shape) run_shape) merge_shape) upgrade_shape) build_shape) live_shape
+ix_app = fold with_subcommand program ix_shapes
 
 -- the same with the help flag at both levels and what the rules left out
 abbrev pub ix_built : App

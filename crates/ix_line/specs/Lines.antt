@@ -10,6 +10,7 @@ use Rattle.clap.specs.Walk.{Row, Text, all_of, first_of, one_of}
 use Rattle.clap.specs.Faults.{fault_of}
 use Rattle.clap.specs.Words.{IsAmong, kind_of}
 use Rattle.clap.specs.declared.parser.matches.ArgMatches.{ArgMatches}
+use Rattle.ix_build.specs.Blocks.{cut_number}
 use Rattle.ix_build.specs.Plans.{PlanValue}
 use Rattle.ix_build.specs.declared.plan.Cut.{Cut}
 use Rattle.ix_build.specs.declared.plan.Cut.TheVariants.{Bytes, Docs}
@@ -71,10 +72,11 @@ cut_of (Some documents) None = Some (Docs documents)
 cut_of None (Some bytes) = Some (Bytes bytes)
 cut_of None None = Some (Docs 1024)
 
--- The plan is that of one of the options `--block` and `--bytes`, and of `--workers`, else 4, with its runs in this folder, and
--- without one in memory.
+-- The plan is that of one of the options `--block` and `--bytes`, with at most 2^28 documents or bytes a block, and of `--workers`,
+-- else 4, with its runs in this folder, and without one in memory.
 pub record HasPlan (rows : List Row) (folder : Option Text) (plan : PlanValue) : Type 0 where
   pub cut : cut_of (given_number (codes "block") rows) (given_number (codes "bytes") rows) ≡ Some plan.cut
+  pub few : cut_number plan.cut ≤ 268435456
   pub workers : HasNumberOr (codes "workers") 4 rows plan.workers
   pub folder_is : plan.folder ≡ folder
 
@@ -112,6 +114,7 @@ Holds name rows (Run stop first collection run) = (name ≡ codes "run")
     × HasNumberOr (codes "first") 0 rows first
     × HasOperand (codes "COLLECTION") rows collection
     × HasOperand (codes "RUN") rows run
+    × (first ≤ 268435456)
 Holds name rows (Merge index inputs) = (name ≡ codes "merge")
     × HasOperand (codes "INDEX") rows index
     × HasOperands (codes "INPUT") rows inputs.items

@@ -1,14 +1,10 @@
 //! The commands of the program, as `clap` takes them.
-ghost use Rattle.std.specs.Prelude.{◌≡◌, IfOk};
-ghost use Rattle.clap.specs.Simple.{App, with_rule, with_subcommand};
-ghost use Rattle.clap.specs.Walk.{Rule};
+ghost use Rattle.std.specs.Prelude.{◌≡◌, IfOk, map};
 ghost use Rattle.clap.specs.Words.{app_of};
 ghost use Rattle.ix_line.specs.Building.{IsArgument, IsCommand};
-ghost use Rattle.ix_line.specs.Commands.{ask_shape, build_shape, ix_app, leaf, live_shape, merge_shape};
-ghost use Rattle.ix_line.specs.Commands.{number_rule};
-ghost use Rattle.ix_line.specs.Commands.{operand_rule, operands_rule, option_rule, planned, program, run_shape};
-ghost use Rattle.ix_line.specs.Commands.{search_shape};
-ghost use Rattle.ix_line.specs.Commands.{terms_shape, upgrade_shape};
+ghost use Rattle.ix_line.specs.Commands.{ix_app, ix_shapes, leaf, number_rule, operand_rule, operands_rule};
+ghost use Rattle.ix_line.specs.Commands.{option_rule, program};
+ghost use Rattle.ix_line.specs.Forms.{rule_of_argument, shape_of_form};
 
 use clap::builder::ValueParser;
 use clap::{Arg, Command};
@@ -28,15 +24,102 @@ const MAX_WORKERS: i64 = 64;
 /// How many searchers a live index may have.
 const MAX_SEARCHERS: i64 = 64;
 
+/// An argument of a command.
+pub(crate) enum Argument {
+    /// `--name VALUE` or `--name=VALUE`, at most once.
+    Text(&'static str),
+    /// The same, for a number from the first to the second.
+    Number(&'static str, i64, i64),
+    /// A word that has to be there.
+    Operand(&'static str),
+    /// The words up to the end, of which one has to be there.
+    Operands(&'static str),
+}
+
+/// A command: its name and its arguments.
+pub(crate) struct Form {
+    pub(crate) name: &'static str,
+    pub(crate) arguments: &'static [Argument],
+}
+
 /// The program.
 pub fn ix<'a>(alloc: Global) -> Result<Command<'a>, AllocError>
     ensures { IfOk result (λ r. app_of r ≡ ix_app) }
 {
-    let with_search = with_ask_and_search(alloc, program(alloc))?;
-    let with_run = with_terms_and_run(alloc, with_search)?;
-    let with_upgrade = with_merge_and_upgrade(alloc, with_run)?;
-    let with_live = with_build_and_live(alloc, with_upgrade)?;
-    Ok(with_live)
+    let forms = forms();
+    let mut commands = Vec::new(alloc);
+    for form in forms {
+        commands.push(command(alloc, form)?)?;
+    }
+    let made = program(alloc).subcommands(commands)?;
+    Ok(made)
+}
+
+// The commands, in the order of the program's help.
+fn forms() -> &'static [Form]
+    ensures { map shape_of_form result.now ≡ ix_shapes }
+{
+    &[
+        Form {
+            name: "ask",
+            arguments: &[
+                Argument::Text("stop"),
+                Argument::Number("block", 1, MOST_DOCUMENTS),
+                Argument::Number("bytes", 1, MOST_BYTES),
+                Argument::Number("workers", 1, MAX_WORKERS),
+                Argument::Operand("COLLECTION"),
+                Argument::Operand("QUERY"),
+            ],
+        },
+        Form {
+            name: "search",
+            arguments: &[Argument::Operand("INDEX"), Argument::Operand("QUERY")],
+        },
+        Form {
+            name: "terms",
+            arguments: &[Argument::Operand("INDEX"), Argument::Operand("PATTERN")],
+        },
+        Form {
+            name: "run",
+            arguments: &[
+                Argument::Text("stop"),
+                Argument::Number("first", 0, MOST_DOCUMENTS),
+                Argument::Operand("COLLECTION"),
+                Argument::Operand("RUN"),
+            ],
+        },
+        Form {
+            name: "merge",
+            arguments: &[Argument::Operand("INDEX"), Argument::Operands("INPUT")],
+        },
+        Form {
+            name: "upgrade",
+            arguments: &[Argument::Operand("OLD"), Argument::Operand("NEW")],
+        },
+        Form {
+            name: "build",
+            arguments: &[
+                Argument::Text("stop"),
+                Argument::Number("block", 1, MOST_DOCUMENTS),
+                Argument::Number("bytes", 1, MOST_BYTES),
+                Argument::Number("workers", 1, MAX_WORKERS),
+                Argument::Text("runs"),
+                Argument::Operand("COLLECTION"),
+                Argument::Operand("INDEX"),
+            ],
+        },
+        Form {
+            name: "live",
+            arguments: &[
+                Argument::Text("stop"),
+                Argument::Number("block", 1, MOST_DOCUMENTS),
+                Argument::Number("bytes", 1, MOST_BYTES),
+                Argument::Number("workers", 1, MAX_WORKERS),
+                Argument::Number("searchers", 1, MAX_SEARCHERS),
+                Argument::Operand("SCRIPT"),
+            ],
+        },
+    ]
 }
 
 // The program without a command.
@@ -49,159 +132,30 @@ fn program<'a>(alloc: Global) -> Command<'a>
         .subcommand_required(true)
 }
 
-fn with_ask_and_search<'a>(alloc: Global, command: Command<'a>) -> Result<Command<'a>, AllocError>
-    ensures { IfOk result (λ made. app_of made
-        ≡ with_subcommand (with_subcommand (app_of command.entry) ask_shape) search_shape) }
+// A command with its arguments.
+fn command<'a>(alloc: Global, form: &Form) -> Result<Command<'a>, AllocError>
+    ensures { IfOk result (IsCommand (leaf (shape_of_form form.now))) }
 {
-    let with_ask = command.subcommand(ask(alloc)?)?;
-    let with_search = with_ask.subcommand(search(alloc)?)?;
-    Ok(with_search)
+    let mut arguments = Vec::new(alloc);
+    for argument in form.arguments {
+        arguments.push(arg(alloc, argument))?;
+    }
+    let made = Command::new(alloc, form.name).args(arguments)?;
+    Ok(made)
 }
 
-fn with_terms_and_run<'a>(alloc: Global, command: Command<'a>) -> Result<Command<'a>, AllocError>
-    ensures { IfOk result (λ made. app_of made
-        ≡ with_subcommand (with_subcommand (app_of command.entry) terms_shape) run_shape) }
+// An argument, as `clap` takes it.
+fn arg<'a>(alloc: Global, argument: &Argument) -> Arg<'a>
+    ensures { IsArgument (rule_of_argument argument.now) result }
 {
-    let with_terms = command.subcommand(terms(alloc)?)?;
-    let with_run = with_terms.subcommand(run(alloc)?)?;
-    Ok(with_run)
+    match argument {
+        Argument::Text(name) => option(alloc, name),
+        Argument::Number(name, low, high) => number_option(alloc, name, *low, *high),
+        Argument::Operand(name) => operand(alloc, name),
+        Argument::Operands(name) => operands(alloc, name),
+    }
 }
 
-fn with_merge_and_upgrade<'a>(
-    alloc: Global,
-    command: Command<'a>,
-) -> Result<Command<'a>, AllocError>
-    ensures { IfOk result (λ made. app_of made
-        ≡ with_subcommand (with_subcommand (app_of command.entry) merge_shape) upgrade_shape) }
-{
-    let with_merge = command.subcommand(merge(alloc)?)?;
-    let with_upgrade = with_merge.subcommand(upgrade(alloc)?)?;
-    Ok(with_upgrade)
-}
-
-fn with_build_and_live<'a>(alloc: Global, command: Command<'a>) -> Result<Command<'a>, AllocError>
-    ensures { IfOk result (λ made. app_of made
-        ≡ with_subcommand (with_subcommand (app_of command.entry) build_shape) live_shape) }
-{
-    let with_build = command.subcommand(build(alloc)?)?;
-    let with_live = with_build.subcommand(live(alloc)?)?;
-    Ok(with_live)
-}
-
-// The command with two more arguments.
-fn with_two<'a>(
-    command: Command<'a>,
-    one: Arg<'a>,
-    other: Arg<'a>,
-) -> Result<Command<'a>, AllocError>
-    ensures { IfOk result (λ made. (app : App) (rule second : Rule)
-        → IsCommand app command.entry → IsArgument rule one.entry → IsArgument second other.entry
-        → IsCommand (with_rule (with_rule app rule) second) made) }
-{
-    let with_one = command.arg(one)?;
-    let with_both = with_one.arg(other)?;
-    Ok(with_both)
-}
-
-// A command of this name that takes the options of a stop list and of a plan.
-fn planned<'a>(alloc: Global, name: &'a str) -> Result<Command<'a>, AllocError>
-    ensures { IfOk result (IsCommand (planned name.entry.now)) }
-{
-    let plain = Command::new(alloc, name);
-    let stop = option(alloc, "stop");
-    let block = number_option(alloc, "block", 1, MOST_DOCUMENTS);
-    let with_block = with_two(plain, stop, block)?;
-    let bytes = number_option(alloc, "bytes", 1, MOST_BYTES);
-    let workers = number_option(alloc, "workers", 1, MAX_WORKERS);
-    let with_workers = with_two(with_block, bytes, workers)?;
-    Ok(with_workers)
-}
-
-fn ask<'a>(alloc: Global) -> Result<Command<'a>, AllocError>
-    ensures { IfOk result (IsCommand (leaf ask_shape)) }
-{
-    let with_plan = planned(alloc, "ask")?;
-    let with_query = with_two(
-        with_plan,
-        operand(alloc, "COLLECTION"),
-        operand(alloc, "QUERY"),
-    )?;
-    Ok(with_query)
-}
-
-fn build<'a>(alloc: Global) -> Result<Command<'a>, AllocError>
-    ensures { IfOk result (IsCommand (leaf build_shape)) }
-{
-    let with_plan = planned(alloc, "build")?;
-    let with_collection = with_two(
-        with_plan,
-        option(alloc, "runs"),
-        operand(alloc, "COLLECTION"),
-    )?;
-    let with_index = with_collection.arg(operand(alloc, "INDEX"))?;
-    Ok(with_index)
-}
-
-fn live<'a>(alloc: Global) -> Result<Command<'a>, AllocError>
-    ensures { IfOk result (IsCommand (leaf live_shape)) }
-{
-    let with_plan = planned(alloc, "live")?;
-    let searchers = number_option(alloc, "searchers", 1, MAX_SEARCHERS);
-    let with_script = with_two(with_plan, searchers, operand(alloc, "SCRIPT"))?;
-    Ok(with_script)
-}
-
-#[tactic(auto, using(crate::proofs::Building::adds_argument))]
-fn search<'a>(alloc: Global) -> Result<Command<'a>, AllocError>
-    ensures { IfOk result (IsCommand (leaf search_shape)) }
-{
-    Command::new(alloc, "search")
-        .arg(operand(alloc, "INDEX"))?
-        .arg(operand(alloc, "QUERY"))
-}
-
-#[tactic(auto, using(crate::proofs::Building::adds_argument))]
-fn terms<'a>(alloc: Global) -> Result<Command<'a>, AllocError>
-    ensures { IfOk result (IsCommand (leaf terms_shape)) }
-{
-    Command::new(alloc, "terms")
-        .arg(operand(alloc, "INDEX"))?
-        .arg(operand(alloc, "PATTERN"))
-}
-
-fn run<'a>(alloc: Global) -> Result<Command<'a>, AllocError>
-    ensures { IfOk result (IsCommand (leaf run_shape)) }
-{
-    let plain = Command::new(alloc, "run");
-    let first = number_option(alloc, "first", 0, MOST_DOCUMENTS);
-    let with_first = with_two(plain, option(alloc, "stop"), first)?;
-    let with_run = with_two(
-        with_first,
-        operand(alloc, "COLLECTION"),
-        operand(alloc, "RUN"),
-    )?;
-    Ok(with_run)
-}
-
-#[tactic(auto, using(crate::proofs::Building::adds_argument))]
-fn merge<'a>(alloc: Global) -> Result<Command<'a>, AllocError>
-    ensures { IfOk result (IsCommand (leaf merge_shape)) }
-{
-    Command::new(alloc, "merge")
-        .arg(operand(alloc, "INDEX"))?
-        .arg(operands(alloc, "INPUT"))
-}
-
-#[tactic(auto, using(crate::proofs::Building::adds_argument))]
-fn upgrade<'a>(alloc: Global) -> Result<Command<'a>, AllocError>
-    ensures { IfOk result (IsCommand (leaf upgrade_shape)) }
-{
-    Command::new(alloc, "upgrade")
-        .arg(operand(alloc, "OLD"))?
-        .arg(operand(alloc, "NEW"))
-}
-
-// `--name VALUE` or `--name=VALUE`, at most once.
 fn option<'a>(alloc: Global, name: &'a str) -> Arg<'a>
     ensures { IsArgument (option_rule name.entry.now) result }
 {
@@ -209,7 +163,6 @@ fn option<'a>(alloc: Global, name: &'a str) -> Arg<'a>
     Arg::new(alloc, name).long(name).value_name("VALUE")
 }
 
-// The same, for a number from `low` to `high`.
 fn number_option<'a>(alloc: Global, name: &'a str, low: i64, high: i64) -> Arg<'a>
     ensures { IsArgument (number_rule name.entry.now low high) result }
 {
@@ -219,14 +172,12 @@ fn number_option<'a>(alloc: Global, name: &'a str, low: i64, high: i64) -> Arg<'
         .value_parser(ValueParser::signed(low, high))
 }
 
-// A word that has to be there.
 fn operand<'a>(alloc: Global, name: &'a str) -> Arg<'a>
     ensures { IsArgument (operand_rule name.entry.now) result }
 {
     Arg::new(alloc, name).required(true)
 }
 
-// The words up to the end, of which one has to be there.
 fn operands<'a>(alloc: Global, name: &'a str) -> Arg<'a>
     ensures { IsArgument (operands_rule name.entry.now) result }
 {

@@ -68,11 +68,11 @@ fn writes_refused_at_each_byte(rt: HostRuntime) -> Result<(), Fail> {
     let names = b"a\nb\nd\n".as_slice();
     for room in 0..=names.len() {
         let (answer, taken) = asked(&rt, rt.alloc(), FIVE, "y", room, false)?;
-        assert!(rt; answer == Err(AskError::Write), "{room}");
+        assert!(rt; matches!(answer, Err(AskError::Write)), "{room}");
         assert!(rt; names.starts_with(&taken) && taken.len() == room, "{room}");
     }
     let (answer, taken) = asked(&rt, rt.alloc(), FIVE, "y", 9, true)?;
-    assert!(rt; answer == Ok(3) && taken.as_slice() == names);
+    assert!(rt; matches!(answer, Ok(3)) && taken.as_slice() == names);
     for (text, query) in [(FIVE, "x y"), (b"no tab\n".as_slice(), "y")] {
         let (answer, taken) = asked(&rt, rt.alloc(), text, query, 9, true)?;
         assert!(rt; answer.is_err() && taken.is_empty());

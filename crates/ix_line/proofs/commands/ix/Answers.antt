@@ -1,12 +1,26 @@
--- Two commands at a time are added to those before them.
-use Rattle.ix_line.specs.Commands.{ix_app}
-use Rattle.ix_line.proofs.Building.{adds_both}
+-- Each row adds its command.
+use Rattle.std.proofs.Common.{◌∙◌, ◌+◌, List, ap, arith, subst, sym, take}
+use Rattle.std.proofs.lemmas.List.{take_all}
+use Rattle.std.specs.Prelude.{fold}
+use Rattle.std.specs.List.{AllZip}
+use Rattle.clap.specs.Simple.{with_subcommand}
+use Rattle.clap.specs.declared.builder.command.Command.{Command}
+use Rattle.ix_line.specs.Commands.{ix_app, program}
+use Rattle.ix_line.specs.declared.commands.Form.{Form}
+use Rattle.ix_line.proofs.Building.{IsCommandOf, adds_subcommands, each_more}
 use Rattle.ix_line.proofs.commands.ix.Goals as goal
+
+pub loop-form-preserved : goal.loop-form-preserved
+loop-form-preserved c =
+    let forms = c.forms-forms.result.now in
+    let i = c.loop-form.form-index in
+    let more = each_more IsCommandOf forms c.loop-form.commands.items i _ c.in_ok-command.field-0 c.loop-form-test.true c.loop-form.invariant c.in_ok-command.ensures in
+    subst (λ (made : List Command). AllZip IsCommandOf (take (i + 1) forms) made) (sym {A = List Command} c.in_ok-push.ensures.items) more
 
 pub returns : goal.returns
 unfolding ix_app
 returns c =
-    let with_search = adds_both _ _ c.in_ok-with_search.ensures c.program.ensures in
-    let with_run = adds_both _ _ c.in_ok-with_run.ensures with_search in
-    let with_upgrade = adds_both _ _ c.in_ok-with_upgrade.ensures with_run in
-    adds_both _ _ c.in_ok-with_live.ensures with_upgrade
+    let forms = c.forms-forms.result.now in
+    let all = subst (λ (xs : List Form). AllZip IsCommandOf xs c.loop-form.commands.items) (take_all c.loop-form.form-index forms (omega (arith, c.loop-form-test.false))) c.loop-form.invariant in
+    adds_subcommands forms c.loop-form.commands.items c.program.result c.in_ok-made.made program all c.program.ensures c.in_ok-made.ensures
+    ∙ ap (fold with_subcommand program) c.forms-forms.ensures
