@@ -1,0 +1,7 @@
+pub mod Drafts
+pub mod Locations
+pub mod Opened
+pub mod RunNames
+pub mod Slots
+pub mod Steps
+pub mod Views
