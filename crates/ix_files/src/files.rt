@@ -1,6 +1,6 @@
 //! Files by their paths.
 
-ghost use Rattle.std.specs.Prelude.{◌≡◌, ◌≢◌, ◌≤◌, ◌<◌, ◌⊎◌, ℕ, List, [], Some, false, IfErr, IfOk, OnErr, OnOk};
+ghost use Rattle.std.specs.Prelude.{◌≡◌, ◌≢◌, ◌≤◌, ◌<◌, ◌⊎◌, ℕ, List, [], Some, false, IfErr, IfOk, IfSome, OnErr, OnOk};
 ghost use Rattle.ix_files.specs.Locations.{place_of};
 ghost use Rattle.ix_files.specs.Opened.{IsKindOf, IsOpened, IsReadError};
 ghost use Rattle.ix_files.specs.Slots.{Nothing, Slots, Stops};
@@ -36,6 +36,9 @@ pub trait Files {
 
     // what is known of them
     ghost view: { Self → View };
+
+    // The device or the pipe of this path was ended with these bytes.
+    ghost sent: { Self → List ℕ → List ℕ → Type 0 };
 
     // The system did not let this path be looked at or read.
     ghost failed: { Self → List ℕ → Type 0 };
@@ -145,15 +148,24 @@ pub trait Files {
         ensures call { Calls (Settles folder.now) (view self.old) (view self.new) }
         ensures cause { OnErr result ((view self.new).honest → (view self.old).faults < (view self.new).faults) };
 
-    /// A writer into the device or the pipe that a path leads to.
+    /// A writer into the device or the pipe that a path leads to; `-` is the standard output.
     ///
     /// # Errors
     /// `Memory`; `Failed`.
     fn open_stream(&mut self, path: &str) -> Result<Self::Writer, FileError>
         ensures opened { IfOk result (λ writer. (view self.new).honest
             → Self.Writer.contents writer ≡ Some []) }
-        ensures call { Calls (Overwrites ((view self.old).place path.now)) (view self.old) (view self.new) }
+        ensures call { Calls (Overwrites ((view self.old).place path.now)) (view self.old)
+            (view self.new) }
         ensures cause { HasCause (view self.old) (view self.new) result };
+
+    /// Ends a device or a pipe with what was written into it.
+    ///
+    /// # Errors
+    /// `Failed`.
+    fn close_stream(&mut self, path: &str, writer: Self::Writer) -> Result<(), FileError>
+        ensures sent { OnOk result (IfSome (Self.Writer.contents writer) (sent self.new path.now)) }
+        ensures call { Calls Stays (view self.old) (view self.new) };
 
     /// The files of this many runs in a folder. From here on nothing is known of what is at their names.
     ///
