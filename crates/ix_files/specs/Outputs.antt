@@ -37,3 +37,7 @@ LeavesOthers path old new = (place : Place) → place ≢ old.place path → ¬ 
 -- what is at the name to which the path leads stays
 abbrev pub LeavesTarget : List ℕ → View → View → Type 0
 LeavesTarget path old new = (new.slots (old.place path)).now ≡ (old.slots (old.place path)).now
+
+-- this text is at the name to which the path leads; a crash may bring back what was there
+abbrev pub now_in : View → View → List ℕ → List ℕ → Type 0
+now_in old new path text = (new.slots (old.place path)).now ≡ Kept text
