@@ -5,4 +5,6 @@ pub mod Outputs
 pub mod RunNames
 pub mod Slots
 pub mod Steps
+pub mod StopLaws
+pub mod SystemViews
 pub mod Views

@@ -51,3 +51,12 @@ impl Location {
         Ok(Location { folder, name })
     }
 }
+
+/// The folder of a path, and the name in it.
+pub(crate) fn split(path: &str) -> (&str, &str) {
+    match path.rsplit_once('/') {
+        Some(("", name)) => ("/", name),
+        Some((folder, name)) => (folder, name),
+        None => (".", path),
+    }
+}
