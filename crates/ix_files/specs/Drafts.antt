@@ -1,0 +1,68 @@
+-- A new file beside the one that it will replace, and what a stop leaves of the one.
+use Rattle.std.specs.Prelude.{◌≡◌, ◌≢◌, ◌≤◌, ◌<◌, ◌+◌, ◌⊎◌, ℕ, List, [], ◌∷◌, ◌++◌, codes, decimal, Some, length}
+use Rattle.std.specs.Io.{StartsWith}
+use Rattle.ix_files.specs.Locations.{place_of}
+use Rattle.ix_files.specs.Slots.{Entry, Growing, Kept, MayLeave, Nothing, Place, Slot, Slots, at_rest, entered}
+use Rattle.ix_files.specs.Views.{LeavesOnly, View}
+use Rattle.ix_files.specs.declared.draft.Draft.{Draft}
+
+-- The name of a draft, by its number, of a file of this name, of which a beginning has to do if it is long.
+pub record IsDraftName (name draft : List ℕ) : Type 0 where
+  pub number : ℕ
+  pub some : 0 < number
+  pub front : List ℕ
+  pub begins : StartsWith name front
+  pub spelled : draft ≡ codes "." ++ front ++ codes ".ix-" ++ decimal number
+  pub short : length draft ≤ 255
+
+-- It is one of the names that drafts of this file may have.
+pub record IsDraftPlace (target place : Place) : Type 0 where
+  pub folder : place.folder ≡ target.folder
+  pub name : IsDraftName target.name place.name
+  pub another : place ≢ target
+
+-- what the draft will replace
+abbrev pub target_of : {W : Type 0} → Draft W → Place
+target_of draft = place_of draft.target
+
+-- its own name
+abbrev pub own_of : {W : Type 0} → Draft W → Place
+own_of draft = place_of draft.own
+
+-- A stop leaves this at a name.
+abbrev pub StopsAt : Slot → Slot → Type 0
+StopsAt slot left = (left ≡ slot) ⊎ ((entry : Entry) × MayLeave slot entry × (left ≡ at_rest entry))
+
+-- At the name is the new text whole, or what a stop could leave before.
+abbrev pub IsOldOrNew : Slot → List ℕ → Slot → Type 0
+IsOldOrNew slot text left = (left.now ≡ Kept text) ⊎ StopsAt slot left
+
+-- So drafts of this file come and go: all other names stay, and also a stop leaves at them what it could leave before.
+pub record ChangesDrafts (target : Place) (old new : View) : Type 0 where
+  pub others : new.honest → (place : Place) → ¬ (IsDraftPlace target place) → new.slots place ≡ old.slots place
+  pub any_moment : new.honest → (place : Place) → ¬ (IsDraftPlace target place)
+      → LeavesOnly (λ left. StopsAt (old.slots place) (left place)) old new
+
+-- A draft of this file was begun: it is at a name that had no file.
+pub record IsBegun (target own : Place) (new : View) : Type 0 where
+  pub draft : IsDraftPlace target own
+  pub growing : (new.slots own).now ≡ Growing
+
+-- What the draft was to replace is the draft's text, on the disk, and no crash brings back what was there; the draft's own name
+-- is free; and what is at each other name stays.
+pub record IsFinished (target own : Place) (text : List ℕ) (old new : View) : Type 0 where
+  pub there : new.slots target ≡ at_rest (Kept text)
+  pub gone : (new.slots own).now ≡ Nothing
+  pub others : (place : Place) → place ≢ target → place ≢ own → (new.slots place).now ≡ (old.slots place).now
+
+-- The draft did not surely take its place: there is what was there, or, if the folder could not be synced, the draft's text. Its
+-- own name is free, or the system failed once more. What is at each other name stays.
+pub record IsUnfinished (target own : Place) (text : List ℕ) (old new : View) : Type 0 where
+  pub there : (new.slots target ≡ old.slots target) ⊎ ((new.slots target).now ≡ Kept text)
+  pub gone : ((new.slots own).now ≡ Nothing) ⊎ (old.faults + 2 ≤ new.faults)
+  pub others : (place : Place) → place ≢ target → place ≢ own → (new.slots place).now ≡ (old.slots place).now
+
+-- The draft is gone, or the system failed; what is at each other name stays.
+pub record IsDiscarded (own : Place) (old new : View) : Type 0 where
+  pub gone : ((new.slots own).now ≡ Nothing) ⊎ (old.faults < new.faults)
+  pub others : (place : Place) → place ≢ own → new.slots place ≡ old.slots place

@@ -1,0 +1,142 @@
+//! Replacing a file: the new one is written beside the old one, and takes its place once it is on the disk.
+
+ghost use Rattle.std.specs.Prelude.{◌≡◌, ◌≢◌, ◌<◌, ℕ, List, [], Some, IfOk, OnErr, OnOk, string_bytes};
+ghost use Rattle.ix_files.specs.Drafts.{ChangesDrafts, IsBegun, IsDiscarded, IsDraftName, IsDraftPlace, IsFinished, IsOldOrNew, IsUnfinished, StopsAt, own_of, target_of};
+ghost use Rattle.ix_files.specs.Locations.{place_of};
+ghost use Rattle.ix_files.specs.Slots.{Growing};
+ghost use Rattle.ix_files.specs.Views.{GoesOn, LeavesOnly};
+
+use crate::file_error::FileError;
+use crate::files::Files;
+use crate::location::Location;
+use std::alloc::{AllocError, Global};
+
+/// How many bytes a file's name has, at most.
+const NAME_BYTES: usize = 255;
+
+/// A new file that is to take the place of another. It is called `.NAME.ix-N`, in the same folder.
+#[derive(Drop)]
+pub struct Draft<W> {
+    /// What it will replace.
+    pub(crate) target: Location,
+    /// Its own name.
+    pub(crate) own: Location,
+    /// Writes it.
+    pub writer: W,
+}
+
+/// Begins a new file that is to take the place of the one at this name, with that one's owner and mode. Files that a program
+/// left there which was killed are removed; one that another program writes is left alone.
+///
+/// # Errors
+/// `Memory`; `Failed`; `Exists` if each name is taken. What is at the name is untouched.
+pub fn begin<F: Files>(
+    alloc: Global,
+    files: &mut F,
+    target: Location,
+) -> Result<Draft<F::Writer>, FileError>
+    ensures begun { IfOk result (λ draft. (F.view files.new).honest
+        → IsBegun (place_of target) (own_of draft) (F.view files.new)) }
+    ensures target { IfOk result (λ draft. target_of draft ≡ place_of target) }
+    ensures empty { IfOk result (λ draft. (F.view files.new).honest
+        → F.Writer.contents draft.writer ≡ Some []) }
+    ensures changes { ChangesDrafts (place_of target) (F.view files.old) (F.view files.new) }
+    ensures goes_on { GoesOn (F.view files.old) (F.view files.new) }
+{
+    for number in 1..=u32::MAX {
+        let name = draft_name(alloc, target.name(), number)?;
+        if name.as_str() == target.name() {
+            continue;
+        }
+        let own = target.beside(alloc, name)?;
+        match files.create(&own) {
+            Ok(writer) => {
+                files.dress(&own, &target);
+                return Ok(Draft {
+                    target,
+                    own,
+                    writer,
+                });
+            }
+            Err(FileError::Exists) => {
+                let _removed = files.remove_unlocked(&own);
+            }
+            Err(error) => return Err(error),
+        }
+    }
+    Err(FileError::Exists)
+}
+
+/// Puts the new file on the disk and in the place of the old one. A stop at any moment leaves the old one, or the new one whole.
+///
+/// # Errors
+/// `Failed`. The old one is untouched and the new one removed, if it can be; or, if the folder could not be synced, the new one is
+/// in its place.
+pub fn finish<F: Files>(files: &mut F, draft: Draft<F::Writer>) -> Result<(), FileError>
+    requires apart { target_of draft ≢ own_of draft }
+    requires folder { (target_of draft).folder ≡ (own_of draft).folder }
+    ensures done { OnOk result ((F.view files.new).honest → (text : List ℕ)
+        → F.Writer.contents draft.writer ≡ Some text
+        → IsFinished (target_of draft) (own_of draft) text (F.view files.old) (F.view files.new)) }
+    ensures undone { OnErr result ((F.view files.new).honest
+        → ((F.view files.old).slots (own_of draft)).now ≡ Growing
+        → (text : List ℕ) → F.Writer.contents draft.writer ≡ Some text
+        → IsUnfinished (target_of draft) (own_of draft) text (F.view files.old) (F.view files.new)) }
+    ensures any_moment { (F.view files.new).honest → (text : List ℕ)
+        → F.Writer.contents draft.writer ≡ Some text
+        → LeavesOnly (λ left. IsOldOrNew ((F.view files.old).slots (target_of draft)) text
+        (left (target_of draft))) (F.view files.old) (F.view files.new) }
+    ensures goes_on { GoesOn (F.view files.old) (F.view files.new) }
+{
+    let Draft {
+        target,
+        own,
+        writer,
+    } = draft;
+    let held = match files.sync(&own, writer) {
+        Ok(held) => held,
+        Err(error) => {
+            let _removed = files.remove(&own);
+            return Err(error);
+        }
+    };
+    if let Err(error) = files.rename(&own, &target) {
+        let _removed = files.remove(&own);
+        return Err(error);
+    }
+    files.sync_folder(target.folder())?;
+    // The new file stays locked until it has its name.
+    drop(held);
+    Ok(())
+}
+
+/// Gives the new file up. The old one is untouched.
+pub fn discard<F: Files>(files: &mut F, draft: Draft<F::Writer>)
+    ensures discarded { (F.view files.new).honest
+        → ((F.view files.old).slots (own_of draft)).now ≡ Growing
+        → IsDiscarded (own_of draft) (F.view files.old) (F.view files.new) }
+    ensures any_moment { (F.view files.new).honest
+        → target_of draft ≢ own_of draft
+        → LeavesOnly (λ left. StopsAt ((F.view files.old).slots (target_of draft))
+        (left (target_of draft))) (F.view files.old) (F.view files.new) }
+    ensures goes_on { GoesOn (F.view files.old) (F.view files.new) }
+{
+    let _removed = files.remove(&draft.own);
+}
+
+/// The name of a draft of a file, by its number.
+fn draft_name(alloc: Global, name: &str, number: u32) -> Result<String, AllocError>
+    requires { 0 < number }
+    ensures { IfOk result (λ draft. IsDraftName name.now (string_bytes draft)) }
+{
+    let end = format!(in alloc; ".ix-{number}")?;
+    let mut draft = String::from_str(alloc, ".")?;
+    draft.push_str(front_of(name, NAME_BYTES - 1 - end.len()))?;
+    draft.push_str(end.as_str())?;
+    Ok(draft)
+}
+
+/// The characters of a text that its first `room` bytes hold whole.
+fn front_of(text: &str, room: usize) -> &str {
+    text
+}

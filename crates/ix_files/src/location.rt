@@ -1,0 +1,62 @@
+//! A name in a folder.
+
+ghost use Rattle.std.specs.Prelude.{◌≡◌, IfOk};
+ghost use Rattle.std.specs.String.{string_bytes};
+ghost use Rattle.ix_files.specs.Locations.{place_of};
+
+use std::alloc::{AllocError, Global};
+use std::path::{Path, PathBuf};
+
+/// A name in a folder, and no link: what a path led to. Those of one folder have the same path of it.
+#[derive(Drop)]
+pub struct Location {
+    folder: String,
+    name: String,
+}
+
+impl Location {
+    /// The name in the folder of this path, which leads through no links and dots, and is the same for each name in it.
+    pub fn new(folder: String, name: String) -> Location
+        ensures folder { (place_of result).folder ≡ string_bytes folder }
+        ensures name { (place_of result).name ≡ string_bytes name }
+    {
+        Location { folder, name }
+    }
+
+    /// The path of the folder.
+    pub fn folder(&self) -> &str
+        ensures { result.now ≡ (place_of self.now).folder }
+    {
+        self.folder.as_str()
+    }
+
+    /// The name.
+    pub fn name(&self) -> &str
+        ensures { result.now ≡ (place_of self.now).name }
+    {
+        self.name.as_str()
+    }
+
+    /// The path: that of the folder, and the name.
+    pub fn path(&self, alloc: Global) -> Result<PathBuf, AllocError> {
+        Path::new(self.folder.as_str()).join(alloc, self.name.as_str())
+    }
+
+    /// Another name in the same folder.
+    pub fn beside(&self, alloc: Global, name: String) -> Result<Location, AllocError>
+        ensures folder { IfOk result (λ beside. (place_of beside).folder ≡ (place_of self.now).folder) }
+        ensures name { IfOk result (λ beside. (place_of beside).name ≡ string_bytes name) }
+    {
+        let folder = String::from_str(alloc, self.folder.as_str())?;
+        Ok(Location { folder, name })
+    }
+}
+
+/// The folder of a path, and the name in it.
+pub(crate) fn split(path: &str) -> (&str, &str) {
+    match path.rsplit_once('/') {
+        Some(("", name)) => ("/", name),
+        Some((folder, name)) => (folder, name),
+        None => (".", path),
+    }
+}

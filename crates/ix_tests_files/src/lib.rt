@@ -1,0 +1,8 @@
+//! Tests of `ix_files`, and nothing else: outputs over files of the system. A crate that has tests is proved twice; `ix_files` has
+//! none of its own, and is proved once.
+#![tactic(auto)]
+
+#[cfg(test)]
+mod system;
+#[cfg(test)]
+mod writing;
