@@ -1,7 +1,6 @@
 -- What a call does to the files: each step says what is new at which name, and that the others stay.
 use Rattle.std.specs.Prelude.{◌≡◌, ◌≢◌, List, ℕ, Option, Some}
 use Rattle.ix_files.specs.Slots.{Entry, Place, Slot, Slots, Growing, Kept, Nothing, IsSame, IsSameBut, at_rest, entered}
-use Rattle.ix_files.specs.RunNames.{IsRunPlace}
 
 -- A new file is there, which is being written.
 pub record Creates (place : Place) (old new : Slots) : Type 0 where
@@ -37,11 +36,6 @@ pub record Overwrites (place : Place) (old new : Slots) : Type 0 where
   pub none : (old place).now ≡ Nothing → new place ≡ old place
   pub file : (old place).now ≢ Nothing → new place ≡ entered (old place) Growing
   pub elsewhere : IsSameBut place old new
-
--- The names of this many runs in a folder are given away: whoever has them may write any files there.
-pub record Lends (folder : List ℕ) (count : ℕ) (old new : Slots) : Type 0 where
-  pub lent : (place : Place) → IsRunPlace folder count place → new place ≡ entered (old place) Growing
-  pub elsewhere : (place : Place) → ¬ (IsRunPlace folder count place) → new place ≡ old place
 
 -- nothing
 abbrev pub Stays : Slots → Slots → Type 0

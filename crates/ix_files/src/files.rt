@@ -4,13 +4,12 @@ ghost use Rattle.std.specs.Prelude.{◌≡◌, ◌≢◌, ◌≤◌, ◌<◌, �
 ghost use Rattle.ix_files.specs.Locations.{place_of};
 ghost use Rattle.ix_files.specs.Opened.{IsKindOf, IsOpened, IsReadError};
 ghost use Rattle.ix_files.specs.Slots.{Nothing, Slots, Stops};
-ghost use Rattle.ix_files.specs.Steps.{Creates, Lends, Overwrites, Removes, Renames, Settles, Stays, Syncs};
+ghost use Rattle.ix_files.specs.Steps.{Creates, Overwrites, Removes, Renames, Settles, Stays, Syncs};
 ghost use Rattle.ix_files.specs.Views.{Calls, HasCause, View};
 
 use crate::file_error::FileError;
 use crate::kind::Kind;
 use crate::location::Location;
-use crate::runs::RunFolder;
 use std::io::{Read, Write};
 
 /// Files by their paths.
@@ -19,8 +18,8 @@ use std::io::{Read, Write};
 /// nothing else changes. The others are answered as the files are. Both hold if the system is honest, in all calls to the end.
 /// A file is never changed once it was written: a new one takes its place.
 pub trait Files {
-    /// Reads what a path leads to, from its front to its end. Threads share nothing by it.
-    type Reader: Read + Drop + Send;
+    /// Reads what a path leads to, from its front to its end. It is owned, so that threads share nothing by it.
+    type Reader: Read + Drop;
 
     /// Writes a new file, which is locked, or a device or a pipe.
     type Writer: Write + Drop;
@@ -30,9 +29,6 @@ pub trait Files {
 
     /// A folder that is locked as long as this lives.
     type Lock: Drop;
-
-    /// The files of runs in one folder.
-    type Runs: RunFolder + Drop;
 
     // what is known of them
     ghost view: { Self → View };
@@ -166,14 +162,6 @@ pub trait Files {
     fn close_stream(&mut self, path: &str, writer: Self::Writer) -> Result<(), FileError>
         ensures sent { OnOk result (IfSome (Self.Writer.contents writer) (sent self.new path.now)) }
         ensures call { Calls Stays (view self.old) (view self.new) };
-
-    /// The files of this many runs in a folder. From here on nothing is known of what is at their names.
-    ///
-    /// # Errors
-    /// `Memory`; `Failed`.
-    fn runs(&mut self, folder: &str, count: usize) -> Result<Self::Runs, FileError>
-        ensures call { Calls (Lends ((view self.old).folder folder.now) count) (view self.old) (view self.new) }
-        ensures cause { HasCause (view self.old) (view self.new) result };
 
     // What a stop may leave at this moment is what the names may leave, and a stop after a stop is one.
     ghost counts_now: { (files : Self) (t : ℕ) (left : Slots) → t ≤ (view files).moment

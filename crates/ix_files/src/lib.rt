@@ -14,7 +14,6 @@ mod files;
 mod kind;
 mod location;
 mod output;
-mod runs;
 mod system_files;
 
 pub use draft::{Draft, begin, discard, finish};
@@ -23,5 +22,4 @@ pub use files::Files;
 pub use kind::Kind;
 pub use location::Location;
 pub use output::{DraftNames, Output, begin_output, discard_output, finish_output};
-pub use runs::RunFolder;
-pub use system_files::{SystemFiles, SystemReader, SystemRuns, SystemWriter};
+pub use system_files::{SystemFiles, SystemReader, SystemWriter};

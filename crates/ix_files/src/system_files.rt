@@ -9,7 +9,6 @@ use crate::file_error::FileError;
 use crate::files::Files;
 use crate::kind::Kind;
 use crate::location::{Location, split};
-use crate::runs::RunFolder;
 use std::fs::{File, Metadata, OpenOptions, Permissions, TryLockError};
 use std::io::{ErrorKind, Input, Print, Printer, Read, Write};
 use std::os::unix::fs::{FileTypeExt, MetadataExt, PermissionsExt, chown};
@@ -124,8 +123,7 @@ impl<R: rt::Files<File = File> + AllocGlobal> SystemFiles<'_, R> {
 
 impl<'r, R> Files for SystemFiles<'r, R>
 where
-    R: rt::Files<File = File> + Input + Print + AllocGlobal + Sync,
-    R::Reader: Send,
+    R: rt::Files<File = File> + Input + Print + AllocGlobal,
 {
     type Reader = SystemReader<R::Reader>;
 
@@ -134,8 +132,6 @@ where
     type Held = File;
 
     type Lock = File;
-
-    type Runs = SystemRuns<'r, R>;
 
     ghost view = { λ _. system_view };
 
@@ -274,14 +270,6 @@ where
         done(writer.flush())
     }
 
-    fn runs(&mut self, folder: &str, _count: usize) -> Result<SystemRuns<'r, R>, FileError> {
-        let folder = self.canonical(folder)?;
-        Ok(SystemRuns {
-            rt: self.rt,
-            folder,
-        })
-    }
-
     ghost counts_now = { λ files t left early stops. stops };
 
     ghost only_now = { λ files left stops. stops };
@@ -330,53 +318,6 @@ impl<R: Print> Write for SystemWriter<'_, R> {
             SystemWriter::Output(output) => output.flush(),
         }
     }
-}
-
-/// The files of the system in one folder in which runs are kept.
-#[derive(Drop)]
-pub struct SystemRuns<'r, R> {
-    rt: &'r R,
-    folder: String,
-}
-
-impl<R: AllocGlobal> SystemRuns<'_, R> {
-    /// The path of the file of a block.
-    fn path(&self, block: usize) -> Result<PathBuf, FileError> {
-        let alloc = self.rt.alloc();
-        let name = format!(in alloc; "run-{block:010}")?;
-        Ok(Path::new(self.folder.as_str()).join(alloc, name)?)
-    }
-}
-
-impl<R: rt::Files<File = File> + AllocGlobal + Sync> RunFolder for SystemRuns<'_, R> {
-    type Reader = File;
-
-    type Writer = File;
-
-    ghost back = { λ _ block bytes. Unit {0} };
-
-    ghost kept = { λ _ block bytes. Unit {0} };
-
-    fn create(&self, block: usize) -> Result<File, FileError> {
-        opened(File::create(self.rt, self.path(block)?))
-    }
-
-    fn close(&self, _block: usize, _writer: File) -> Result<(), FileError> {
-        // What was written is with the system.
-        Ok(())
-    }
-
-    fn open(&self, block: usize) -> Result<File, FileError> {
-        opened(File::open(self.rt, self.path(block)?))
-    }
-
-    fn remove(&self, block: usize) {
-        if let Ok(path) = self.path(block) {
-            let _removed = fs::remove_file(self.rt, path);
-        }
-    }
-
-    ghost untold = { λ files block bytes writer none. tt };
 }
 
 /// What an error of the system is to a caller.
