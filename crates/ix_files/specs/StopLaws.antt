@@ -1,7 +1,7 @@
 -- A stop after a stop is one.
-use Rattle.std.specs.Prelude.{◌≡◌, ◌⊎◌, List, [], ◌∷◌}
-use Rattle.std.proofs.Common.{◌∙◌, refl, sym, subst, inl, inr}
-use Rattle.ix_files.specs.Slots.{ComesBackAs, Crashes, Entry, IsOneOf, MayLeave, Slot, Slots, Stops, at_rest, nothing, growing, whole, kept, first, later}
+use Rattle.std.specs.Prelude.{◌≡◌, [], ◌∷◌}
+use Rattle.std.proofs.Common.{◌∙◌, refl, subst, inl, inr}
+use Rattle.ix_files.specs.Slots.{ComesBackAs, Entry, IsOneOf, MayLeave, Slot, Slots, Stops, at_rest, nothing, growing, whole, kept, first, later}
 
 comes_back_again : {entry left after : Entry} → ComesBackAs entry left → ComesBackAs left after → ComesBackAs entry after
 comes_back_again nothing nothing = nothing
