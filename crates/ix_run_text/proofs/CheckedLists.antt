@@ -1,15 +1,10 @@
 -- A list that was checked, before any posting is taken, and when none is left.
-use Rattle.std.proofs.Common.{◌≡◌, ℕ, ◌-◌, ◌+◌, ◌<◌, ◌≤◌, List, [], ◌∷◌, ◌++◌, length, take, drop, refl, sym, ap, subst, ◌∙◌, arith, append_assoc, append-nil, length-append, take-append-drop}
-use Rattle.std.proofs.Math.Seq.{drop-append_seam, take-append_seam}
+use Rattle.std.proofs.Common.{◌≡◌, ℕ, List, [], ◌∷◌, ◌++◌, drop, refl, sym, ap, subst, ◌∙◌, arith, append-nil, take-append-drop}
 use Rattle.ix_text.specs.Parts.{DocumentRow, Posting}
 use Rattle.ix_postings.specs.TokenMarks.{HoldsNumbers}
 use Rattle.ix_postings.specs.declared.token_marks.TokenMarks.{TokenMarks}
-use Rattle.ix_text.specs.TokenNumbers.{AreDistinct, numbers_of_posting, numbers_of_postings}
-use Rattle.ix_text.proofs.DistinctNumbers.{distinct_front}
-use Rattle.ix_vbyte.specs.Gaps.{next_after}
-use Rattle.ix_vbyte.specs.Postings.{documents_of, list_bytes_from, posting_bytes}
+use Rattle.ix_text.specs.TokenNumbers.{AreDistinct, numbers_of_postings}
 use Rattle.ix_run_text.specs.MarkedLists.{IsChecked, ListLies, MarksList}
-use Rattle.ix_run_text.specs.ReadPostings.{IsFree, PostingFits}
 
 -- of a list of which nothing is left, exactly what was told before is marked
 pub none_checked : (rows : List DocumentRow) (marks : TokenMarks) (next documents size : ℕ) (held numbers : List ℕ) → documents ≡ 0 → IsChecked rows marks next documents size held numbers → HoldsNumbers marks numbers × AreDistinct numbers

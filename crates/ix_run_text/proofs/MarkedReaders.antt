@@ -1,7 +1,6 @@
 -- What is ahead of a reader within a lawful whole: the list fits, its tokens were not told, and it is what is held.
-use Rattle.std.proofs.Common.{◌≡◌, ℕ, ◌+◌, ◌^◌, ◌≤◌, List, [], ◌∷◌, ◌++◌, length, drop, Option, Some, None, ap, sym, subst, ◌∙◌, arith}
+use Rattle.std.proofs.Common.{◌≡◌, ℕ, ◌+◌, ◌^◌, ◌≤◌, List, [], ◌∷◌, ◌++◌, Some, ap, subst, ◌∙◌, arith}
 use Rattle.std.proofs.lemmas.List.{map-append}
-use Rattle.std.specs.Io.KnownBytes.{prepend_known}
 use Rattle.ix_text.specs.Parts.{DictionaryEntry, Posting}
 use Rattle.ix_text.specs.TokenNumbers.{AreDistinct, numbers_of_entries, numbers_of_postings}
 use Rattle.ix_text.proofs.TokensApart.{lawful_distinct}
@@ -9,14 +8,11 @@ use Rattle.ix_vbyte.specs.Gaps.{next_after}
 use Rattle.ix_vbyte.specs.Postings.{documents_of}
 use Rattle.ix_vbyte.proofs.Gaps.{next_after-push}
 use Rattle.ix_run_text.specs.Heads.{Heading, parts_with}
-use Rattle.ix_run_text.specs.Inputs.{bytes_held, known_left}
 use Rattle.ix_run_text.specs.MarkedLists.{PostingsFit}
 use Rattle.ix_run_text.specs.Reading.{HasRead}
 use Rattle.ix_run_text.specs.Sources.{AreWhole, closed, extended}
-use Rattle.ix_run_text.specs.declared.input.Input.{Input}
 use Rattle.ix_run_text.specs.declared.run_reader.RunReader.{RunReader}
 use Rattle.ix_run_text.proofs.Fronts.{whole_front}
-use Rattle.ix_run_text.proofs.MarkLemmas.{front_within}
 use Rattle.ix_run_text.proofs.ReadFronts.{numbers_more}
 use Rattle.ix_run_text.proofs.ReadWholes.{closed-given, posting_fits}
 

@@ -1,5 +1,5 @@
 -- The list of a term, buffered, where a lawful one comes first.
-use Rattle.std.proofs.Common.{Result, Ok, Err, false, is_ok, OnErr, ◌≡◌, ℕ, ◌+◌, ◌≤◌, List, [], ◌++◌, length, take, drop, sum_by, Option, Some, IfSome, sym, ap, subst, ◌∙◌, arith, append-nil, length-append, take-append-drop}
+use Rattle.std.proofs.Common.{Result, Ok, Err, false, is_ok, OnErr, ◌≡◌, ℕ, ◌+◌, ◌≤◌, List, [], ◌++◌, length, take, drop, sum_by, Option, Some, IfSome, sym, ap, subst, ◌∙◌, arith, append-nil, take-append-drop}
 use Rattle.std.proofs.lemmas.List.{take-append-le}
 use Rattle.ix_text.specs.Parts.{DocumentRow, Posting}
 use Rattle.ix_postings.specs.TokenMarks.{HoldsNumbers}

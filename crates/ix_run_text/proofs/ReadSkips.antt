@@ -1,10 +1,8 @@
 -- A reader of a run text that goes over what is left of a list.
-use Rattle.std.proofs.Common.{◌≡◌, ◌≢◌, ℕ, ◌-◌, ◌<◌, ◌^◌, List, [], ◌∷◌, ◌++◌, string_bytes, Option, Some, None, option_map, take, drop, refl, sym, ap, subst, ◌∙◌, arith}
+use Rattle.std.proofs.Common.{◌≡◌, ◌≢◌, ℕ, ◌-◌, ◌<◌, List, [], ◌∷◌, ◌++◌, string_bytes, Option, Some, None, option_map, take, drop, refl, sym, ap, subst, ◌∙◌, arith}
 use Rattle.std.proofs.lemmas.List.{append-nil, nil_from_length}
 use Rattle.ix_text.specs.Parts.{DictionaryEntry, Posting}
 use Rattle.std.specs.Io.KnownBytes.{Consumes}
-use Rattle.ix_vbyte.specs.Gaps.{next_after}
-use Rattle.ix_vbyte.specs.Postings.{documents_of}
 use Rattle.ix_run_text.specs.Heads.{heading_of}
 use Rattle.ix_run_text.specs.Inputs.{bytes_held, known_left}
 use Rattle.ix_run_text.specs.Reading.{Faces, HasRead, IsDrained, LieAhead, LieBehind, MayLieAhead, MayYield, Skips, Standing, postings_ahead, standing, term_at}

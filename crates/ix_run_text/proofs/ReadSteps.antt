@@ -1,22 +1,18 @@
 -- A reader of a run text with a current term.
-use Rattle.std.proofs.Common.{◌≡◌, ◌≢◌, ℕ, ◌+◌, ◌-◌, ◌^◌, ◌<◌, ◌≤◌, List, [], ◌∷◌, ◌++◌, length, Option, Some, None, IfSome, refl, sym, ap, ap₂, subst, ◌∙◌, arith, length-append}
-use Rattle.std.proofs.lemmas.List.{append_assoc, append-nil, map-append}
+use Rattle.std.proofs.Common.{◌≡◌, ◌≢◌, ℕ, ◌+◌, ◌^◌, ◌<◌, ◌≤◌, List, [], ◌∷◌, ◌++◌, length, Option, Some, None, IfSome, refl, sym, ap, subst, ◌∙◌, arith}
+use Rattle.std.proofs.lemmas.List.{append_assoc}
 use Rattle.std.proofs.lemmas.List.Elements.{Contains-get_or}
 use Rattle.std.proofs.lemmas.Option.{slice_get_within}
 use Rattle.std.specs.Io.KnownBytes.{Consumes}
 use Rattle.std.specs.List.{flat_map}
 use Rattle.ix_text.specs.Parts.{DictionaryEntry, DocumentRow, Posting, terms_of}
-use Rattle.ix_text.specs.TokenNumbers.{AreDistinct, numbers_of_entries, numbers_of_posting}
-use Rattle.ix_vbyte.specs.Gaps.{next_after}
-use Rattle.ix_vbyte.specs.Postings.{documents_of, list_bytes_from, posting_bytes}
-use Rattle.ix_vbyte.proofs.Gaps.{next_after-push}
-use Rattle.ix_run_text.specs.ReadPostings.{IsFree, PostingFits}
-use Rattle.ix_run_text.specs.Reading.{LieAhead, LieBehind, Checked, MayLieAhead, Standing, Told, bytes_ahead, last_text, term_at}
+use Rattle.ix_run_text.specs.ReadPostings.{PostingFits}
+use Rattle.ix_run_text.specs.Reading.{bytes_ahead, last_text, term_at}
 use Rattle.ix_run_text.specs.RunText.{term_bytes}
-use Rattle.ix_run_text.specs.Sources.{AreWhole, closed, entry_with, extended}
+use Rattle.ix_run_text.specs.Sources.{entry_with}
 use Rattle.ix_run_text.specs.declared.run_reader.Place.{Place}
 use Rattle.ix_run_text.specs.declared.run_reader.Place.TheVariants.{Begun, AtTerm, Ended, Failed}
-use Rattle.ix_run_text.proofs.ReadFronts.{front_more, numbers_more, terms_push}
+use Rattle.ix_run_text.proofs.ReadFronts.{terms_push}
 
 -- where postings are left a term is at hand
 pub term_at_hand : (place : Place) (documents : ℕ) → (place ≢ AtTerm → documents ≡ 0) → 0 < documents → place ≡ AtTerm

@@ -1,5 +1,5 @@
 -- What comes next where a reader of a run text stands within a lawful whole.
-use Rattle.std.proofs.Common.{◌≡◌, ℕ, ◌-◌, ◌^◌, ◌<◌, List, [], ◌∷◌, ◌++◌, length, get_or, Contains, Some, Less, refl, sym, ap, subst, ◌∙◌, arith}
+use Rattle.std.proofs.Common.{◌≡◌, ℕ, ◌-◌, ◌^◌, ◌<◌, List, [], ◌∷◌, ◌++◌, length, get_or, Contains, Some, Less, refl, sym, ap, subst, arith}
 use Rattle.std.proofs.lemmas.List.{append_assoc, length-map, map-append}
 use Rattle.std.proofs.lemmas.List.Elements.{All-contains, Contains-append_left, Contains-append_right}
 use Rattle.std.proofs.lemmas.List.Sums.{get_or-le-sum_by}
@@ -9,23 +9,20 @@ use Rattle.std.specs.Ordering.{nat_cmp}
 use Rattle.ix_text.specs.ByteOrder.{IsAscending}
 use Rattle.ix_text.specs.Parts.{DictionaryEntry, Posting, IsTermPosting, terms_of}
 use Rattle.ix_text.specs.PartsLaws.{IsLawfulTerm, position_count}
-use Rattle.ix_text.specs.TokenNumbers.{AreDistinct, numbers_of_entries, numbers_of_posting, numbers_of_postings}
 use Rattle.ix_text.proofs.CollectionTold.{has_collection}
 use Rattle.ix_text.proofs.PartsCounted.{positions_counted}
-use Rattle.ix_text.proofs.TokensApart.{lawful_distinct}
 use Rattle.ix_vbyte.specs.Gaps.{next_after}
 use Rattle.ix_vbyte.specs.Postings.{documents_of, list_bytes}
 use Rattle.ix_vbyte.proofs.Gaps.{length-Ascends}
 use Rattle.ix_vbyte.proofs.Sizes.{list_short}
 use Rattle.ix_run_text.specs.Heads.{Heading, parts_with}
 use Rattle.ix_run_text.specs.Orders.{StandsAbove}
-use Rattle.ix_run_text.specs.ReadPostings.{IsFree, PostingFits}
+use Rattle.ix_run_text.specs.ReadPostings.{PostingFits}
 use Rattle.ix_run_text.specs.ReadTerms.{TermFits}
 use Rattle.ix_run_text.specs.Reading.{last_text}
 use Rattle.ix_run_text.specs.Sources.{AreWhole, closed, entry_with, extended}
-use Rattle.ix_run_text.proofs.Fronts.{whole_front}
 use Rattle.ix_run_text.proofs.OrderLemmas.{stands_above}
-use Rattle.ix_run_text.proofs.ReadFronts.{AreRising, numbers_more, rising_next, rising_of}
+use Rattle.ix_run_text.proofs.ReadFronts.{AreRising, rising_next, rising_of}
 use Rattle.ix_run_text.proofs.WholeLists.{codable}
 
 -- ---- the same whole, one step on

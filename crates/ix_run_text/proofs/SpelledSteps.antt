@@ -1,7 +1,7 @@
 -- The list that is left: none, and a whole one.
 use Rattle.std.proofs.Common.{◌≡◌, ◌∙◌, ◌^◌, ◌≤◌, ◌-◌, ℕ, List, [], length, take, sum_by, refl, sym, ap, subst, arith}
 use Rattle.ix_text.specs.Parts.{DocumentRow, Posting}
-use Rattle.ix_text.specs.declared.token_marks.TokenMarks.{TokenMarks}
+use Rattle.ix_postings.specs.declared.token_marks.TokenMarks.{TokenMarks}
 use Rattle.ix_vbyte.specs.Gaps.{next_after}
 use Rattle.ix_vbyte.specs.Postings.{documents_of}
 use Rattle.ix_vbyte.proofs.Walks.{postings_from}

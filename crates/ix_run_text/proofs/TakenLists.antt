@@ -1,12 +1,12 @@
 -- A reader that takes the first postings of the list that is left.
 use Rattle.std.proofs.Common.{◌≡◌, ℕ, ◌-◌, ◌+◌, ◌^◌, ◌<◌, ◌≤◌, List, [], ◌∷◌, ◌++◌, length, take, drop, Option, Some, None, IfSome, sum_by, refl, sym, ap, ap₂, subst, ◌∙◌, arith, length-append, take-append-drop}
-use Rattle.std.proofs.Math.Seq.{drop-append_seam, take-append_seam}
+use Rattle.std.proofs.Math.Seq.{take-append_seam}
 use Rattle.std.proofs.lemmas.List.{append_assoc, append-nil, length-take-le, map-append, take-take}
 use Rattle.std.proofs.lemmas.List.Elements.{All-nil, All-cons, All-contains, All-head, All-tail, Contains-append_left, Contains-push}
 use Rattle.std.specs.Io.KnownBytes.{Consumes}
 use Rattle.std.specs.List.{flat_map}
 use Rattle.ix_text.specs.Parts.{DictionaryEntry, DocumentRow, Posting}
-use Rattle.ix_text.specs.TokenMarks.{HoldsNumbers}
+use Rattle.ix_postings.specs.TokenMarks.{HoldsNumbers}
 use Rattle.ix_text.specs.TokenNumbers.{AreDistinct, numbers_of_entries, numbers_of_posting, numbers_of_postings}
 use Rattle.ix_text.proofs.DistinctNumbers.{distinct_front}
 use Rattle.ix_text.proofs.TokensApart.{numbers_of_postings-append}

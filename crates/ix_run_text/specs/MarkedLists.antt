@@ -1,5 +1,5 @@
 -- A list of postings whose tokens are marked as it is gone over: the postings that its bytes spell.
-use Rattle.std.specs.Prelude.{◌≡◌, ℕ, ◌+◌, ◌-◌, ◌^◌, ◌<◌, ◌≤◌, List, [], ◌∷◌, ◌++◌, ⊤, length, take, drop}
+use Rattle.std.specs.Prelude.{◌≡◌, ℕ, ◌+◌, ◌-◌, ◌<◌, ◌≤◌, List, [], ◌∷◌, ◌++◌, ⊤, length, take, drop}
 use Rattle.ix_text.specs.Parts.{DocumentRow, Posting}
 use Rattle.ix_postings.specs.TokenMarks.{HoldsNumbers}
 use Rattle.ix_text.specs.TokenNumbers.{AreDistinct, numbers_of_posting, numbers_of_postings}

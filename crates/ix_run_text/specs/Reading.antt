@@ -1,6 +1,6 @@
 -- What a reader of a run text has read of its terms, and what it has left of them.
-use Rattle.std.specs.Prelude.{◌≡◌, ◌≢◌, ℕ, ◌+◌, List, [], ◌∷◌, ◌++◌, length, flat_map, take, string_bytes, slice_index_or, ◌-◌, ◌<◌, ◌≤◌, Option, Some, None, IfSome, option_map}
-use Rattle.ix_text.specs.Parts.{DictionaryEntry, DocumentRow, Parts, Posting, terms_of}
+use Rattle.std.specs.Prelude.{◌≡◌, ◌≢◌, ℕ, List, [], ◌∷◌, ◌++◌, length, flat_map, take, string_bytes, slice_index_or, ◌-◌, ◌<◌, Option, Some, None, IfSome, option_map}
+use Rattle.ix_text.specs.Parts.{DictionaryEntry, Parts, Posting, terms_of}
 use Rattle.ix_text.specs.TokenNumbers.{AreDistinct, numbers_of_entries}
 use Rattle.ix_postings.specs.declared.token_marks.TokenMarks.{TokenMarks}
 use Rattle.ix_vbyte.specs.Gaps.{next_after}

@@ -1,5 +1,5 @@
 -- The list of postings that is left of the current term, in the buffered bytes.
-use Rattle.std.proofs.Common.{◌≡◌, ◌∷◌, [], ℕ, ◌^◌, ◌-◌, ◌+◌, List}
+use Rattle.std.proofs.Common.{◌≡◌, ◌∷◌, [], ℕ, ◌+◌, List}
 use denote.Struct.Props as logic
 use Rattle.ix_vbyte.specs.Gaps.{Ascends, next_after}
 use Rattle.ix_vbyte.specs.Postings.{documents_of}

@@ -1,5 +1,5 @@
 -- Where a lawful list comes first, only its end can be missing.
-use Rattle.std.proofs.Common.{◌≡◌, ◌≤◌, ◌<◌, length, take, ap, sym, arith, length-take}
+use Rattle.std.proofs.Common.{◌≡◌, ◌<◌, length, take, ap, sym, arith, length-take}
 use Rattle.ix_vbyte.specs.Postings.{list_bytes}
 use Rattle.ix_vbyte.specs.declared.errors.VbError.TheVariants.{Cut}
 use Rattle.ix_run_text.specs.Inputs.{known_left}

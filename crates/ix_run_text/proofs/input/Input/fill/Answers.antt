@@ -1,5 +1,5 @@
 -- What came is buffered, and what did not is too little.
-use Rattle.std.proofs.Common.{◌+◌, length, ap, arith, ◌∙◌}
+use Rattle.std.proofs.Common.{◌+◌, length, ap, arith}
 use Rattle.std.proofs.KnownBytes.{Keeps-refl, Keeps-trans}
 use Rattle.std.proofs.lemmas.Result.{err_from_is_err_and}
 use Rattle.ix_run_text.specs.Inputs.{BeginsWith, bytes_held, known_left}

@@ -1,5 +1,5 @@
 -- The front of what is held is taken.
-use Rattle.std.proofs.Common.{◌-◌, length, take, sym, arith}
+use Rattle.std.proofs.Common.{take, sym, arith}
 use Rattle.std.proofs.lemmas.List.{drop-drop, length-drop, length-take}
 use Rattle.ix_run_text.specs.Inputs.{bytes_held, known_left}
 use Rattle.ix_run_text.proofs.InputLemmas.{front_taken}

@@ -1,5 +1,5 @@
 -- The posting that is decoded is the first that is left.
-use Rattle.std.proofs.Common.{◌≡◌, List, ℕ, take, ap, sym, subst, arith}
+use Rattle.std.proofs.Common.{List, ℕ, take, ap, sym, subst, arith}
 use Rattle.ix_vbyte.specs.Walking.{ReadsPosting}
 use Rattle.ix_run_text.specs.Inputs.{bytes_held}
 use Rattle.ix_run_text.proofs.FirstPostings.{others_left, posting_begins, rest_held, rest_within, takes_first, took}

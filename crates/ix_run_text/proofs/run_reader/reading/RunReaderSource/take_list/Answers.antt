@@ -1,5 +1,5 @@
 -- The list that is copied is what is left, and with it what lay behind it is what lies ahead.
-use Rattle.std.proofs.Common.{◌≡◌, ◌<◌, ℕ, ◌+◌, ◌++◌, List, [], Some, length, append-nil, inr, refl, sym, subst, ap, take, ◌∙◌, arith, length-append}
+use Rattle.std.proofs.Common.{◌<◌, ℕ, ◌+◌, ◌++◌, List, [], Some, length, append-nil, inr, refl, sym, subst, ap, take, ◌∙◌, arith, length-append}
 use Rattle.ix_text.specs.Parts.{DictionaryEntry, Posting}
 use Rattle.ix_vbyte.specs.Postings.{list_bytes_from, shifted}
 use Rattle.ix_vbyte.specs.Walking.{ArePostingsFrom, postings_told}
