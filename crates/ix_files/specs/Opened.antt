@@ -2,6 +2,8 @@
 use Rattle.std.specs.Prelude.{◌≡◌, ◌≢◌, List, ℕ, [], Option, Some}
 use Rattle.ix_files.specs.Slots.{Nothing, Place, bytes_of}
 use Rattle.ix_files.specs.Views.{View}
+use Rattle.ix_files.specs.declared.file_error.FileError.{FileError}
+use Rattle.ix_files.specs.declared.file_error.FileError.TheVariants as file_error
 use Rattle.ix_files.specs.declared.kind.Kind.{Kind}
 use Rattle.ix_files.specs.declared.kind.Kind.TheVariants as kind
 
@@ -19,3 +21,10 @@ IsKindOf view path kind.File = (view.slots (view.place path)).now ≢ Nothing
 IsKindOf view path kind.Folder = (view.slots (view.place path)).now ≡ Nothing
 IsKindOf view path kind.Stream = (view.slots (view.place path)).now ≡ Nothing
 IsKindOf view path kind.Other = (view.slots (view.place path)).now ≡ Nothing
+
+-- A path was not looked at or read: out of memory, or the system did not let it.
+abbrev pub IsReadError : Type 0 → FileError → Type 0
+IsReadError failed file_error.Memory = Unit {0}
+IsReadError failed file_error.Failed = failed
+IsReadError failed file_error.Exists = ⊥
+IsReadError failed file_error.Locked = ⊥

@@ -52,7 +52,11 @@ pub fn begin<F: Files>(
         match files.create(&own) {
             Ok(writer) => {
                 files.dress(&own, &target);
-                return Ok(Draft { target, own, writer });
+                return Ok(Draft {
+                    target,
+                    own,
+                    writer,
+                });
             }
             Err(FileError::Exists) => {
                 let _removed = files.remove_unlocked(&own);
@@ -84,7 +88,11 @@ pub fn finish<F: Files>(files: &mut F, draft: Draft<F::Writer>) -> Result<(), Fi
         (left (target_of draft))) (F.view files.old) (F.view files.new) }
     ensures goes_on { GoesOn (F.view files.old) (F.view files.new) }
 {
-    let Draft { target, own, writer } = draft;
+    let Draft {
+        target,
+        own,
+        writer,
+    } = draft;
     let held = match files.sync(&own, writer) {
         Ok(held) => held,
         Err(error) => {

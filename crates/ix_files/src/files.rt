@@ -1,8 +1,8 @@
 //! Files by their paths.
 
-ghost use Rattle.std.specs.Prelude.{◌≡◌, ◌≢◌, ◌≤◌, ◌<◌, ◌⊎◌, ℕ, List, [], Some, false, IfOk, OnErr, OnOk};
+ghost use Rattle.std.specs.Prelude.{◌≡◌, ◌≢◌, ◌≤◌, ◌<◌, ◌⊎◌, ℕ, List, [], Some, false, IfErr, IfOk, IfSome, OnErr, OnOk};
 ghost use Rattle.ix_files.specs.Locations.{place_of};
-ghost use Rattle.ix_files.specs.Opened.{IsKindOf, IsOpened};
+ghost use Rattle.ix_files.specs.Opened.{IsKindOf, IsOpened, IsReadError};
 ghost use Rattle.ix_files.specs.Slots.{Nothing, Slots, Stops};
 ghost use Rattle.ix_files.specs.Steps.{Creates, Lends, Overwrites, Removes, Renames, Settles, Stays, Syncs};
 ghost use Rattle.ix_files.specs.Views.{Calls, HasCause, View};
@@ -15,7 +15,8 @@ use std::io::{Read, Write};
 
 /// Files by their paths.
 ///
-/// Each call does one step to the files or, if it fails, that step or nothing; `call` says which, and that nothing else changes.
+/// A call that changes something does one step to the files or, if it fails, that step or nothing; `call` says which, and that
+/// nothing else changes. The others are answered as the files are. Both hold if the system is honest, in all calls to the end.
 /// A file is never changed once it was written: a new one takes its place.
 pub trait Files {
     /// Reads what a path leads to, from its front to its end. Threads share nothing by it.
@@ -36,46 +37,53 @@ pub trait Files {
     // what is known of them
     ghost view: { Self → View };
 
+    // The device or the pipe of this path was ended with these bytes.
+    ghost sent: { Self → List ℕ → List ℕ → Type 0 };
+
+    // The system did not let this path be looked at or read.
+    ghost failed: { Self → List ℕ → Type 0 };
+
     /// What a path leads to, through links.
     ///
     /// # Errors
     /// `Memory`; `Failed`.
-    fn kind(&mut self, path: &str) -> Result<Kind, FileError>
-        ensures kind { IfOk result (λ kind. (view self.new).honest
-            → IsKindOf (view self.old) path.now kind) }
-        ensures call { Calls Stays (view self.old) (view self.new) }
-        ensures cause { HasCause (view self.old) (view self.new) result };
+    fn kind(&self, path: &str) -> Result<Kind, FileError>
+        ensures kind { IfOk result (λ kind. (view self.now).honest
+            → IsKindOf (view self.now) path.now kind) }
+        ensures cause { IfErr result (IsReadError (failed self.now path.now)) };
 
     /// The name that a path leads to, through links; of a link that leads to nothing, the name to which it points.
     ///
     /// # Errors
     /// `Memory`; `Failed`, also if there is no such folder.
-    fn locate(&mut self, path: &str) -> Result<Location, FileError>
-        ensures located { IfOk result (λ location. (view self.new).honest
-            → place_of location ≡ (view self.old).place path.now) }
-        ensures call { Calls Stays (view self.old) (view self.new) }
-        ensures cause { HasCause (view self.old) (view self.new) result };
+    fn locate(&self, path: &str) -> Result<Location, FileError>
+        ensures located { IfOk result (λ location. (view self.now).honest
+            → place_of location ≡ (view self.now).place path.now) }
+        ensures cause { IfErr result (IsReadError (failed self.now path.now)) };
 
     /// Whether two paths lead to one file. One that leads to none leads to no other's.
     ///
     /// # Errors
     /// `Memory`; `Failed`.
-    fn is_same(&mut self, one: &str, other: &str) -> Result<bool, FileError>
-        ensures apart { IfOk result (λ same. (view self.new).honest → same ≡ false
-            → ((view self.old).slots ((view self.old).place one.now)).now ≢ Nothing
-            → (view self.old).place one.now ≢ (view self.old).place other.now) }
-        ensures call { Calls Stays (view self.old) (view self.new) }
-        ensures cause { HasCause (view self.old) (view self.new) result };
+    fn is_same(&self, one: &str, other: &str) -> Result<bool, FileError>
+        ensures apart { IfOk result (λ same. (view self.now).honest → same ≡ false
+            → ((view self.now).slots ((view self.now).place one.now)).now ≢ Nothing
+            → (view self.now).place one.now ≢ (view self.now).place other.now) };
 
     /// A reader of what a path leads to.
     ///
     /// # Errors
     /// `Memory`; `Failed`.
-    fn open(&mut self, path: &str) -> Result<Self::Reader, FileError>
-        ensures opened { IfOk result (λ reader. (view self.new).honest
-            → IsOpened (view self.old) path.now (Self.Reader.remaining reader)) }
-        ensures call { Calls Stays (view self.old) (view self.new) }
-        ensures cause { HasCause (view self.old) (view self.new) result };
+    fn open(&self, path: &str) -> Result<Self::Reader, FileError>
+        ensures opened { IfOk result (λ reader. (view self.now).honest
+            → IsOpened (view self.now) path.now (Self.Reader.remaining reader)) }
+        ensures cause { IfErr result (IsReadError (failed self.now path.now)) };
+
+    /// Locks a folder.
+    ///
+    /// # Errors
+    /// `Memory`; `Locked` if another program has locked it; `Failed`, also if it cannot be opened.
+    fn lock_folder(&self, path: &str) -> Result<Self::Lock, FileError>;
 
     /// Creates a file, which was not there, and locks it.
     ///
@@ -140,23 +148,24 @@ pub trait Files {
         ensures call { Calls (Settles folder.now) (view self.old) (view self.new) }
         ensures cause { OnErr result ((view self.new).honest → (view self.old).faults < (view self.new).faults) };
 
-    /// A writer into the device or the pipe that a path leads to.
+    /// A writer into the device or the pipe that a path leads to; `-` is the standard output.
     ///
     /// # Errors
     /// `Memory`; `Failed`.
     fn open_stream(&mut self, path: &str) -> Result<Self::Writer, FileError>
         ensures opened { IfOk result (λ writer. (view self.new).honest
             → Self.Writer.contents writer ≡ Some []) }
-        ensures call { Calls (Overwrites ((view self.old).place path.now)) (view self.old) (view self.new) }
+        ensures call { Calls (Overwrites ((view self.old).place path.now)) (view self.old)
+            (view self.new) }
         ensures cause { HasCause (view self.old) (view self.new) result };
 
-    /// Locks a folder.
+    /// Ends a device or a pipe with what was written into it.
     ///
     /// # Errors
-    /// `Memory`; `Locked` if another program has locked it; `Failed`, also if it cannot be opened.
-    fn lock_folder(&mut self, path: &str) -> Result<Self::Lock, FileError>
-        ensures call { Calls Stays (view self.old) (view self.new) }
-        ensures cause { HasCause (view self.old) (view self.new) result };
+    /// `Failed`.
+    fn close_stream(&mut self, path: &str, writer: Self::Writer) -> Result<(), FileError>
+        ensures sent { OnOk result (IfSome (Self.Writer.contents writer) (sent self.new path.now)) }
+        ensures call { Calls Stays (view self.old) (view self.new) };
 
     /// The files of this many runs in a folder. From here on nothing is known of what is at their names.
     ///
@@ -169,8 +178,10 @@ pub trait Files {
     // What a stop may leave at this moment is what the names may leave, and a stop after a stop is one.
     ghost counts_now: { (files : Self) (t : ℕ) (left : Slots) → t ≤ (view files).moment
         → Stops (view files).slots left → (view files).left_since t left };
+
     ghost only_now: { (files : Self) (left : Slots) → (view files).left_since (view files).moment left
         → Stops (view files).slots left };
+
     ghost stops_again: { (files : Self) (t : ℕ) (left after : Slots) → (view files).left_since t left
         → Stops left after → (view files).left_since t after };
 }

@@ -14,6 +14,7 @@ mod file_error;
 mod files;
 mod kind;
 mod location;
+mod output;
 mod runs;
 
 pub use draft::{Draft, begin, discard, finish};
@@ -21,4 +22,5 @@ pub use file_error::FileError;
 pub use files::Files;
 pub use kind::Kind;
 pub use location::Location;
+pub use output::{DraftNames, Output, begin_output, discard_output, finish_output};
 pub use runs::RunFolder;
