@@ -48,21 +48,14 @@ pub record ChangesDrafts (target : Place) (old new : View) : Type 0 where
   pub others : new.honest → (place : Place) → ¬ (IsDraftPlace target place) → new.slots place ≡ old.slots place
   pub any_moment : new.honest → LeavesOnly (IsOld (IsDraftPlace target) old.slots) old new
 
--- What the draft was to replace is the draft's text, on the disk, and no crash brings back what was there; the draft's own name
--- is free; and what is at each other name stays.
-pub record IsFinished (target own : Place) (text : List ℕ) (old new : View) : Type 0 where
+-- What the draft was to replace is the draft's text, on the disk, and no crash brings back what was there; the draft's own name is
+-- free.
+pub record IsFinished (target own : Place) (text : List ℕ) (new : View) : Type 0 where
   pub there : new.slots target ≡ at_rest (Kept text)
   pub gone : (new.slots own).now ≡ Nothing
-  pub others : (place : Place) → place ≢ target → place ≢ own → (new.slots place).now ≡ (old.slots place).now
 
 -- The draft did not surely take its place: there is what was there, or, if the folder could not be synced, the draft's text. Its
--- own name is free, or the system failed once more. What is at each other name stays.
+-- own name is free, or the system failed once more.
 pub record IsUnfinished (target own : Place) (text : List ℕ) (old new : View) : Type 0 where
   pub there : (new.slots target ≡ old.slots target) ⊎ ((new.slots target).now ≡ Kept text)
   pub gone : ((new.slots own).now ≡ Nothing) ⊎ (old.faults + 2 ≤ new.faults)
-  pub others : (place : Place) → place ≢ target → place ≢ own → (new.slots place).now ≡ (old.slots place).now
-
--- The draft is gone, or the system failed; what is at each other name stays.
-pub record IsDiscarded (own : Place) (old new : View) : Type 0 where
-  pub gone : ((new.slots own).now ≡ Nothing) ⊎ (old.faults < new.faults)
-  pub others : (place : Place) → place ≢ own → new.slots place ≡ old.slots place
