@@ -1,8 +1,8 @@
 -- Drafts of a file come and go.
-use Rattle.std.proofs.Common.{◌≡◌, ⊎_elim, refl, subst, ◌∙◌}
+use Rattle.std.proofs.Common.{◌≡◌, ⊎_elim, refl, sym, subst, ◌∙◌, arith}
 use Rattle.ix_files.specs.Drafts.{ChangesDrafts, IsDraftPlace, StopsAt}
-use Rattle.ix_files.specs.Slots.{Place, Slots, Stops}
-use Rattle.ix_files.specs.Views.{Calls, View}
+use Rattle.ix_files.specs.Slots.{IsSameBut, Place, Slots, Stops}
+use Rattle.ix_files.specs.Views.{Calls, GoesOn, View}
 use Rattle.ix_files.proofs.Moments.{Run, called, elsewhere, started}
 
 pub unchanged : (target : Place) (old : View) → ((left : Slots) → old.left_since old.moment left → Stops old.slots left) → ChangesDrafts target old old
@@ -22,4 +22,26 @@ changed {target = target} {old = old} {mid} {new} changes calls same = record {
         now = λ place entry stop other. subst (λ slot. StopsAt slot entry) (changes.others (calls.honest honest) place other) stop;
       } in
       (called run (calls.passes honest) (λ slots did. elsewhere mid.slots slots run.now (same slots did))).moments;
+}
+
+-- a step at the name of a draft
+pub outside : {target own : Place} (old new : Slots) → IsDraftPlace target own → IsSameBut own old new → (place : Place) → ¬ (IsDraftPlace target place) → new place ≡ old place
+outside {target = target} old new draft same place other = same place (λ is. other (subst (IsDraftPlace target) (sym is) draft))
+
+pub standing : (old : View) → GoesOn old old
+standing old = record {
+  honest = λ honest. honest;
+  places = λ honest path. refl;
+  folders = λ honest path. refl;
+  later = λ honest. omega arith;
+  counted = λ honest. omega arith;
+}
+
+pub went_on : {step : Slots → Slots → Type 0} {old mid new : View} → GoesOn old mid → Calls step mid new → GoesOn old new
+went_on before calls = record {
+  honest = λ honest. before.honest (calls.honest honest);
+  places = λ honest path. (calls.passes honest).places path ∙ before.places (calls.honest honest) path;
+  folders = λ honest path. (calls.passes honest).folders path ∙ before.folders (calls.honest honest) path;
+  later = λ honest. omega (arith, before.later (calls.honest honest), (calls.passes honest).later);
+  counted = λ honest. omega (arith, before.counted (calls.honest honest), (calls.passes honest).counted);
 }

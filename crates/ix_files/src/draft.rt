@@ -46,7 +46,7 @@ pub fn begin<F: Files>(
     ensures goes_on { GoesOn (F.view files.old) (F.view files.new) }
     ensures cause { HasCause (F.view files.old) (F.view files.new) result }
 {
-    for number in 1..=u32::MAX {
+    for number in 1..u32::MAX {
         let name = draft_name(alloc, target.name(), number)?;
         if name.as_str() == target.name() {
             continue;
