@@ -26,8 +26,8 @@ renamed : (target own : Place) (text : List ℕ) (old mid new : Slots) → Allow
     → (mid own).now ≡ Kept text → Renames own target mid new → Allows (OldOrNew target own text old) new
 renamed target own text old mid new allows is_kept renames place entry stop other = ⊎_elim
     (λ at. let there : new place ≡ entered (mid place) (Kept text) = subst (λ place. new place ≡ entered (mid place) (Kept text)) (sym at) (renames.there ∙ ap (entered (mid target)) is_kept) in
-        ⊎_elim (λ same. inr (at, same)) (λ before. allows place entry before other)
-            (entered_stops (mid place) text entry (subst (λ slot. StopsAt slot entry) there stop)))
+    ⊎_elim (λ same. inr (at, same)) (λ before. allows place entry before other)
+    (entered_stops (mid place) text entry (subst (λ slot. StopsAt slot entry) there stop)))
     (λ off. allows place entry (subst (λ slot. StopsAt slot entry) (renames.elsewhere place other off) stop) other)
     (place_decided place target)
 

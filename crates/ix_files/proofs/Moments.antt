@@ -82,7 +82,7 @@ decided xs ys = by_test (bytes_eq xs ys) (bytes_eq-Decides xs ys)
 pub place_decided : (a b : Place) → (a ≡ b) ⊎ (a ≢ b)
 place_decided a b = ⊎_elim
     (λ folder. ⊎_elim (λ name. inl (ap (λ f. record { folder = f; name = a.name }) folder ∙ ap (λ n. record { folder = b.folder; name = n }) name))
-        (λ other. inr (λ same. other (ap (λ place. place.name) same))) (decided a.name b.name))
+    (λ other. inr (λ same. other (ap (λ place. place.name) same))) (decided a.name b.name))
     (λ other. inr (λ same. other (ap (λ place. place.folder) same)))
     (decided a.folder b.folder)
 

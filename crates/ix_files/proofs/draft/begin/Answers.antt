@@ -15,7 +15,7 @@ pub returns-in-Ok-clause-changes : goal.returns-in-Ok-clause-changes
 returns-in-Ok-clause-changes g c =
     let draft : IsDraftPlace (place_of c.args.target) (place_of c.in_ok-own.own) = first_of (search rules, grind (arith, common_steps)) in
     changed (changed c.loop-number.invariant.changes c.create.ensures.call (λ slots did. outside _ slots draft did.elsewhere))
-        c.dress.ensures.call (λ slots did place other. did place)
+    c.dress.ensures.call (λ slots did place other. did place)
 
 pub returns-in-Err-clause-changes : goal.returns-in-Err-clause-changes
 returns-in-Err-clause-changes g c =
