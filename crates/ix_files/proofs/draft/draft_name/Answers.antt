@@ -1,4 +1,4 @@
-use Rattle.std.proofs.Common.{◌≤◌, decimal, length, ap, ◌∙◌, ◌++◌, string_bytes, rules, arith}
+use Rattle.std.proofs.Common.{◌≤◌, decimal, length, ap, string_bytes, rules, arith}
 use Rattle.std.proofs.lemmas.Fmt.{length-decimal-le}
 use Rattle.std.proofs.lemmas.Grind.{common_steps}
 use Rattle.ix_files.proofs.Naming.{named}
