@@ -8,7 +8,9 @@ use Rattle.ix_files.proofs.Moments.{Run, called, elsewhere, started}
 pub unchanged : (target : Place) (old : View) → ((left : Slots) → old.left_since old.moment left → Stops old.slots left) → ChangesDrafts target old old
 unchanged target old only = record {
   others = λ honest place other. refl;
-  any_moment = λ honest. (started old (λ place entry stop other. stop) only).moments;
+  any_moment = λ honest.
+      let run : Run (λ place entry. ¬ (IsDraftPlace target place) → StopsAt (old.slots place) entry) old old = started old (λ place entry stop other. stop) only in
+      run.moments;
 }
 
 -- one call more
