@@ -2,16 +2,17 @@
 use Rattle.std.specs.Prelude.{◌≡◌, ◌≢◌, ◌≤◌, ◌<◌, ◌+◌, ◌⊎◌, ℕ, List, [], ◌∷◌, ◌++◌, codes, decimal, Some, length}
 use Rattle.std.specs.Io.{StartsWith}
 use Rattle.ix_files.specs.Locations.{place_of}
-use Rattle.ix_files.specs.Slots.{Entry, Growing, Kept, MayLeave, Nothing, Place, Slot, Slots, at_rest, entered}
+use Rattle.ix_files.specs.Slots.{Entry, Growing, Kept, MayLeave, Nothing, Place, Slot, Slots, at_rest}
 use Rattle.ix_files.specs.Views.{LeavesOnly, View}
 use Rattle.ix_files.specs.declared.draft.Draft.{Draft}
 
--- The name of a draft, by its number, of a file of this name, of which a beginning has to do if it is long.
+-- The name of a draft, by its number, of a file of this name. It has only a beginning of the file's name if it would be too long.
 pub record IsDraftName (name draft : List ℕ) : Type 0 where
   pub number : ℕ
   pub some : 0 < number
   pub front : List ℕ
   pub begins : StartsWith name front
+  pub whole : length name + length (decimal number) ≤ 250 → front ≡ name
   pub spelled : draft ≡ codes "." ++ front ++ codes ".ix-" ++ decimal number
   pub short : length draft ≤ 255
 
@@ -29,40 +30,32 @@ target_of draft = place_of draft.target
 abbrev pub own_of : {W : Type 0} → Draft W → Place
 own_of draft = place_of draft.own
 
--- A stop leaves this at a name.
-abbrev pub StopsAt : Slot → Slot → Type 0
-StopsAt slot left = (left ≡ slot) ⊎ ((entry : Entry) × MayLeave slot entry × (left ≡ at_rest entry))
+-- A stop of the program or of the machine may leave this at a name.
+abbrev pub StopsAt : Slot → Entry → Type 0
+StopsAt slot entry = (entry ≡ slot.now) ⊎ MayLeave slot entry
 
--- At the name is the new text whole, or what a stop could leave before.
-abbrev pub IsOldOrNew : Slot → List ℕ → Slot → Type 0
-IsOldOrNew slot text left = (left.now ≡ Kept text) ⊎ StopsAt slot left
+-- A stop left at each name but these what it could leave there before.
+abbrev pub IsOld : (Place → Type 0) → Slots → Slots → Type 0
+IsOld Excepted old left = (place : Place) → ¬ (Excepted place) → StopsAt (old place) (left place).now
 
--- So drafts of this file come and go: all other names stay, and also a stop leaves at them what it could leave before.
+-- The same, but the target may be the new text whole.
+abbrev pub IsOldOrNew : (Place → Type 0) → Place → List ℕ → Slots → Slots → Type 0
+IsOldOrNew Excepted target text old left = (place : Place) → ¬ (Excepted place)
+    → StopsAt (old place) (left place).now ⊎ ((place ≡ target) × ((left place).now ≡ Kept text))
+
+-- So drafts of this file come and go: all other names stay, and a stop at any moment leaves at them what it could leave before.
 pub record ChangesDrafts (target : Place) (old new : View) : Type 0 where
   pub others : new.honest → (place : Place) → ¬ (IsDraftPlace target place) → new.slots place ≡ old.slots place
-  pub any_moment : new.honest → (place : Place) → ¬ (IsDraftPlace target place)
-      → LeavesOnly (λ left. StopsAt (old.slots place) (left place)) old new
+  pub any_moment : new.honest → LeavesOnly (IsOld (IsDraftPlace target) old.slots) old new
 
--- A draft of this file was begun: it is at a name that had no file.
-pub record IsBegun (target own : Place) (new : View) : Type 0 where
-  pub draft : IsDraftPlace target own
-  pub growing : (new.slots own).now ≡ Growing
-
--- What the draft was to replace is the draft's text, on the disk, and no crash brings back what was there; the draft's own name
--- is free; and what is at each other name stays.
-pub record IsFinished (target own : Place) (text : List ℕ) (old new : View) : Type 0 where
+-- What the draft was to replace is the draft's text, on the disk, and no crash brings back what was there; the draft's own name is
+-- free.
+pub record IsFinished (target own : Place) (text : List ℕ) (new : View) : Type 0 where
   pub there : new.slots target ≡ at_rest (Kept text)
   pub gone : (new.slots own).now ≡ Nothing
-  pub others : (place : Place) → place ≢ target → place ≢ own → (new.slots place).now ≡ (old.slots place).now
 
 -- The draft did not surely take its place: there is what was there, or, if the folder could not be synced, the draft's text. Its
--- own name is free, or the system failed once more. What is at each other name stays.
+-- own name is free, or the system failed once more.
 pub record IsUnfinished (target own : Place) (text : List ℕ) (old new : View) : Type 0 where
   pub there : (new.slots target ≡ old.slots target) ⊎ ((new.slots target).now ≡ Kept text)
   pub gone : ((new.slots own).now ≡ Nothing) ⊎ (old.faults + 2 ≤ new.faults)
-  pub others : (place : Place) → place ≢ target → place ≢ own → (new.slots place).now ≡ (old.slots place).now
-
--- The draft is gone, or the system failed; what is at each other name stays.
-pub record IsDiscarded (own : Place) (old new : View) : Type 0 where
-  pub gone : ((new.slots own).now ≡ Nothing) ⊎ (old.faults < new.faults)
-  pub others : (place : Place) → place ≢ own → new.slots place ≡ old.slots place

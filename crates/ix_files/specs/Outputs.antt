@@ -1,25 +1,21 @@
 -- Where the output of a command goes, and what it leaves of the files.
 use Rattle.std.specs.Prelude.{◌≡◌, ◌≢◌, ◌⊎◌, List, ℕ, Option, None, Some, ⊤}
-use Rattle.ix_files.specs.Drafts.{IsBegun, IsDraftPlace}
+use Rattle.ix_files.specs.Drafts.{IsDraftPlace}
 use Rattle.ix_files.specs.Locations.{place_of}
-use Rattle.ix_files.specs.Slots.{Kept, Nothing, Place, at_rest}
+use Rattle.ix_files.specs.Slots.{Growing, Kept, Nothing, Place, at_rest}
 use Rattle.ix_files.specs.Views.{View}
 use Rattle.ix_files.specs.declared.output.DraftNames.{DraftNames}
 use Rattle.ix_files.specs.declared.output.Output.{Output}
 
--- the two names of a new file are of one folder, and apart
-pub record AreBeside (names : DraftNames) : Type 0 where
-  pub apart : place_of names.target ≢ place_of names.own
-  pub folder : (place_of names.target).folder ≡ (place_of names.own).folder
-
+-- the new file has one of the names that drafts of what it will replace may have
 abbrev pub AreReady : Option DraftNames → Type 0
 AreReady None = ⊤
-AreReady (Some names) = AreBeside names
+AreReady (Some names) = IsDraftPlace (place_of names.target) (place_of names.own)
 
 -- the output was begun for this path: into a device or a pipe, or into a new file beside the one that it will replace
 pub record IsDraftOf (view : View) (path : List ℕ) (names : DraftNames) : Type 0 where
   pub target : place_of names.target ≡ view.place path
-  pub begun : IsBegun (view.place path) (place_of names.own) view
+  pub growing : (view.slots (place_of names.own)).now ≡ Growing
 
 abbrev pub IsBegunFor : View → List ℕ → Option DraftNames → Type 0
 IsBegunFor view path None = (view.slots (view.place path)).now ≡ Nothing

@@ -1,10 +1,11 @@
 //! Replacing a file: the new one is written beside the old one, and takes its place once it is on the disk.
 
-ghost use Rattle.std.specs.Prelude.{◌≡◌, ◌≢◌, ◌<◌, ℕ, List, [], Some, IfOk, OnErr, OnOk, string_bytes};
-ghost use Rattle.ix_files.specs.Drafts.{ChangesDrafts, IsBegun, IsDiscarded, IsDraftName, IsDraftPlace, IsFinished, IsOldOrNew, IsUnfinished, StopsAt, own_of, target_of};
+ghost use Rattle.std.specs.Prelude.{◌≡◌, ◌≢◌, ◌<◌, ◌≤◌, ◌⊎◌, ℕ, List, [], Some, IfOk, OnErr, OnOk, length, string_bytes};
+ghost use Rattle.std.specs.Io.{StartsWith};
+ghost use Rattle.ix_files.specs.Drafts.{ChangesDrafts, IsDraftName, IsDraftPlace, IsFinished, IsOld, IsOldOrNew, IsUnfinished, own_of, target_of};
 ghost use Rattle.ix_files.specs.Locations.{place_of};
-ghost use Rattle.ix_files.specs.Slots.{Growing};
-ghost use Rattle.ix_files.specs.Views.{GoesOn, LeavesOnly};
+ghost use Rattle.ix_files.specs.Slots.{Growing, Nothing, Place};
+ghost use Rattle.ix_files.specs.Views.{GoesOn, HasCause, LeavesOnly};
 
 use crate::file_error::FileError;
 use crate::files::Files;
@@ -35,15 +36,17 @@ pub fn begin<F: Files>(
     files: &mut F,
     target: Location,
 ) -> Result<Draft<F::Writer>, FileError>
-    ensures begun { IfOk result (λ draft. (F.view files.new).honest
-        → IsBegun (place_of target) (own_of draft) (F.view files.new)) }
     ensures target { IfOk result (λ draft. target_of draft ≡ place_of target) }
+    ensures own { IfOk result (λ draft. IsDraftPlace (target_of draft) (own_of draft)) }
+    ensures growing { IfOk result (λ draft. (F.view files.new).honest
+        → ((F.view files.new).slots (own_of draft)).now ≡ Growing) }
     ensures empty { IfOk result (λ draft. (F.view files.new).honest
         → F.Writer.contents draft.writer ≡ Some []) }
     ensures changes { ChangesDrafts (place_of target) (F.view files.old) (F.view files.new) }
     ensures goes_on { GoesOn (F.view files.old) (F.view files.new) }
+    ensures cause { HasCause (F.view files.old) (F.view files.new) result }
 {
-    for number in 1..=u32::MAX {
+    for number in 1..u32::MAX {
         let name = draft_name(alloc, target.name(), number)?;
         if name.as_str() == target.name() {
             continue;
@@ -73,20 +76,23 @@ pub fn begin<F: Files>(
 /// `Failed`. The old one is untouched and the new one removed, if it can be; or, if the folder could not be synced, the new one is
 /// in its place.
 pub fn finish<F: Files>(files: &mut F, draft: Draft<F::Writer>) -> Result<(), FileError>
-    requires apart { target_of draft ≢ own_of draft }
-    requires folder { (target_of draft).folder ≡ (own_of draft).folder }
+    requires { IsDraftPlace (target_of draft) (own_of draft) }
     ensures done { OnOk result ((F.view files.new).honest → (text : List ℕ)
         → F.Writer.contents draft.writer ≡ Some text
-        → IsFinished (target_of draft) (own_of draft) text (F.view files.old) (F.view files.new)) }
+        → IsFinished (target_of draft) (own_of draft) text (F.view files.new)) }
     ensures undone { OnErr result ((F.view files.new).honest
         → ((F.view files.old).slots (own_of draft)).now ≡ Growing
         → (text : List ℕ) → F.Writer.contents draft.writer ≡ Some text
         → IsUnfinished (target_of draft) (own_of draft) text (F.view files.old) (F.view files.new)) }
+    ensures others { (F.view files.new).honest → (place : Place) → place ≢ target_of draft → place ≢ own_of draft
+        → ((F.view files.new).slots place).now ≡ ((F.view files.old).slots place).now }
     ensures any_moment { (F.view files.new).honest → (text : List ℕ)
         → F.Writer.contents draft.writer ≡ Some text
-        → LeavesOnly (λ left. IsOldOrNew ((F.view files.old).slots (target_of draft)) text
-        (left (target_of draft))) (F.view files.old) (F.view files.new) }
+        → LeavesOnly (IsOldOrNew (λ place. place ≡ own_of draft) (target_of draft) text (F.view files.old).slots)
+        (F.view files.old) (F.view files.new) }
     ensures goes_on { GoesOn (F.view files.old) (F.view files.new) }
+    ensures cause { OnErr result ((F.view files.new).honest
+        → (F.view files.old).faults < (F.view files.new).faults) }
 {
     let Draft {
         target,
@@ -112,13 +118,15 @@ pub fn finish<F: Files>(files: &mut F, draft: Draft<F::Writer>) -> Result<(), Fi
 
 /// Gives the new file up. The old one is untouched.
 pub fn discard<F: Files>(files: &mut F, draft: Draft<F::Writer>)
-    ensures discarded { (F.view files.new).honest
+    ensures gone { (F.view files.new).honest
         → ((F.view files.old).slots (own_of draft)).now ≡ Growing
-        → IsDiscarded (own_of draft) (F.view files.old) (F.view files.new) }
+        → (((F.view files.new).slots (own_of draft)).now ≡ Nothing)
+        ⊎ ((F.view files.old).faults < (F.view files.new).faults) }
+    ensures others { (F.view files.new).honest → (place : Place) → place ≢ own_of draft
+        → (F.view files.new).slots place ≡ (F.view files.old).slots place }
     ensures any_moment { (F.view files.new).honest
-        → target_of draft ≢ own_of draft
-        → LeavesOnly (λ left. StopsAt ((F.view files.old).slots (target_of draft))
-        (left (target_of draft))) (F.view files.old) (F.view files.new) }
+        → LeavesOnly (IsOld (λ place. place ≡ own_of draft) (F.view files.old).slots)
+        (F.view files.old) (F.view files.new) }
     ensures goes_on { GoesOn (F.view files.old) (F.view files.new) }
 {
     let _removed = files.remove(&draft.own);
@@ -137,6 +145,10 @@ fn draft_name(alloc: Global, name: &str, number: u32) -> Result<String, AllocErr
 }
 
 /// The characters of a text that its first `room` bytes hold whole.
-fn front_of(text: &str, room: usize) -> &str {
-    text
+fn front_of(text: &str, room: usize) -> &str
+    ensures begins { StartsWith text.now result.now }
+    ensures short { length result.now ≤ room }
+    ensures whole { length text.now ≤ room → result.now ≡ text.now }
+{
+    &text[..text.floor_char_boundary(room)]
 }

@@ -1,0 +1,49 @@
+-- Drafts of a file come and go.
+use Rattle.std.proofs.Common.{◌≡◌, ⊎_elim, refl, sym, subst, ◌∙◌, arith}
+use Rattle.ix_files.specs.Drafts.{ChangesDrafts, IsDraftPlace, StopsAt}
+use Rattle.ix_files.specs.Slots.{IsSameBut, Place, Slots, Stops}
+use Rattle.ix_files.specs.Views.{Calls, GoesOn, View}
+use Rattle.ix_files.proofs.Moments.{Run, called, elsewhere, started}
+
+pub unchanged : (target : Place) (old : View) → ((left : Slots) → old.left_since old.moment left → Stops old.slots left) → ChangesDrafts target old old
+unchanged target old only = record {
+  others = λ honest place other. refl;
+  any_moment = λ honest.
+      let run : Run (λ place entry. ¬ (IsDraftPlace target place) → StopsAt (old.slots place) entry) old old = started old (λ place entry stop other. stop) only in
+      run.moments;
+}
+
+-- one call more
+pub changed : {target : Place} {step : Slots → Slots → Type 0} {old mid new : View} → ChangesDrafts target old mid → Calls step mid new
+    → ((slots : Slots) → step mid.slots slots → (place : Place) → ¬ (IsDraftPlace target place) → slots place ≡ mid.slots place) → ChangesDrafts target old new
+changed {target = target} {old = old} {mid} {new} changes calls same = record {
+  others = λ honest place other. ⊎_elim (λ stays. stays place) (λ did. same new.slots did place other) (calls.passes honest).within ∙ changes.others (calls.honest honest) place other;
+  any_moment = λ honest.
+      let run : Run (λ place entry. ¬ (IsDraftPlace target place) → StopsAt (old.slots place) entry) old mid = record {
+        moments = changes.any_moment (calls.honest honest);
+        now = λ place entry stop other. subst (λ slot. StopsAt slot entry) (changes.others (calls.honest honest) place other) stop;
+      } in
+      (called run (calls.passes honest) (λ slots did. elsewhere mid.slots slots run.now (same slots did))).moments;
+}
+
+-- a step at the name of a draft
+pub outside : {target own : Place} (old new : Slots) → IsDraftPlace target own → IsSameBut own old new → (place : Place) → ¬ (IsDraftPlace target place) → new place ≡ old place
+outside {target = target} old new draft same place other = same place (λ is. other (subst (IsDraftPlace target) (sym is) draft))
+
+pub standing : (old : View) → GoesOn old old
+standing old = record {
+  honest = λ honest. honest;
+  places = λ honest path. refl;
+  folders = λ honest path. refl;
+  later = λ honest. omega arith;
+  counted = λ honest. omega arith;
+}
+
+pub went_on : {step : Slots → Slots → Type 0} {old mid new : View} → GoesOn old mid → Calls step mid new → GoesOn old new
+went_on before calls = record {
+  honest = λ honest. before.honest (calls.honest honest);
+  places = λ honest path. (calls.passes honest).places path ∙ before.places (calls.honest honest) path;
+  folders = λ honest path. (calls.passes honest).folders path ∙ before.folders (calls.honest honest) path;
+  later = λ honest. omega (arith, before.later (calls.honest honest), (calls.passes honest).later);
+  counted = λ honest. omega (arith, before.counted (calls.honest honest), (calls.passes honest).counted);
+}

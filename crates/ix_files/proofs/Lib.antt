@@ -1,0 +1,4 @@
+pub mod Drafting
+pub mod Finishing
+pub mod Moments
+pub mod Naming
