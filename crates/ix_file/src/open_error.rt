@@ -2,6 +2,7 @@
 ghost use Rattle.std.specs.Prelude.{◌≡◌};
 ghost use Rattle.ix_file.specs.OpenErrors.{open_error_number};
 ghost use Rattle.ix_file.specs.declared.open_error.OpenError.TheVariants.{Memory};
+ghost use Rattle.ix_postings.specs.declared.list_fault.ListFault.TheVariants.{Memory as NoMemory};
 
 use ix_postings::ListFault;
 use ix_vbyte::VbError;
@@ -163,7 +164,7 @@ impl From<AllocError> for OpenError {
 
 /// Of a list in POSTINGS: one that ends inside a number is not as long as its length says.
 impl From<ListFault> for OpenError {
-    ghost from_gives = { λ fault error. fault ≡ ListFault.Memory → error ≡ Memory };
+    ghost from_gives = { λ fault error. fault ≡ NoMemory → error ≡ Memory };
 
     fn from(fault: ListFault) -> OpenError {
         match fault {

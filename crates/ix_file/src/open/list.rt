@@ -1,5 +1,5 @@
 //! One list of an index text.
-ghost use Rattle.std.specs.Prelude.{◌≡◌, ◌⊎◌, ℕ, ◌<◌, ◌∷◌, ◌++◌, List, IfOk, IfErr, OnOk};
+ghost use Rattle.std.specs.Prelude.{◌≡◌, ◌⊎◌, ℕ, ◌<◌, [], ◌∷◌, ◌++◌, List, IfOk, IfErr, OnOk};
 ghost use Rattle.ix_vbyte.specs.Skips.{AreSkipsIn};
 ghost use Rattle.ix_text.specs.Parts.{DocumentRow, Posting};
 ghost use Rattle.ix_text.specs.TokenNumbers.{numbers_of_postings};

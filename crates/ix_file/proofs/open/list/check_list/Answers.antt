@@ -66,7 +66,7 @@ loop-document-preserved c =
     let size = c.in_ok-number.size in
     let left = loop.left.now in
     let old = c.args.claims.now in
-    let new = c.check_posting.new.claims in
+    let new = c.check_posting.new.seen in
     let same = sym (take_rest left size) in
     let stands : (rows : List DocumentRow) → HasTokens c.args.tokens.now rows → IsNextPosting rows loop.next left posting (drop size left) =
     λ rows has. record { above = (read.fits rows has).above; is = (read.fits rows has).is; coded = read.spelled } in
