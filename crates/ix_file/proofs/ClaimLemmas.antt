@@ -66,12 +66,6 @@ pub marked_beside : (marks others : TokenMarks) (doubled there meets : Bool) (on
 unfolding HasClaimed
 marked_beside marks others doubled there meets one other has has_too told = distinct_beside doubled there meets one other has.1 has_too.1 (told has.0 has_too.0)
 
--- room for some is room for fewer
-pub room_below : (claims : Claims) (less top : ℕ) → less ≤ top → HasRoom claims top → HasRoom claims less
-unfolding HasRoom
-room_below (Marked marks doubled) less top below fits = omega (arith, below, fits)
-room_below (Listed listed) less top below fits = tt
-
 -- nothing more, and one behind another
 pub claimed_none : (claims : Claims) → HaveClaimed claims claims []
 claimed_none claims numbers has = subst (HasClaimed claims) (sym (append-nil numbers)) has

@@ -31,7 +31,6 @@ pub mod OpenedSays
 pub mod Opening
 pub mod PlacedLemmas
 pub mod Placing
-pub mod PositionReading
 pub mod PostingReading
 pub mod RowReading
 pub mod StopReading

@@ -12,7 +12,6 @@ pub mod OpenedLaws
 pub mod OpenedRows
 pub mod PlacedTerms
 pub mod Places
-pub mod PositionReads
 pub mod ReadListings
 pub mod ReadLists
 pub mod Refusals

@@ -1,22 +1,13 @@
 -- The lists of POSTINGS: which bytes are the list of a term whose postings lie in the documents.
-use Rattle.std.specs.Prelude.{◌≡◌, ℕ, ◌+◌, ◌-◌, ◌^◌, ◌≤◌, ◌++◌, List, flat_map, length, slice_range, sum_by, All}
+use Rattle.std.specs.Prelude.{◌≡◌, ℕ, ◌+◌, ◌-◌, ◌≤◌, ◌++◌, List, flat_map, length, slice_range, All}
 use Rattle.std.specs.List.{AllZip}
-use Rattle.ix_vbyte.specs.Gaps.{Ascends, gaps_of}
-use Rattle.ix_vbyte.specs.Postings.{codes_of, list_bytes, posting_bytes}
+use Rattle.ix_vbyte.specs.Postings.{list_bytes, posting_bytes}
 use Rattle.ix_text.specs.Parts.{AreTermPostings, DocumentRow, Posting}
 use Rattle.ix_text.specs.TokenLaws.{IsPostingIn}
 use Rattle.ix_text.specs.TokenNumbers.{AreDistinct, numbers_of_postings}
-use Rattle.ix_postings.specs.TokenTables.{HasTokens}
-use Rattle.ix_postings.specs.declared.token_table.TokenTable.{TokenTable}
-use Rattle.ix_file.specs.Claimed.{HasClaimed, HasRoom}
+use Rattle.ix_file.specs.Claimed.{HasClaimed}
 use Rattle.ix_file.specs.declared.open.claims.Claims.{Claims}
 use Rattle.ix_file.specs.PlacedTerms.{PlacedTerm}
-
--- The bytes begin with the gaps of so many positions, which ascend below the number of tokens.
-pub record ArePositionsIn (tokens count : ℕ) (bytes positions rest : List ℕ) : Type 0 where
-  pub ascend : Ascends 0 tokens positions
-  pub counted : length positions ≡ count
-  pub coded : bytes ≡ codes_of (gaps_of positions) ++ rest
 
 -- The bytes begin with those of a posting that lies in the documents, where `next` is one above the document before.
 pub record IsNextPosting (rows : List DocumentRow) (next : ℕ) (bytes : List ℕ) (posting : Posting) (rest : List ℕ) : Type 0 where
@@ -49,11 +40,3 @@ pub record AreClaimedLists (rows : List DocumentRow) (section : List ℕ) (terms
   pub lists : List (List Posting)
   pub each : AllZip (IsListOf rows section) terms lists
   pub claimed : HasClaimed claims (flat_map (numbers_of_postings rows) lists)
-
--- Each token of the documents that the table has may be claimed, and there are no more than a lawful collection has.
-pub record MayClaim (tokens : TokenTable) (claims : Claims) : Type 0 where
-  pub rows : List DocumentRow
-  pub has : HasTokens tokens rows
-  pub few : length rows ≤ 2 ^ 28
-  pub few_tokens : sum_by (λ row. row.tokens) rows ≤ 2 ^ 28
-  pub room : HasRoom claims (sum_by (λ row. row.tokens) rows)

@@ -18,7 +18,6 @@ mod gram_walk;
 pub(crate) mod grams;
 pub(crate) mod list;
 pub(crate) mod lists;
-pub(crate) mod positions;
 mod sides;
 pub(crate) mod stop;
 pub(crate) mod tables;

@@ -2,7 +2,9 @@
 ghost use Rattle.std.specs.Prelude.{◌≡◌};
 ghost use Rattle.ix_file.specs.OpenErrors.{open_error_number};
 ghost use Rattle.ix_file.specs.declared.open_error.OpenError.TheVariants.{Memory};
+ghost use Rattle.ix_postings.specs.declared.list_fault.ListFault.TheVariants.{Memory as NoMemory};
 
+use ix_postings::ListFault;
 use ix_vbyte::VbError;
 use std::alloc::{AllocError, AllocFailed};
 use std::{error, fmt};
@@ -157,6 +159,24 @@ impl From<AllocError> for OpenError {
 
     fn from(_error: AllocError) -> OpenError {
         OpenError::Memory
+    }
+}
+
+/// Of a list in POSTINGS: one that ends inside a number is not as long as its length says.
+impl From<ListFault> for OpenError {
+    ghost from_gives = { λ fault error. fault ≡ NoMemory → error ≡ Memory };
+
+    fn from(fault: ListFault) -> OpenError {
+        match fault {
+            ListFault::Number(VbError::Cut) => OpenError::ListLength,
+            ListFault::Number(fault) => OpenError::Number(Section::Postings, fault),
+            ListFault::Zero => OpenError::Zero,
+            ListFault::DocRange => OpenError::DocRange,
+            ListFault::PositionRange => OpenError::PositionRange,
+            ListFault::Doubled => OpenError::Doubled,
+            ListFault::ListLength => OpenError::ListLength,
+            ListFault::Memory => OpenError::Memory,
+        }
     }
 }
 

@@ -1,2 +1,10 @@
+pub mod CheckedLists
+pub mod CheckedPostings
+pub mod CodeFaults
+pub mod FitPostings
 pub mod Marked
+pub mod NextPostings
+pub mod NumberLemmas
+pub mod PositionLemmas
+pub mod Seen
 pub mod TokenStarts

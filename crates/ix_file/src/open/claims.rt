@@ -1,10 +1,10 @@
 //! The tokens that the lists of an index text claim, each by its number in the whole collection.
-ghost use Rattle.std.specs.Prelude.{◌≡◌, ℕ, ◌*◌, ◌<◌, ◌≤◌, ◌∷◌, ◌++◌, [], ◌↔◌, List, IfOk, IfSome, OnOk, IsTrue};
+ghost use Rattle.std.specs.Prelude.{ℕ, ◌*◌, ◌≤◌, ◌++◌, [], ◌↔◌, List, IfOk, IfSome, IsTrue};
 ghost use Rattle.std.specs.List.Sorted.{IsStrictlyIncreasing};
 ghost use Rattle.ix_text.specs.TokenNumbers.{AreDistinct};
-ghost use Rattle.ix_file.specs.Claimed.{HasClaimed, HasRoom, HaveClaimed, mark_count};
+ghost use Rattle.ix_file.specs.Claimed.{HasClaimed, HasRoom, mark_count};
 
-use ix_postings::TokenMarks;
+use ix_postings::{ListFault, SeenTokens, TokenMarks};
 use std::alloc::{AllocError, Global};
 
 /// How many marks take a byte.
@@ -38,25 +38,6 @@ impl Claims {
         }
     }
 
-    /// Claims the token of this number.
-    #[inline]
-    pub(crate) fn claim(&mut self, number: u32) -> Result<(), AllocError>
-        requires { (top : ℕ) × HasRoom self.old top × (number < top) }
-        ensures claimed { OnOk result (HaveClaimed self.old self.new (number ∷ [])) }
-        ensures room { (top : ℕ) → HasRoom self.old top → HasRoom self.new top }
-    {
-        match self {
-            Claims::Marked(marks, doubled) => {
-                *doubled |= !marks.mark(number);
-                Ok(())
-            }
-            Claims::Listed(numbers) => {
-                numbers.push(number)?;
-                Ok(())
-            }
-        }
-    }
-
     /// Whether a token was claimed more than once.
     pub(crate) fn are_doubled(self) -> bool
         ensures { (numbers : List ℕ) → HasClaimed self numbers →
@@ -84,6 +65,33 @@ impl Claims {
             _ => None,
         }
     }
+}
+
+/// A token that is claimed again is no error before the last list was checked.
+impl SeenTokens for Claims {
+    ghost use Rattle.std.specs.Prelude.{⊤};
+
+    ghost has_seen = { HasClaimed };
+
+    ghost has_room = { HasRoom };
+
+    ghost admits = { λ _. ⊤ };
+
+    #[inline(always)]
+    fn see(&mut self, number: u32) -> Result<(), ListFault> {
+        match self {
+            Claims::Marked(marks, doubled) => {
+                *doubled |= !marks.mark(number);
+                Ok(())
+            }
+            Claims::Listed(numbers) => {
+                numbers.push(number)?;
+                Ok(())
+            }
+        }
+    }
+
+    ghost front_admitted = { λ _ _ _. tt };
 }
 
 /// Whether each number is below the next.

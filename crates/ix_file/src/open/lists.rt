@@ -1,11 +1,12 @@
 //! The lists of an index text, and that no token stands in two of them.
 ghost use Rattle.std.specs.Prelude.{◌≡◌, ◌⊎◌, ◌+◌, ◌-◌, ◌*◌, ◌<◌, ◌≤◌, ◌∷◌, ◌++◌, [], List, length, slice_range, All, IfOk, IfErr, OnOk};
 ghost use Rattle.ix_text.specs.Parts.{DocumentRow, Posting};
+ghost use Rattle.ix_postings.specs.NextPostings.{HaveRoom};
 ghost use Rattle.ix_postings.specs.TokenTables.{HasTokens};
 ghost use Rattle.ix_file.specs.Claimed.{HasClaimed, HasRoom, mark_count};
 ghost use Rattle.ix_file.specs.ReadListings.{AreLaidOut, HasListedCounts, listings_in, sizes_sum};
 ghost use Rattle.ix_file.specs.LongLists.{IsLongIn};
-ghost use Rattle.ix_file.specs.ReadLists.{AreClaimedLists, AreListsIn, MayClaim};
+ghost use Rattle.ix_file.specs.ReadLists.{AreClaimedLists, AreListsIn};
 ghost use Rattle.ix_file.specs.declared.open.claims.Claims.{Claims};
 ghost use Rattle.ix_file.specs.declared.open_error.OpenError.TheVariants.{Memory};
 
@@ -34,7 +35,7 @@ pub(crate) fn check_lists(
     requires laid_out { AreLaidOut terms.now }
     requires whole { sizes_sum (listings_in terms.now) ≡ length section.now }
     requires counts { All HasListedCounts (listings_in terms.now) }
-    requires ready { MayClaim tokens.now claims }
+    requires ready { HaveRoom tokens.now (HasRoom claims) }
     requires none { HasClaimed claims [] }
     requires few { mark_count claims ≤ 8 * length section.now }
     ensures found { IfOk result (λ _. (rows : List DocumentRow) → HasTokens tokens.now rows →
@@ -67,7 +68,8 @@ pub(crate) fn check_lists_beside<R: Threads>(
     requires laid_out { AreLaidOut terms.now }
     requires whole { sizes_sum (listings_in terms.now) ≡ length section.now }
     requires counts { All HasListedCounts (listings_in terms.now) }
-    requires ready { (claims : Claims) → HasRoom claims total → MayClaim tokens.now claims }
+    requires ready { (claims : Claims) → HasRoom claims total
+        → HaveRoom tokens.now (HasRoom claims) }
     ensures found { IfOk result (λ _. (rows : List DocumentRow) → HasTokens tokens.now rows →
         (lists : List (List Posting)) × AreListsIn rows section.now terms.now lists) }
     ensures entered { IfOk result (λ longs.
@@ -87,7 +89,8 @@ pub(crate) fn check_lists_beside<R: Threads>(
         requires laid_out { AreLaidOut terms.now }
         requires whole { sizes_sum (listings_in terms.now) ≡ length section.now }
         requires counts { All HasListedCounts (listings_in terms.now) }
-        requires ready { (claims : Claims) → HasRoom claims total → MayClaim tokens.now claims }
+        requires ready { (claims : Claims) → HasRoom claims total
+            → HaveRoom tokens.now (HasRoom claims) }
         requires range { front.0 ≤ front.1 }
         requires within { front.1 ≤ length terms.now }
         ensures found { IfOk result (λ read. (rows : List DocumentRow) →
@@ -104,7 +107,8 @@ pub(crate) fn check_lists_beside<R: Threads>(
         requires laid_out { AreLaidOut terms.now }
         requires whole { sizes_sum (listings_in terms.now) ≡ length section.now }
         requires counts { All HasListedCounts (listings_in terms.now) }
-        requires ready { (claims : Claims) → HasRoom claims total → MayClaim tokens.now claims }
+        requires ready { (claims : Claims) → HasRoom claims total
+            → HaveRoom tokens.now (HasRoom claims) }
         requires range { back.0 ≤ back.1 }
         requires within { back.1 ≤ length terms.now }
         ensures found { IfOk result (λ read. (rows : List DocumentRow) →
@@ -158,7 +162,8 @@ fn check_all(
     requires laid_out { AreLaidOut terms.now }
     requires whole { sizes_sum (listings_in terms.now) ≡ length section.now }
     requires counts { All HasListedCounts (listings_in terms.now) }
-    requires ready { (claims : Claims) → HasRoom claims total → MayClaim tokens.now claims }
+    requires ready { (claims : Claims) → HasRoom claims total
+        → HaveRoom tokens.now (HasRoom claims) }
     ensures found { IfOk result (λ _. (rows : List DocumentRow) → HasTokens tokens.now rows →
         (lists : List (List Posting)) × AreListsIn rows section.now terms.now lists) }
     ensures entered { IfOk result (λ longs.
@@ -183,7 +188,8 @@ fn check_part(
     requires laid_out { AreLaidOut terms.now }
     requires whole { sizes_sum (listings_in terms.now) ≡ length section.now }
     requires counts { All HasListedCounts (listings_in terms.now) }
-    requires ready { (claims : Claims) → HasRoom claims total → MayClaim tokens.now claims }
+    requires ready { (claims : Claims) → HasRoom claims total
+        → HaveRoom tokens.now (HasRoom claims) }
     requires range { range.0 ≤ range.1 }
     requires within { range.1 ≤ length terms.now }
     ensures found { IfOk result (λ read. (rows : List DocumentRow) → HasTokens tokens.now rows →
@@ -213,7 +219,7 @@ fn check_range(
     requires counts { All HasListedCounts (listings_in terms.now) }
     requires range { range.0 ≤ range.1 }
     requires within { range.1 ≤ length terms.now }
-    requires ready { MayClaim tokens.now claims }
+    requires ready { HaveRoom tokens.now (HasRoom claims) }
     requires none { HasClaimed claims [] }
     requires few { mark_count claims ≤ 8 * length section.now }
     ensures found { IfOk result (λ read. (rows : List DocumentRow) → HasTokens tokens.now rows →

@@ -1,4 +1,4 @@
-use Rattle.std.proofs.Common.{◌<◌, length, inl, inr, refl, ap, ⊎_elim, arith}
+use Rattle.std.proofs.Common.{◌<◌, [], length, inl, inr, refl, ap, ⊎_elim, arith}
 use Rattle.std.proofs.lemmas.Result.{err_from_is_err_and}
 use Rattle.std.proofs.lemmas.List.Elements.{All-nil}
 use Rattle.ix_vbyte.specs.Skips.{AreSkipsIn}
@@ -15,7 +15,7 @@ pub loop-number-init : goal.loop-number-init
 loop-number-init c = record {
   read = λ rows has. read_none_from rows c.args.section.now c.args.terms.now c.args.range.0 c.args.claims;
   entered = rw c.new-longs.ensures.items (All-nil (IsLongIn c.args.section.now c.args.terms.now));
-  ready = c.requires.ready;
+  room = λ top has. has;
 }
 
 pub list_of-list-requires : goal.list_of-list-requires
@@ -33,7 +33,14 @@ check_list-requires-clause-some c =
     omega (arith, some, ap (λ (p : ListPlace). p.documents) at.is)
 
 pub check_list-requires-clause-ready : goal.check_list-requires-clause-ready
-check_list-requires-clause-ready c = c.loop-number.invariant.ready
+check_list-requires-clause-ready c =
+    let ready = c.requires.ready in
+    record { rows = ready.rows; has = ready.has; few_documents = ready.few_documents; few_tokens = ready.few_tokens; room = c.loop-number.invariant.room _ ready.room }
+
+pub check_list-requires-clause-claimed : goal.check_list-requires-clause-claimed
+check_list-requires-clause-claimed c =
+    let read = c.loop-number.invariant.read c.requires.ready.rows c.requires.ready.has in
+    (_, read.claimed [] c.requires.none)
 
 pub returns-in_err-skips-clause-refused : goal.returns-in_err-skips-clause-refused
 returns-in_err-skips-clause-refused c =
@@ -67,7 +74,7 @@ loop-number-preserved c =
           let skips = to_term (λ documents bytes. AreSkipsIn documents bytes c.in_ok-skips.skips.items) section at.term c.list-place.result c.list_of-list.result.now at.is c.list_of-list.ensures c.in_ok-skips.ensures.entered in
           long_kept section c.args.terms.now c.loop-number.longs.items c.keep_long.new.longs.items long c.loop-number.invariant.entered c.in_ok-keep_long.ensures
           (long_in section c.args.terms.now c.loop-number.number at.term long refl at.read skips);
-      ready = c.in_ok-skips.ensures.room;
+      room = λ top has. c.check_list.ensures.room top (c.loop-number.invariant.room top has);
     }
 
 pub returns-clause-found : goal.returns-clause-found

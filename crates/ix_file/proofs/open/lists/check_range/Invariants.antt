@@ -1,8 +1,8 @@
-use Rattle.std.proofs.Common.{All, List, slice_range}
+use Rattle.std.proofs.Common.{All, ℕ, List, slice_range}
 use Rattle.ix_text.specs.Parts.{DocumentRow}
 use Rattle.ix_postings.specs.TokenTables.{HasTokens}
 use Rattle.ix_file.specs.LongLists.{IsLongIn}
-use Rattle.ix_file.specs.ReadLists.{MayClaim}
+use Rattle.ix_file.specs.Claimed.{HasRoom}
 use Rattle.ix_file.proofs.AllLists.{HasReadLists}
 use Rattle.ix_file.proofs.open.lists.check_range.Given as goal
 
@@ -10,5 +10,5 @@ abbrev pub invariant-loop-number : goal.invariant-loop-number
 invariant-loop-number l = record {
   read : (rows : List DocumentRow) → HasTokens l.tokens rows → HasReadLists rows l.section (slice_range l.terms l.from l.number) l.initial.claims l.claims;
   entered : All (IsLongIn l.section l.terms) l.longs.items;
-  ready : MayClaim l.tokens l.claims;
+  room : (top : ℕ) → HasRoom l.initial.claims top → HasRoom l.claims top;
 }

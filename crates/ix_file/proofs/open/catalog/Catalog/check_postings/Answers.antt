@@ -23,7 +23,7 @@ check_lists-requires-clause-ready c =
     record {
       rows = rows;
       has = has;
-      few = omega (arith, is.rows_counted, c.requires.few, length-map items (row_in texts.documents));
+      few_documents = omega (arith, is.rows_counted, c.requires.few, length-map items (row_in texts.documents));
       few_tokens = is.rows.few_tokens;
       room = subst (HasRoom c.in_ok-claims.claims) total c.in_ok-claims.ensures.room;
     }

@@ -23,7 +23,7 @@ check_lists_beside-requires-clause-ready g c claims room =
     record {
       rows = rows;
       has = has;
-      few = omega (arith, is.rows_counted, c.requires.few, length-map items (row_in texts.documents));
+      few_documents = omega (arith, is.rows_counted, c.requires.few, length-map items (row_in texts.documents));
       few_tokens = is.rows.few_tokens;
       room = subst (HasRoom claims) total room;
     }
