@@ -44,5 +44,7 @@ RefusesQuery collection query _ = ⊥
 
 -- Why a question was refused, and what went out.
 abbrev pub LeavesSearch : Collection → List ℕ → Option (List ℕ) → Option (List ℕ) → AskError → Type 0
+LeavesSearch collection query old new (asking.Query error) = Fails error (query_of collection.stop query) × Keeps old new
 LeavesSearch collection query old new asking.Write = IsSearchCut collection query old new
-LeavesSearch collection query old new error = RefusesQuery collection query error × Keeps old new
+LeavesSearch collection query old new asking.Memory = Keeps old new
+LeavesSearch collection query old new _ = ⊥
