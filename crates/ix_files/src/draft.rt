@@ -52,6 +52,8 @@ pub fn begin<F: Files>(
             continue;
         }
         let own = target.beside(alloc, name)?;
+        // What a killed program left there is not locked.
+        let _removed = files.remove_unlocked(&own);
         match files.create(&own) {
             Ok(writer) => {
                 files.dress(&own, &target);
@@ -61,9 +63,8 @@ pub fn begin<F: Files>(
                     writer,
                 });
             }
-            Err(FileError::Exists) => {
-                let _removed = files.remove_unlocked(&own);
-            }
+            // Another program writes it.
+            Err(FileError::Exists) => {}
             Err(error) => return Err(error),
         }
     }

@@ -5,22 +5,25 @@ ghost use Rattle.std.specs.String.{string_bytes};
 ghost use Rattle.ix_files.specs.Locations.{place_of};
 
 use std::alloc::{AllocError, Global};
-use std::path::{Path, PathBuf};
+use std::path::Path;
 
 /// A name in a folder, and no link: what a path led to. Those of one folder have the same path of it.
 #[derive(Drop)]
 pub struct Location {
     folder: String,
     name: String,
+    // made at once, so that a file can be removed when there is no memory
+    path: String,
 }
 
 impl Location {
     /// The name in the folder of this path, which leads through no links and dots, and is the same for each name in it.
-    pub fn new(folder: String, name: String) -> Location
-        ensures folder { (place_of result).folder ≡ string_bytes folder }
-        ensures name { (place_of result).name ≡ string_bytes name }
+    pub fn new(alloc: Global, folder: String, name: String) -> Result<Location, AllocError>
+        ensures folder { IfOk result (λ location. (place_of location).folder ≡ string_bytes folder) }
+        ensures name { IfOk result (λ location. (place_of location).name ≡ string_bytes name) }
     {
-        Location { folder, name }
+        let path = Path::new(folder.as_str()).join(alloc, name.as_str())?.into_string();
+        Ok(Location { folder, name, path })
     }
 
     /// The path of the folder.
@@ -38,8 +41,8 @@ impl Location {
     }
 
     /// The path: that of the folder, and the name.
-    pub fn path(&self, alloc: Global) -> Result<PathBuf, AllocError> {
-        Path::new(self.folder.as_str()).join(alloc, self.name.as_str())
+    pub fn path(&self) -> &str {
+        self.path.as_str()
     }
 
     /// Another name in the same folder.
@@ -48,7 +51,7 @@ impl Location {
         ensures name { IfOk result (λ beside. (place_of beside).name ≡ string_bytes name) }
     {
         let folder = String::from_str(alloc, self.folder.as_str())?;
-        Ok(Location { folder, name })
+        Location::new(alloc, folder, name)
     }
 }
 

@@ -61,7 +61,7 @@ impl<R: rt::Files<File = File> + AllocGlobal> SystemFiles<'_, R> {
     }
 
     /// Whether the open file has this path, which is no link.
-    fn is_at(&self, file: &File, path: &PathBuf) -> bool {
+    fn is_at(&self, file: &File, path: &str) -> bool {
         match (file.metadata(), fs::symlink_metadata(self.rt, path)) {
             (Ok(open), Ok(there)) => Identity::of(&open) == Identity::of(&there),
             _ => false,
@@ -88,7 +88,7 @@ impl<R: rt::Files<File = File> + AllocGlobal> SystemFiles<'_, R> {
         }
         let folder = self.canonical(folder)?;
         let name = String::from_str(self.rt.alloc(), name)?;
-        Ok(Location::new(folder, name))
+        Ok(Location::new(self.rt.alloc(), folder, name)?)
     }
 
     /// The path to which a link points, or none if it is no link.
@@ -108,7 +108,7 @@ impl<R: rt::Files<File = File> + AllocGlobal> SystemFiles<'_, R> {
     }
 
     /// Removes a regular file that no other program has locked, and returns whether it did.
-    fn remove_if_unlocked(&self, path: &PathBuf) -> bool {
+    fn remove_if_unlocked(&self, path: &str) -> bool {
         match fs::symlink_metadata(self.rt, path) {
             Ok(metadata) if metadata.is_file() => {}
             _ => return false,
@@ -186,7 +186,7 @@ where
     }
 
     fn create(&mut self, at: &Location) -> Result<SystemWriter<'r, R>, FileError> {
-        let path = at.path(self.rt.alloc())?;
+        let path = at.path();
         let file = match OpenOptions::new()
             .write(true)
             .create_new(true)
@@ -207,9 +207,7 @@ where
     }
 
     fn dress(&mut self, at: &Location, like: &Location) {
-        let (Ok(path), Ok(like)) = (at.path(self.rt.alloc()), like.path(self.rt.alloc())) else {
-            return;
-        };
+        let (path, like) = (at.path(), like.path());
         let Ok(metadata) = fs::metadata(self.rt, &like) else {
             return;
         };
@@ -233,20 +231,15 @@ where
     }
 
     fn rename(&mut self, from: &Location, to: &Location) -> Result<(), FileError> {
-        let (from, to) = (from.path(self.rt.alloc())?, to.path(self.rt.alloc())?);
-        done(fs::rename(self.rt, from, to))
+        done(fs::rename(self.rt, from.path(), to.path()))
     }
 
     fn remove(&mut self, at: &Location) -> Result<(), FileError> {
-        let path = at.path(self.rt.alloc())?;
-        done(fs::remove_file(self.rt, path))
+        done(fs::remove_file(self.rt, at.path()))
     }
 
     fn remove_unlocked(&mut self, at: &Location) -> bool {
-        match at.path(self.rt.alloc()) {
-            Ok(path) => self.remove_if_unlocked(&path),
-            Err(_) => false,
-        }
+        self.remove_if_unlocked(at.path())
     }
 
     fn sync_folder(&mut self, folder: &str) -> Result<(), FileError> {
