@@ -9,6 +9,7 @@ use ix_command::{Refusal, command, refuse};
 use meter::Meter;
 use std::alloc::AllocError;
 use std::env;
+use std::fs::File;
 use std::io::{ErrorKind, Input, IsTerminal, Write};
 use std::process::ExitCode;
 use std::rt::Files;
@@ -44,7 +45,7 @@ fn main(rt: HostRuntime) -> ExitCode {
 
 /// Does what the words after the program's name ask for.
 fn run<
-    R: Files + Input + AllocGlobal + Threads + Wait + Sync,
+    R: Files<File = File> + Input + Print + AllocGlobal + Threads + Wait + Sync,
     S: RunFiles,
     V: Watch,
     W: Write,

@@ -27,6 +27,7 @@ use ix_build::{RunFiles, Watch};
 use ix_line::{Line, LineError, help_on, read_line, with_help_as_flag};
 use ix_output::{flush, put_all};
 use std::alloc::{AllocError, Global};
+use std::fs::File;
 use std::io::{Input, Write};
 use std::rt::Files;
 use std::sync::Wait;
@@ -44,7 +45,7 @@ const ONE_FILE: usize = 1;
 /// [`command_over`] the files of the system, of whose bytes nothing is known. Those of the runs come
 /// from the caller, since files that are shared among threads are made at one runtime alone.
 pub fn command<
-    R: Files + Input + AllocGlobal + Threads + Wait + Sync,
+    R: Files<File = File> + Input + Print + AllocGlobal + Threads + Wait + Sync,
     S: RunFiles,
     V: Watch,
     W: Write,

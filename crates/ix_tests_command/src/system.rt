@@ -4,6 +4,7 @@ use super::disk::Disk;
 use super::session::{FILES, play};
 use ix_build::{RunFiles, SystemFiles, Unwatched};
 use ix_command::command;
+use std::fs::File;
 use std::io::{Input, Write};
 use std::process::Abort;
 use std::rt::Files;
@@ -21,7 +22,7 @@ fn path_of(rt: &HostRuntime, word: &str) -> Result<String, Fail> {
 
 /// Runs the program over the files of the system, and answers its status.
 fn status_of<
-    R: Files + Input + AllocGlobal + Threads + Wait + Sync,
+    R: Files<File = File> + Input + Print + AllocGlobal + Threads + Wait + Sync,
     S: RunFiles,
     W: Write,
     E: Write,
