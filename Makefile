@@ -42,6 +42,7 @@ check-docs: all
 check-program: all
 	@tests/check_calls.py
 	@tests/check_program.py build/ix
+	@tests/check_outputs.py build/ix
 
 check-faults: all
 	@tests/check_faults.py build/ix

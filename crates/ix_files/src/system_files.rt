@@ -226,7 +226,7 @@ where
         };
         match file.sync_all() {
             Ok(()) => Ok(file),
-            Err(error) => Err(fault(&error)),
+            Err(_) => Err(FileError::Failed),
         }
     }
 
@@ -243,8 +243,10 @@ where
     }
 
     fn sync_folder(&mut self, folder: &str) -> Result<(), FileError> {
-        let folder = opened(File::open(self.rt, folder))?;
-        done(folder.sync_all())
+        match File::open(self.rt, folder) {
+            Ok(folder) => done(folder.sync_all()),
+            Err(_) => Err(FileError::Failed),
+        }
     }
 
     fn open_stream(&mut self, path: &str) -> Result<SystemWriter<'r, R>, FileError> {
@@ -334,11 +336,11 @@ fn opened(file: io::Result<File>) -> Result<File, FileError>
     }
 }
 
-/// Whether a call of the system did what it was to do.
+/// Whether a call of the system did what it was to do, which takes no memory of the program.
 fn done(outcome: io::Result<()>) -> Result<(), FileError> {
     match outcome {
         Ok(()) => Ok(()),
-        Err(error) => Err(fault(&error)),
+        Err(_) => Err(FileError::Failed),
     }
 }
 
