@@ -1,9 +1,10 @@
 -- Drafts of a file come and go.
 use Rattle.std.proofs.Common.{◌≡◌, ⊎_elim, refl, sym, subst, ◌∙◌, arith}
 use Rattle.ix_files.specs.Drafts.{ChangesDrafts, IsDraftPlace, StopsAt}
-use Rattle.ix_files.specs.Slots.{IsSameBut, Place, Slots, Stops}
+use Rattle.ix_files.specs.Slots.{IsSameBut, Nothing, Place, Slots, Stops}
+use Rattle.ix_files.specs.Steps.{Overwrites}
 use Rattle.ix_files.specs.Views.{Calls, GoesOn, View}
-use Rattle.ix_files.proofs.Moments.{Run, called, elsewhere, started}
+use Rattle.ix_files.proofs.Moments.{Run, called, elsewhere, place_decided, started}
 
 pub unchanged : (target : Place) (old : View) → ((left : Slots) → old.left_since old.moment left → Stops old.slots left) → ChangesDrafts target old old
 unchanged target old only = record {
@@ -13,18 +14,27 @@ unchanged target old only = record {
       run.moments;
 }
 
--- one call more
-pub changed : {target : Place} {step : Slots → Slots → Type 0} {old mid new : View} → ChangesDrafts target old mid → Calls step mid new
-    → ((slots : Slots) → step mid.slots slots → (place : Place) → ¬ (IsDraftPlace target place) → slots place ≡ mid.slots place) → ChangesDrafts target old new
-changed {target = target} {old = old} {mid} {new} changes calls same = record {
-  others = λ honest place other. ⊎_elim (λ stays. stays place) (λ did. same new.slots did place other) (calls.passes honest).within ∙ changes.others (calls.honest honest) place other;
+-- one call more, of which it is known that answers are as the files were
+pub changed_if : {target : Place} {step : Slots → Slots → Type 0} {old mid new : View} → ChangesDrafts target old mid → Calls step mid new
+    → (new.honest → (slots : Slots) → step mid.slots slots → (place : Place) → ¬ (IsDraftPlace target place) → slots place ≡ mid.slots place) → ChangesDrafts target old new
+changed_if {target = target} {old = old} {mid} {new} changes calls same = record {
+  others = λ honest place other. ⊎_elim (λ stays. stays place) (λ did. same honest new.slots did place other) (calls.passes honest).within ∙ changes.others (calls.honest honest) place other;
   any_moment = λ honest.
       let run : Run (λ place entry. ¬ (IsDraftPlace target place) → StopsAt (old.slots place) entry) old mid = record {
         moments = changes.any_moment (calls.honest honest);
         now = λ place entry stop other. subst (λ slot. StopsAt slot entry) (changes.others (calls.honest honest) place other) stop;
       } in
-      (called run (calls.passes honest) (λ slots did. elsewhere mid.slots slots run.now (same slots did))).moments;
+      (called run (calls.passes honest) (λ slots did. elsewhere mid.slots slots run.now (same honest slots did))).moments;
 }
+
+-- one call more
+pub changed : {target : Place} {step : Slots → Slots → Type 0} {old mid new : View} → ChangesDrafts target old mid → Calls step mid new
+    → ((slots : Slots) → step mid.slots slots → (place : Place) → ¬ (IsDraftPlace target place) → slots place ≡ mid.slots place) → ChangesDrafts target old new
+changed changes calls same = changed_if changes calls (λ honest. same)
+
+-- what is written over where there is no file changes no name
+pub overwrites_none : (place : Place) (old new : Slots) → (old place).now ≡ Nothing → Overwrites place old new → (other : Place) → new other ≡ old other
+overwrites_none place old new nothing did other = ⊎_elim (λ at. subst (λ p. new p ≡ old p) (sym at) (did.none nothing)) (did.elsewhere other) (place_decided other place)
 
 -- a step at the name of a draft
 pub outside : {target own : Place} (old new : Slots) → IsDraftPlace target own → IsSameBut own old new → (place : Place) → ¬ (IsDraftPlace target place) → new place ≡ old place
