@@ -22,7 +22,9 @@ impl Location {
         ensures folder { IfOk result (λ location. (place_of location).folder ≡ string_bytes folder) }
         ensures name { IfOk result (λ location. (place_of location).name ≡ string_bytes name) }
     {
-        let path = Path::new(folder.as_str()).join(alloc, name.as_str())?.into_string();
+        let path = Path::new(folder.as_str())
+            .join(alloc, name.as_str())?
+            .into_string();
         Ok(Location { folder, name, path })
     }
 

@@ -4,7 +4,9 @@ ghost use Rattle.std.specs.Prelude.{◌≤◌, length, IfOk};
 ghost use Rattle.ix_command.specs.Files.{AnyBytes, IsReady};
 
 use super::{FileSource, FileTarget, ReadFault, WriteFault};
-use ix_files::{FileError, Output, SystemFiles, SystemWriter, begin_output, discard_output, finish_output};
+use ix_files::{
+    FileError, Output, SystemFiles, SystemWriter, begin_output, discard_output, finish_output,
+};
 use std::alloc::Global;
 use std::fs::File;
 use std::io::{ErrorKind, Input, Read, Write};
