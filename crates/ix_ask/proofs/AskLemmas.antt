@@ -1,12 +1,16 @@
--- Which numbers a scan gives.
-use Rattle.std.proofs.Common.{ℕ, ◌<◌, List, map, length, get_or, All, arith}
+-- Which numbers a scan gives, and what a search leaves of a query that was refused.
+use Rattle.std.proofs.Common.{ℕ, ◌<◌, List, map, length, get_or, All, Option, arith}
+use Rattle.std.proofs.KnownBytes.{Keeps-refl}
 use Rattle.std.proofs.lemmas.List.{length-map}
 use Rattle.std.proofs.lemmas.List.Elements.{Contains-get_or}
 use Rattle.std.proofs.lemmas.Option.{slice_get_within}
-use Rattle.ix_text.specs.Collections.{Document, NamedText, collection_of}
+use Rattle.ix_text.specs.Collections.{Collection, Document, NamedText, collection_of}
 use Rattle.ix_text.specs.TokenLists.{token_list}
 use Rattle.ix_query.specs.Tree.{Tree}
 use Rattle.ix_query.specs.Scans.{IsScan}
+use Rattle.ix_ask.specs.Searching.{LeavesSearch, RefusesQuery}
+use Rattle.ix_ask.specs.declared.ask_error.AskError.{AskError}
+use Rattle.ix_ask.specs.declared.ask_error.AskError.TheVariants as asking
 
 -- the numbers of a scan are numbers of documents
 pub numbers_below : (stop : List (List ℕ)) (documents : List NamedText) (query : Tree) (numbers : List ℕ) → IsScan (collection_of stop documents) query numbers → All (λ number. number < length documents) numbers
@@ -16,3 +20,9 @@ numbers_below stop documents query numbers scanned = λ k d below.
     let found = (scanned.exact (get_or numbers k d)).0 (Contains-get_or numbers k d below) in
     let within : get_or numbers k d < length (map view documents) = slice_get_within (map view documents) (get_or numbers k d) found.document found.numbered in
     omega (arith, within, length-map documents view)
+
+-- why a query was refused is why a search is, and nothing went out
+pub search_refused : (collection : Collection) (query : List ℕ) (known : Option (List ℕ)) (error : AskError) → RefusesQuery collection query error → LeavesSearch collection query known known error
+search_refused collection query known (asking.Query error) fails = (fails, Keeps-refl known)
+search_refused collection query known asking.Memory fails = Keeps-refl known
+search_refused collection query known _ fails = absurd fails

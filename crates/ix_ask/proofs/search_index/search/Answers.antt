@@ -1,5 +1,13 @@
--- What was found went out, or a beginning of it.
+-- What was found went out, or a beginning of it; a query that was refused left nothing.
+use Rattle.std.proofs.lemmas.Result.{err_from_is_err_and}
+use Rattle.ix_ask.proofs.AskLemmas.{search_refused}
 use Rattle.ix_ask.proofs.search_index.search.Goals as goal
+
+pub returns-in_err-names-clause-refused : goal.returns-in_err-names-clause-refused
+returns-in_err-names-clause-refused g c =
+    let p = err_from_is_err_and c.from_residual.result c.from_residual.ensures.1 in
+    rw (p.1, p.2) (λ version collection index.
+    search_refused collection c.args.query.now (g.W.Write.contents c.args.out.now) c.in_err-names.field-0.0 (c.in_err-names.ensures.refused version collection index))
 
 pub returns-in-Ok-clause-answered : goal.returns-in-Ok-clause-answered
 returns-in-Ok-clause-answered g c = λ version collection index. record {
