@@ -1,7 +1,5 @@
 -- The files that a command line names, what was read of them, and what they were saved with.
-use Rattle.std.specs.Prelude.{◌≡◌, ℕ, List, Option, None, Some, take, ⊤}
-use Rattle.ix_files.specs.Outputs.{AreReady}
-use Rattle.ix_files.specs.declared.output.Output.{Output}
+use Rattle.std.specs.Prelude.{◌≡◌, ℕ, List, Option, take}
 use Rattle.ix_build.specs.ReadBack.{TellBytes}
 
 -- a path, and the bytes of the file there, as it was read or as it was saved
@@ -27,8 +25,3 @@ pub record IsFront (Holds : List ℕ → Type 0) (room : ℕ) (bytes : List ℕ)
   pub whole : List ℕ
   pub held : Holds whole
   pub cut : bytes ≡ take room whole
-
--- the output, if there is one, is ready to be ended
-abbrev pub IsReady : {W : Type 0} → Option (Output W) → Type 0
-IsReady None = ⊤
-IsReady (Some output) = AreReady output.names

@@ -77,7 +77,7 @@ pub fn begin<F: Files>(
 /// `Failed`. The old one is untouched and the new one removed, if it can be; or, if the folder could not be synced, the new one is
 /// in its place.
 pub fn finish<F: Files>(files: &mut F, draft: Draft<F::Writer>) -> Result<(), FileError>
-    requires { IsDraftPlace (target_of draft) (own_of draft) }
+    requires { (F.view files.old).honest → IsDraftPlace (target_of draft) (own_of draft) }
     ensures done { OnOk result ((F.view files.new).honest → (text : List ℕ)
         → F.Writer.contents draft.writer ≡ Some text
         → IsFinished (target_of draft) (own_of draft) text (F.view files.new)) }

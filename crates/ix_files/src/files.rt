@@ -112,7 +112,7 @@ pub trait Files {
     /// # Errors
     /// `Failed`.
     fn rename(&mut self, from: &Location, to: &Location) -> Result<(), FileError>
-        requires { place_of from.now ≢ place_of to.now }
+        requires { (view self.old).honest → place_of from.now ≢ place_of to.now }
         ensures renamed { OnOk result ((view self.new).honest
             → Renames (place_of from.now) (place_of to.now) (view self.old).slots (view self.new).slots) }
         ensures call { Calls (Renames (place_of from.now) (place_of to.now)) (view self.old) (view self.new) }

@@ -83,7 +83,7 @@ pub fn finish_output<F: Files>(
     path: &str,
     output: Output<F::Writer>,
 ) -> Result<(), FileError>
-    requires { AreReady output.names }
+    requires { (F.view files.old).honest → AreReady output.names }
     ensures saved { OnOk result ((text : List ℕ)
         → ((F.view files.new).honest → F.Writer.contents output.writer ≡ Some text)
         → ((F.view files.old).honest → IsBegunFor (F.view files.old) path.now output.names)
@@ -114,7 +114,7 @@ pub fn finish_output<F: Files>(
 
 /// Gives the output to a path up. A file that was there is untouched.
 pub fn discard_output<F: Files>(files: &mut F, path: &str, output: Output<F::Writer>)
-    requires { AreReady output.names }
+    requires { (F.view files.old).honest → AreReady output.names }
     ensures others { (F.view files.new).honest
         → IsBegunFor (F.view files.old) path.now output.names
         → LeavesOthers path.now (F.view files.old) (F.view files.new) }

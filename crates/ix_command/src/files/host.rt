@@ -1,7 +1,7 @@
 //! The files of the system.
 
 ghost use Rattle.std.specs.Prelude.{◌≤◌, length, IfOk};
-ghost use Rattle.ix_command.specs.Files.{AnyBytes, IsReady};
+ghost use Rattle.ix_command.specs.Files.{AnyBytes};
 
 use super::{FileSource, FileTarget, ReadFault, WriteFault};
 use ix_files::{
@@ -103,7 +103,6 @@ impl<F: Read, I: Read> Read for HostReader<F, I> {
 pub struct HostWriter<'r, R: Files<File = File> + Input + Print + AllocGlobal> {
     rt: &'r R,
     output: Option<Output<SystemWriter<'r, R>>>,
-    ghost ready: { IsReady output },
 }
 
 impl<'r, R: Files<File = File> + Input + Print + AllocGlobal> Drop for HostWriter<'r, R> {
