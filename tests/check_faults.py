@@ -3,8 +3,8 @@
 
 usage: check_faults.py [IX] [--jobs N] [--only PART[,PART..]] [--random N] [--step N]
 
-IX is build/ix beside this folder. The parts are growths, calls, samples, random, sizes, silence and units (the tests of the
-libraries, where `rt test` has left programs of them). --random says how many files there are of each kind (10,000), and
+IX is build/ix beside this folder. The parts are growths, calls, kills, samples, random, sizes, silence and units (the tests of
+the libraries, where `rt test` has left programs of them). --random says how many files there are of each kind (10,000), and
 --step that only each N-th byte of the samples is changed. Each case is a process of its own, in a folder that is gone at the
 end. Status 0: all is as expected. A C compiler is needed (cc, clang, or that of rt).
 """
@@ -20,12 +20,14 @@ from pathlib import Path
 sys.dont_write_bytecode = True
 sys.path.insert(0, str(Path(__file__).resolve().parent / "faults"))
 import changes
+import kills
 import refusals
 import silence
 import sizes
 import units
 from program import Program, die_with_parent, shim
 
+KILLS = 1_000  # at least
 HEAD = ("refused", "cases", "times", "answered in full")
 
 program = None
@@ -83,6 +85,13 @@ class Parts:
     def calls(self):
         self.refusals(refusals.CALLS, HEAD)
 
+    def kills(self):
+        rows = self.sums(self.spread(kills.work, kills.tasks()))
+        self.table(("command", "cases", "kills", "left the old file"), rows)
+        count = sum(killed for _, _, killed, _ in rows)
+        if count < KILLS:
+            self.wrong.append(f"{count} kills")
+
     def changed(self, work, tasks):
         rows = self.sums(self.spread(work, tasks))
         self.table(("files", "tried", "accepted"), [(name, tried, accepted) for name, _, tried, accepted in rows])
@@ -125,7 +134,7 @@ def main():
     words = argparse.ArgumentParser(description=__doc__.split("\n")[0])
     words.add_argument("ix", nargs="?", default=here.parent / "build/ix", type=Path)
     words.add_argument("--jobs", type=int, default=os.cpu_count())
-    words.add_argument("--only", default="growths,calls,samples,random,sizes,silence,units")
+    words.add_argument("--only", default="growths,calls,kills,samples,random,sizes,silence,units")
     words.add_argument("--random", type=int, default=10_000)
     words.add_argument("--step", type=int, default=1)
     said = words.parse_args()

@@ -25,6 +25,7 @@ IX = Path(sys.argv[1] if len(sys.argv) > 1 else Path(__file__).resolve().parent.
 KILLS = 150
 PAIRS = 100
 SECONDS = 5
+ROOM = 256 << 10  # of a disk that gets full
 UMASK = 0o022
 OLD = b"what was there before, and is longer than the new text. " * 4000
 
@@ -105,12 +106,16 @@ def replaced():
         os.remove("new")
 
         Path("out").write_bytes(OLD)
+        if os.getuid() == 0:
+            os.chown("out", 65534, 65533)
         os.chmod("out", 0o640)
+        owner = os.stat("out").st_uid, os.stat("out").st_gid
         os.link("out", "second")
         before = set(os.listdir("."))
         succeeds(f"{command} over a longer file", words("out"))
         check(f"{command}: the whole text", Path("out").read_bytes() == text)
         check(f"{command}: the mode", stat.S_IMODE(os.stat("out").st_mode) == 0o640, oct(os.stat("out").st_mode))
+        check(f"{command}: the owner", (os.stat("out").st_uid, os.stat("out").st_gid) == owner, os.stat("out"))
         check(f"{command}: a hard link keeps what was there", Path("second").read_bytes() == OLD)
         check(f"{command}: nothing else is there", set(os.listdir(".")) == before, set(os.listdir(".")) ^ before)
         check(f"{command}: the folder of runs is empty", not os.listdir("runs"))
@@ -132,6 +137,16 @@ def replaced():
         check(f"{command} to the standard output", (done.returncode, done.stdout) == (0, text), done.stderr)
         done = run(*words("/dev/stdout"))
         check(f"{command} to a pipe by its name", (done.returncode, done.stdout) == (0, text), done.stderr)
+        with open("redirected", "wb") as redirected:
+            done = run(*words("/dev/stdout"), stdout=redirected)
+        check(f"{command} to a file by that name", (done.returncode, done.stderr) == (0, b"") and Path("redirected").read_bytes() == text)
+        os.remove("redirected")
+        os.mkfifo("pipe")
+        with subprocess.Popen(["cat", "pipe"], stdout=subprocess.PIPE) as reading:
+            succeeds(f"{command} to a pipe with a name", words("pipe"))
+            check(f"{command}: the pipe gave it", reading.stdout.read() == text)
+        check(f"{command}: the pipe is one still", stat.S_ISFIFO(os.stat("pipe").st_mode))
+        os.remove("pipe")
         succeeds(f"{command} to a device", words("/dev/null"))
         check(f"{command}: the device is one still", stat.S_ISCHR(os.stat("/dev/null").st_mode))
         for name in ("-x", "x ", "n" * 255, "é" * 127, "d/" * 100 + "out"):
@@ -165,6 +180,8 @@ def refused():
         ("a full disk, of an upgrade", ["upgrade", "big.ix", "out"], b"file 2: Write(out)", {"prepare": few_bytes}),
         ("runs that overlap", ["merge", "out", "x.run", "x.run"], b"merge 2: Overlap(0)", {}),
         ("a damaged run", ["merge", "out", "x.run", "bad.run"], b"merge 4: Source(1, Number(Cut))", {}),
+        ("a folder as collection", ["build", "folder", "out"], b"file 1: Read(folder)", {}),
+        ("a folder as collection of a run", ["run", "folder", "out"], b"file 1: Read(folder)", {}),
         ("no collection", ["build", "bad.txt", "out"], b"collection 3: NoTab(1)", {}),
     ]:
         Path("out").write_bytes(OLD)
@@ -180,7 +197,11 @@ def refused():
     fails("a folder as output", ["build", "a.txt", "folder"], b"file 2: Write(folder)")
     fails("a socket as output", ["build", "a.txt", "socket"], b"file 2: Write(socket)")
     fails("no folder of the output", ["build", "a.txt", "no/out"], b"file 2: Write(no/out)")
+    os.symlink("loop", "loop")
+    for out in ("loop", "folder/", "folder/.", "folder/..", "new/", "", "n" * 256, "x" * 5000, "d/" * 2500 + "out"):
+        fails(f"no output: {out[:20]!r}", ["build", "a.txt", out], f"file 2: Write({out})".encode())
     check("the folder is empty", not os.listdir("folder"))
+    os.remove("loop")
     fails("a full device", ["build", "a.txt", "/dev/full"], b"build 3: Write")
     fails("a full device, of a run", ["run", "a.txt", "/dev/full"], b"file 2: Write(/dev/full)")
 
@@ -196,7 +217,52 @@ def refused():
         check("a folder without permission: the old file", Path("closed/out").read_bytes() == OLD)
 
 
-def apart():
+def full_disk():
+    """On a disk that gets full each command leaves the old file, and nothing else; its lines are those of a file that may not grow."""
+    os.mkdir("disk")
+    mounted = subprocess.run(["mount", "-t", "tmpfs", "-o", f"size={ROOM}", "tmpfs", "disk"], stderr=subprocess.DEVNULL)
+    if mounted.returncode:
+        print("skipped: a full disk, which only root can mount")
+        return
+    try:
+        Path("disk/out").write_bytes(OLD[:ROOM // 4])
+        for words, line in (
+            (["build", "big.txt", "disk/out"], b"build 3: Write"),
+            (["build", "--runs", "disk", "big.txt", "disk/out"], b"build 2: Spill("),
+            (["build", "--runs", "runs", "big.txt", "disk/out"], b"build 3: Write"),
+            (["run", "big.txt", "disk/out"], b"file 2: Write(disk/out)"),
+            (["merge", "disk/out", "big.ix"], b"merge 6: Write"),
+            (["upgrade", "big.ix", "disk/out"], b"file 2: Write(disk/out)"),
+        ):
+            done = run(*words)
+            check(f"{words[:2]} to a full disk", done.returncode == 2 and done.stderr.startswith(b"ix: " + line), done)
+            check(f"{words[:2]}: the old file", Path("disk/out").read_bytes() == OLD[:ROOM // 4])
+            check(f"{words[:2]}: nothing else", os.listdir("disk") == ["out"] and not os.listdir("runs"), os.listdir("disk"))
+        succeeds("a text that has room", ["build", "a.txt", "disk/out"])
+        check("it is there", Path("disk/out").read_bytes() == Path("a.ix").read_bytes())
+    finally:
+        subprocess.run(["umount", "disk"], check=True)
+
+
+def large():
+    """A collection of 17 MiB, and runs of more than 100 KiB, over longer files: whatever the plan, the index is one."""
+    text = Path("big.txt").read_bytes()
+    Path("large.txt").write_bytes(text * (1 + (17 << 20) // len(text)))
+    succeeds("an index of 17 MiB", ["build", "large.txt", "large.ix"])
+    size = os.path.getsize("large.ix")
+    Path("over").write_bytes(OLD * (2 + size // len(OLD)))
+    succeeds("over a longer file", ["build", "--runs", "runs", "--block", "20000", "large.txt", "over"])
+    check("the same index", Path("over").read_bytes() == Path("large.ix").read_bytes())
+    Path("over").write_bytes(OLD * 200)
+    succeeds("a run over a longer file", ["run", "big.txt", "over"])
+    check("a run of more than 100 KiB", 100 << 10 < os.path.getsize("over") < 200 * len(OLD), os.path.getsize("over"))
+    succeeds("a merge into its input", ["merge", "over", "over"])
+    check("the same index", Path("over").read_bytes() == Path("big.ix").read_bytes())
+    for name in ("large.txt", "large.ix", "over"):
+        os.remove(name)
+
+
+def in_place():
     """The output of `merge` and `upgrade` may be what they read."""
     shutil.copy("a.ix", "all.ix")
     succeeds("merge into an input", ["merge", "all.ix", "all.ix", "b.ix"])
@@ -286,7 +352,7 @@ if __name__ == "__main__":
         os.chdir(folder)
         os.chmod(folder, 0o755)
         make_inputs()
-        for part in (replaced, refused, apart, left_over, killed, beside):
+        for part in (replaced, refused, full_disk, large, apart, left_over, killed, beside):
             part()
         os.chdir("/")
     print("all as expected" if not failed else f"{failed} FAILED")

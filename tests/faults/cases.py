@@ -14,6 +14,7 @@ MEMORY = "memory 1: Memory"
 THREAD = r"build 1: Thread\([0-9]+\)"
 SPILL = r"build 2: Spill\([0-9]+\)"
 NEAR = "x NEAR/1 y OR y*"
+OLD = b"what was there before, and is longer than what is written. " * 20
 
 # The files that each case finds in its folder.
 FILES = {f"{name}.txt": text for name, text in TEXTS.items()}
@@ -36,10 +37,12 @@ class Case:
         self.folder = folder          # a folder that is empty before and behind
         self.needs = needs            # what the program's help says where the program has the command
 
-    def prepare(self, program):
-        """Removes what the case is to write."""
-        for name in self.wrote:
+    def prepare(self, program, before=OLD):
+        """Puts these bytes where the case is to write, or nothing. What was left by another case is gone."""
+        for name in (*program.drafts(), *(self.wrote if before is None else ())):
             program.remove(name)
+        for name in self.wrote if before is not None else ():
+            program.write(name, before)
         if self.folder:
             shutil.rmtree(program.folder / self.folder, ignore_errors=True)
             (program.folder / self.folder).mkdir()
@@ -55,11 +58,12 @@ class Case:
         for name, content in self.wrote.items():
             if program.read(name) != content:
                 yield f"wrote {program.read(name)}"
-        if self.left(program) and not got.refused:
-            yield f"left {self.left(program)}"
+        if (self.left(program) or program.drafts()) and not got.refused:
+            yield f"left {self.left(program)} {program.drafts()}"
 
-    def refusal_faults(self, program, got, wanted, prints=False):
-        """What is wrong with an outcome that is to be one of these refusals, and to leave no more than beginnings."""
+    def refusal_faults(self, program, got, wanted, prints=False, before=OLD):
+        """What is wrong with an outcome that is to be one of these refusals, and to leave what was there: a file whose folder
+        could not be synced, or not be opened for it, is new."""
         if got.status != 2 or not wanted.fullmatch(got.errors):
             yield f"answered {got}"
         if not self.printed.startswith(got.printed) if prints else got.printed not in self.groups:
@@ -67,8 +71,11 @@ class Case:
         if len(self.left(program)) > got.refused:  # a removal may itself be refused, and is not told then
             yield f"left {self.left(program)}"
         for name, content in self.wrote.items():
-            if not content.startswith(program.read(name) or b""):
+            is_late = got.change == "sync of a folder" or got.opens_refused and got.errors == b"ix: file 2: Write(%s)\n" % name.encode()
+            if program.read(name) != before and not (is_late and program.read(name) == content):
                 yield f"left {program.read(name)}"
+        if program.drafts() and got.change != "unlink":
+            yield f"left {program.drafts()}"
 
 
 def lines(*names):
@@ -120,7 +127,7 @@ def building():
                    reads=read_of("five.txt"), **told)
     yield Case("build --stop", "build", "--stop", "to.stop", "stop.txt", "new.ix", wrote={"new.ix": index_text(STOP)},
                reads=read_of("to.stop", "stop.txt"), **told)
-    yield Case("build, refused stop file", "build", "--stop", "bad.stop", "stop.txt", "new.ix", status=2,
+    yield Case("build, refused stop file", "build", "--stop", "bad.stop", "stop.txt", "new.ix", status=2, wrote={"new.ix": OLD},
                line=b"ix: stop 1: NotOneWord(1)", reads=read_of("bad.stop"), **told)
     told = {"memory": ("collection 6: Memory", "stop 3: Memory", "run 2: Memory"), "writes": ("file 2: Write(new.run)",)}
     yield Case("run", "run", "one.txt", "new.run", wrote={"new.run": run_text(0, ONE)}, reads=read_of("one.txt"), **told)
@@ -136,9 +143,10 @@ def merging():
                    reads=reads, writes=("merge 6: Write",))
     yield Case("merge, an index", "merge", "new.ix", "five-1.ix", wrote={"new.ix": index_text(FIVE)},
                memory=(*memory, "index 20: Memory"), reads=(r"merge 4: Source\(0, (Read|Magic)\)",), writes=("merge 6: Write",))
-    yield Case("merge, a run missing", "merge", "new.ix", "run-4", "run-0", status=2, line=b"ix: merge 1: Gap(2)", memory=memory, reads=reads)
+    yield Case("merge, a run missing", "merge", "new.ix", "run-4", "run-0", status=2, line=b"ix: merge 1: Gap(2)", memory=memory, reads=reads,
+               wrote={"new.ix": OLD})
     yield Case("merge, a cut run", "merge", "new.ix", "short.run", status=2, line=b"ix: merge 4: Source(0, Number(Cut))",
-               memory=memory, reads=reads, writes=("merge 6: Write",), wrote={})
+               memory=memory, reads=reads, writes=("merge 6: Write",), wrote={"new.ix": OLD})
     for name, version in INDEXES:
         path = f"{name}-{version}.ix"
         yield Case(f"upgrade {path}", "upgrade", path, "new.ix", wrote={"new.ix": index_text(COLLECTIONS[name])},

@@ -25,8 +25,8 @@ def index_faults(program, data):
         version, found = open_index(data)
     except Refused as refused:
         wanted = (2, b"", index_line(str(refused)))
-        if searched != wanted or upgraded != wanted or written is not None:
-            return False, f"{wanted}, and not {searched} and {upgraded} with {written}"
+        if searched != wanted or upgraded != wanted or written is not None or program.drafts():
+            return False, f"{wanted}, and not {searched} and {upgraded} with {written}, {program.drafts()}"
         return False, None
     has = {d for term, postings in found.terms.items() if term.startswith(b"x") for d, _ in postings}
     names = b"".join(n + b"\n" for d, (n, _) in enumerate(found.rows) if d not in has)
@@ -42,36 +42,30 @@ def run_faults(program, data):
     """What `merge` does wrong with these bytes as a run file; and whether they are a run text."""
     program.write("in.run", data)
     program.remove("out.ix")
-    words, before = ["merge", "out.ix", "in.run"], []
+    words, before, first, rows = ["merge", "out.ix", "in.run"], [], 0, []
     try:
         first, stop, rows = read_head(Input(data))
-        head = True
         if rows and 0 < first <= FILLED:
             before = [Collection(stop, [(b"f", 0)] * first)]
             program.write("fill.run", run_text(0, before[0]))
             words.append("fill.run")
     except Refused:
-        head = False
+        pass
     got = program.run(*words)
     written = program.read("out.ix")
-    if head and rows and first and not before:
+    if rows and first and not before:
         wanted = (2, b"", b"ix: merge 1: Gap(0)\n")
-        return True, None if got.told() == wanted and written == b"" else f"{wanted}, and not {got} with {written}"
+        return True, None if got.told() == wanted and written is None else f"{wanted}, and not {got} with {written}"
     try:
         found = read_run(data)
     except Refused as refused:
         wanted = (2, b"", f"ix: merge 4: Source(0, {refused})\n".encode())
-        left = written is None if not head else is_front(written)
-        return False, None if got.told() == wanted and left else f"{wanted}, and not {got} with {written}"
+        right = got.told() == wanted and written is None and not program.drafts()
+        return False, None if right else f"{wanted}, and not {got} with {written}, {program.drafts()}"
     if run_text(*found) != data:
         return True, f"the oracle writes {run_text(*found).hex(' ')}"
     whole = index_text(merged(before + [found[1]]))
     return True, None if got.told() == (0, b"", b"") and written == whole else f"{got} with {written}, and not {whole}"
-
-
-def is_front(written):
-    """Whether these bytes, which stand in a file, can be the beginning of an index text as far as its first eight bytes tell."""
-    return written is not None and (written.startswith(b"PIIX0002") or b"PIIX0002".startswith(written))
 
 
 # ---- each front and each byte of the samples

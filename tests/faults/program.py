@@ -9,9 +9,10 @@ from pathlib import Path
 
 HERE = Path(__file__).resolve().parent
 FIELDS = ("words", "bytes", "seconds", "growth", "growth_lasts", "read", "read_error", "read_size", "write", "write_error",
-          "write_size", "start", "start_error", "open", "open_error", "meddle", "meddle_at", "meddle_to")
+          "write_size", "start", "start_error", "open", "open_error", "change", "change_error", "kill", "kill_after", "meddle", "meddle_at", "meddle_to")
 COUNTS = ("growths", "growths_refused", "reads", "reads_refused", "writes", "writes_refused", "starts", "starts_refused",
-          "opens", "opens_refused", "live", "peak")
+          "opens", "opens_refused", "changes", "changes_refused", "change_kind", "kills", "live", "peak")
+CHANGES = ("", "create", "sync", "sync of a folder", "lock", "lock of a folder", "rename", "unlink", "mkdir", "mode", "owner")
 CASE = struct.Struct(f"={len(FIELDS)}q")
 ANSWER = struct.Struct(f"={3 + len(COUNTS)}q")
 
@@ -36,7 +37,13 @@ class Outcome:
     @property
     def refused(self):
         """How many calls were refused."""
-        return (self.growths_refused + self.reads_refused + self.writes_refused + self.starts_refused + self.opens_refused)
+        return (self.growths_refused + self.reads_refused + self.writes_refused + self.starts_refused + self.opens_refused
+                + self.changes_refused)
+
+    @property
+    def change(self):
+        """The kind of the call that changes files and was refused."""
+        return CHANGES[self.change_kind]
 
     def told(self):
         """Status, output and error output, to be compared and shown."""
@@ -87,6 +94,10 @@ class Program:
             return (self.folder / name).read_bytes()
         except FileNotFoundError:
             return None
+
+    def drafts(self):
+        """The new files that were left, which had not yet taken the place of another."""
+        return sorted(name for name in os.listdir(self.folder) if name.startswith(".") and ".ix-" in name)
 
     def remove(self, name):
         (self.folder / name).unlink(missing_ok=True)

@@ -1,4 +1,4 @@
-"""Each request for memory, each read, each write, each file and each thread of each command refused in turn."""
+"""Each request for memory, each read, each write, each file, each change of files and each thread of each command refused in turn."""
 import errno
 import re
 
@@ -48,7 +48,14 @@ def by_read(program, case, got):
 def by_memory(program, case, got):
     """A call that is refused for want of memory: a reader of run texts tells it as a read that was refused."""
     wanted = case.reads if re.search(rb"Source|Spill", got.errors) else case.memory
+    if is_in_place(program, case, got):
+        wanted = re.compile(rb"ix: file 2: Write\([a-z0-9.-]+\)\n")
     return case.refusal_faults(program, got, wanted)
+
+
+def is_in_place(program, case, got):
+    """Whether the new files have their names, though their folder could not be opened to be synced."""
+    return got.opens_refused and case.status == 0 and case.wrote and all(program.read(n) == text for n, text in case.wrote.items())
 
 
 def by_write(program, case, got):
@@ -69,11 +76,22 @@ def by_open(program, case, got):
     return case.refusal_faults(program, got, re.compile(rb"ix: (file [12]: (Read|Write)\([a-z0-9.-]+\)|build 2: Spill\([0-9]+\)|merge 4: Source\([0-9], Magic\))\n"))
 
 
+def by_change(program, case, got):
+    """A call that changes files: the answer is whole without locks, owners, modes and removals."""
+    if got.change in ("lock", "lock of a folder", "mode", "owner", "unlink"):
+        return case.faults(program, got)
+    unsaved = [f"file 2: Write({name})" for name in case.wrote]
+    spilled = [r"build 2: Spill\([0-9]+\)"] if case.folder and got.change == "create" else []
+    wrong = list(case.refusal_faults(program, got, lines(*unsaved, *spilled)))
+    if got.change == "sync of a folder":
+        wrong += [f"not in place: {name}" for name, content in case.wrote.items() if program.read(name) != content]
+    return wrong
+
+
 def by_start(program, case, got):
     if case.words[0] not in BUILDING and is_whole(program, case, got):
         return ()  # a searcher without a thread answers all the same, and an index is opened without one
-    wrong = list(case.refusal_faults(program, got, lines(r"build 1: Thread\([0-9]+\)")))
-    return wrong + [f"left {name}" for name in case.wrote if program.read(name)]
+    return case.refusal_faults(program, got, lines(r"build 1: Thread\([0-9]+\)"))
 
 
 # What is refused, how, and what then is to come.
@@ -85,6 +103,7 @@ CALLS += [("write", by_write, {"key": "write", "write_error": e, "write_size": s
 CALLS += [("write interrupted", by_nothing, {"key": "write", "write_error": errno.EINTR, "write_size": 1})]
 CALLS += [("file", by_open, {"key": "open", "open_error": e}) for e in (errno.EACCES, errno.EMFILE)]
 CALLS += [("file, no memory", by_memory, {"key": "open", "open_error": errno.ENOMEM})]
+CALLS += [("change of files", by_change, {"key": "change", "change_error": e}) for e in (errno.EIO, errno.ENOSPC, errno.EACCES)]
 CALLS += [("thread", by_start, {"key": "start", "start_error": e}) for e in (errno.EAGAIN, errno.ENOMEM)]
 
 

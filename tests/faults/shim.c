@@ -1,5 +1,5 @@
 /* Stands between a proved program and the C library, and refuses what one case says: the n-th request for memory, the n-th
- * read, write, file or thread. Preloaded by tests/faults/program.py, which sends one case after another: each is a process of
+ * read, write, file or thread, the n-th call that changes files; or kills the program at the n-th of these. Preloaded by tests/faults/program.py, which sends one case after another: each is a process of
  * its own, forked before the program's first instruction, so that thousands of cases take seconds. */
 #define _GNU_SOURCE
 #include <errno.h>
@@ -12,8 +12,10 @@
 #include <stdint.h>
 #include <stdlib.h>
 #include <string.h>
+#include <sys/file.h>
 #include <sys/mman.h>
 #include <sys/resource.h>
+#include <sys/stat.h>
 #include <sys/syscall.h>
 #include <sys/uio.h>
 #include <sys/wait.h>
@@ -29,14 +31,19 @@ struct Case {
     int64_t write, write_error, write_size;
     int64_t start, start_error;       /* the thread that is not started */
     int64_t open, open_error;         /* the file that is not opened */
+    int64_t change, change_error;     /* the call that changes files and fails; writes are not counted */
+    int64_t kill, kill_after;         /* the call that changes files, or the write, at which the program is killed: before, after */
     int64_t meddle, meddle_at, meddle_to; /* at the file opened so, a byte is set, or the file is cut where meddle_to is -1 */
 };
 
 /* What a case met. */
 struct Counts {
     _Atomic int64_t growths, growths_refused, reads, reads_refused, writes, writes_refused;
-    _Atomic int64_t starts, starts_refused, opens, opens_refused, live, peak;
+    _Atomic int64_t starts, starts_refused, opens, opens_refused, changes, changes_refused, change_kind, kills, live, peak;
 };
+
+/* The calls that change files, as tests/faults/program.py has them. */
+enum Change { NONE, CREATE, SYNC, SYNC_FOLDER, LOCK, LOCK_FOLDER, RENAME, UNLINK, MKDIR, MODE, OWNER };
 
 struct Answer {
     int64_t status, seconds_us, resident;
@@ -119,6 +126,50 @@ void free(void *block) {
     __libc_free(block);
 }
 
+/* Ends the program, if it is at the call at which it is to be killed: the same number is asked for before and after it. */
+static void die_at(int64_t call, int after) {
+    if (call && call == at.kill && after == (int)at.kill_after)
+        kill(getpid(), SIGKILL);
+}
+
+/* The number of a call that changes files, or of a write. */
+static int64_t next_kill(void) { return counts_calls ? atomic_fetch_add(&met->kills, 1) + 1 : 0; }
+
+static int change_refused(enum Change kind) {
+    if (!is_refused(&met->changes, &met->changes_refused, at.change, 0))
+        return 0;
+    atomic_store(&met->change_kind, kind);
+    errno = (int)at.change_error;
+    return 1;
+}
+
+static int is_folder(int file) {
+    struct stat of;
+    return fstat(file, &of) == 0 && S_ISDIR(of.st_mode);
+}
+
+/* A call that changes files: it fails, or the program is killed before it or after it, if the case says so. */
+#define CHANGES(name, kind, list, call)         \
+    int name list {                             \
+        int64_t number = next_kill();           \
+        die_at(number, 0);                      \
+        if (change_refused(kind))               \
+            return -1;                          \
+        int done = (int)(call);                 \
+        die_at(number, 1);                      \
+        return done;                            \
+    }
+CHANGES(fsync, is_folder(file) ? SYNC_FOLDER : SYNC, (int file), syscall(SYS_fsync, file))
+CHANGES(fdatasync, is_folder(file) ? SYNC_FOLDER : SYNC, (int file), syscall(SYS_fdatasync, file))
+CHANGES(flock, is_folder(file) ? LOCK_FOLDER : LOCK, (int file, int how), syscall(SYS_flock, file, how))
+CHANGES(rename, RENAME, (const char *from, const char *to), syscall(SYS_rename, from, to))
+CHANGES(unlink, UNLINK, (const char *path), syscall(SYS_unlink, path))
+CHANGES(unlinkat, UNLINK, (int folder, const char *path, int how), syscall(SYS_unlinkat, folder, path, how))
+CHANGES(mkdir, MKDIR, (const char *path, mode_t mode), syscall(SYS_mkdir, path, mode))
+CHANGES(chmod, MODE, (const char *path, mode_t mode), syscall(SYS_chmod, path, mode))
+CHANGES(fchmod, MODE, (int file, mode_t mode), syscall(SYS_fchmod, file, mode))
+CHANGES(chown, OWNER, (const char *path, uid_t user, gid_t group), syscall(SYS_chown, path, user, group))
+
 ssize_t read(int file, void *to, size_t size) {
     if (is_refused(&met->reads, &met->reads_refused, at.read, 0)) {
         errno = (int)at.read_error;
@@ -136,7 +187,7 @@ static int write_refused(void) {
     return 1;
 }
 
-ssize_t write(int file, const void *from, size_t size) {
+static ssize_t write_some(int file, const void *from, size_t size) {
     if (write_refused())
         return -1;
     if (counts_calls && at.write_size && size > (size_t)at.write_size)
@@ -144,7 +195,15 @@ ssize_t write(int file, const void *from, size_t size) {
     return syscall(SYS_write, file, from, size);
 }
 
-ssize_t writev(int file, const struct iovec *parts, int count) {
+ssize_t write(int file, const void *from, size_t size) {
+    int64_t number = next_kill();
+    die_at(number, 0);
+    ssize_t done = write_some(file, from, size);
+    die_at(number, 1);
+    return done;
+}
+
+static ssize_t write_parts(int file, const struct iovec *parts, int count) {
     if (write_refused())
         return -1;
     if (counts_calls && at.write_size) {
@@ -156,6 +215,14 @@ ssize_t writev(int file, const struct iovec *parts, int count) {
             }
     }
     return syscall(SYS_writev, file, parts, count);
+}
+
+ssize_t writev(int file, const struct iovec *parts, int count) {
+    int64_t number = next_kill();
+    die_at(number, 0);
+    ssize_t done = write_parts(file, parts, count);
+    die_at(number, 1);
+    return done;
 }
 
 /* Cuts or changes the file that is about to be opened, as another program might. */
@@ -178,7 +245,13 @@ static int open_at(int folder, const char *path, int flags, mode_t mode) {
     }
     if (counts_calls && at.meddle && met->opens == at.meddle)
         meddle(folder, path);
-    return (int)syscall(SYS_openat, folder, path, flags, mode);
+    int64_t number = flags & (O_CREAT | O_TRUNC) ? next_kill() : 0;
+    die_at(number, 0);
+    if (number && change_refused(CREATE))
+        return -1;
+    int file = (int)syscall(SYS_openat, folder, path, flags, mode);
+    die_at(number, 1);
+    return file;
 }
 
 static mode_t mode_of(int flags, va_list more) { return flags & (O_CREAT | O_TMPFILE) ? va_arg(more, mode_t) : 0; }

@@ -1,6 +1,7 @@
 """What no contract says: that an output is not made, nor an old one touched, where an input is refused, and that nothing is
 printed beside the one line."""
 import errno
+import os
 
 # Commands of which an input is refused, with the file that each would write.
 REFUSED = [
@@ -31,7 +32,7 @@ def no_output(program):
                 program.write("out", before)
             got = program.run(*words)
             tried += 1
-            if got.told() != (2, b"", line) or program.read("out") != before:
+            if got.told() != (2, b"", line) or program.read("out") != before or program.drafts():
                 wrong.append(f"{words} with {before}: {got}, {program.read('out')}")
     return "no output is made or touched where an input is refused", tried, wrong
 
@@ -44,7 +45,7 @@ def no_output_at_a_failed_read(program):
         program.write("out", b"kept")
         got = program.run(*words, read=1, read_error=errno.EIO)
         tried += 1
-        if got.status != 2 or got.printed or got.errors.count(b"\n") != 1 or program.read("out") != b"kept":
+        if got.status != 2 or got.printed or got.errors.count(b"\n") != 1 or program.read("out") != b"kept" or program.drafts():
             wrong.append(f"{words}: {got}, {program.read('out')}")
     return "no output is made or touched where a first read fails", tried, wrong
 
