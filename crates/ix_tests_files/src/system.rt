@@ -1,9 +1,7 @@
 //! Outputs over files of the system.
 
 use super::writing::write_to;
-use ix_files::{
-    FileError, Files, Kind, RunFolder, SystemFiles, begin_output, discard_output, finish_output,
-};
+use ix_files::{FileError, Files, Kind, SystemFiles, begin_output, discard_output, finish_output};
 use std::io::{Read, Write};
 use std::os::unix::fs::{PermissionsExt, symlink};
 use std::test::Fail;
@@ -97,7 +95,7 @@ fn drafts_that_are_left_and_drafts_that_are_locked(rt: HostRuntime) -> Result<()
     let third = format!(in rt.alloc(); "{folder}/.out.ix-3")?;
     fs::write(&rt, path.as_str(), b"old")?;
     fs::write(&rt, first.as_str(), b"left")?;
-    // What was left is removed, and its number taken once more or the next one.
+    // What was left is removed, and its number is taken again.
     let one = begin_output(rt.alloc(), &mut files, path.as_str())?;
     let other = begin_output(rt.alloc(), &mut files, path.as_str())?;
     assert!(rt; !is_there(&rt, first.as_str()) || !holds(&rt, first.as_str(), b"left")?);
@@ -155,24 +153,6 @@ fn what_cannot_be_written(rt: HostRuntime) -> Result<(), Fail> {
     }
     write_to(rt.alloc(), &mut files, "/dev/null", b"new")?;
     // Nothing is left in it.
-    fs::remove_dir(&rt, folder.as_str())?;
-    Ok(())
-}
-
-#[test]
-fn runs_in_a_folder(rt: HostRuntime) -> Result<(), Fail> {
-    let mut files = SystemFiles { rt: &rt };
-    let folder = new_folder(&rt, "runs")?;
-    let runs = files.runs(folder.as_str(), 12)?;
-    let mut writer = runs.create(11)?;
-    writer.write_all(b"run")?;
-    runs.close(11, writer)?;
-    let path = format!(in rt.alloc(); "{folder}/run-0000000011")?;
-    assert!(rt; holds(&rt, path.as_str(), b"run")?);
-    let mut bytes = Vec::new(rt.alloc());
-    runs.open(11)?.read_to_end(&mut bytes)?;
-    assert!(rt; bytes.as_slice() == b"run".as_slice());
-    runs.remove(11);
     fs::remove_dir(&rt, folder.as_str())?;
     Ok(())
 }
