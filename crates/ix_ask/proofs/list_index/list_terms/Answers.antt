@@ -13,5 +13,5 @@ returns-clause-refused g c = λ version collection index. record {
   lines = c.in_ok-rows.rows.bytes.items;
   count = c.in_ok-rows.rows.count;
   listed = c.in_ok-rows.ensures.listed version collection index;
-  front = rw c.deref.ensures.value at c.in-Err.ensures.front;
+  front = rw c.deref.ensures.value at c.in-Err-Write.ensures.front;
 }

@@ -21,5 +21,5 @@ returns-clause-refused g c = λ version collection index. record {
   lines = c.in_ok-names.names.bytes.items;
   count = c.in_ok-names.names.count;
   found = c.in_ok-names.ensures.found version collection index;
-  front = rw c.deref.ensures.value at c.in-Err.ensures.front;
+  front = rw c.deref.ensures.value at c.in-Err-Write.ensures.front;
 }
