@@ -9,7 +9,6 @@ mod input;
 mod laws;
 mod list;
 mod listed;
-mod marking;
 mod rows;
 mod run_reader;
 mod run_text_error;
