@@ -1,3 +1,4 @@
+pub mod CallLemmas
 pub mod CheckedLists
 pub mod CodeLemmas
 pub mod Faulting

@@ -1,3 +1,4 @@
+pub mod Calls
 pub mod CheckedLists
 pub mod CodeFaults
 pub mod Faults
