@@ -1,18 +1,20 @@
--- A collection has one index text of a version.
-use Rattle.std.proofs.Common.{◌≡◌, ℕ, ◌↔◌, List, [], ◌∷◌, map, get_or, All, Contains, Less, refl, sym, ap, ap₂, subst, ◌∙◌, inl, inr}
+-- A lawful collection has an index text of each version, and a collection only one.
+use Rattle.std.proofs.Common.{◌≡◌, ℕ, ◌↔◌, List, map, get_or, All, Contains, refl, sym, ap₂, subst, ◌∙◌}
 use Rattle.std.proofs.lemmas.Cmp.{nat_cmp_total}
 use Rattle.std.proofs.lemmas.List.Elements.{All-contains, Contains-get_or}
 use Rattle.std.proofs.lemmas.Map.Keys.{sorted_from_strictly_increasing}
-use Rattle.std.specs.List.{AllByRecursion}
 use Rattle.std.specs.List.Sorted.{IsStrictlySortedBy}
 use Rattle.std.specs.Ordering.{nat_cmp}
-use Rattle.ix_text.proofs.AscendingLists.{all_below, contained_from_map, contains_cases, contains_first, contains_later, contains_map, contains_none, not_below_itself, one_ascending}
+use Rattle.ix_text.proofs.AscendingLists.{contained_from_map, contains_map, one_ascending}
 use Rattle.ix_text.proofs.PartsLemmas.{same_entry_fields, same_parts_fields}
 use Rattle.ix_text.specs.Collections.{Collection}
 use Rattle.ix_text.specs.Parts.{ArePartsOf, AreTermPostings, DictionaryEntry, HasPosition, IsEntryOf, IsTermPosting, Parts, Posting, terms_of}
-use Rattle.ix_file.proofs.GramLists.{one_gram_list, one_vocabulary}
-use Rattle.ix_file.specs.IndexText.{IsIndexText, layout}
-use Rattle.ix_file.specs.Sections.{Version}
+use Rattle.ix_index_text.specs.Laws.{CollectionHasIndexText, CollectionHasOneIndexText}
+use Rattle.ix_index_text.proofs.GramLists.{of_collection, one_gram_list, one_vocabulary}
+use Rattle.ix_index_text.proofs.GramsExist.{has_grams}
+use Rattle.ix_index_text.proofs.OneByKey.{one_by_keys, one_of_key}
+use Rattle.ix_index_text.proofs.PartsExist.{has_parts}
+use Rattle.ix_index_text.specs.IndexText.{layout}
 
 abbrev number_of : Posting → ℕ
 number_of posting = posting.0
@@ -20,42 +22,7 @@ number_of posting = posting.0
 abbrev AreSorted : List Posting → Type 0
 AreSorted postings = IsStrictlySortedBy nat_cmp (map number_of postings)
 
--- lists with the same image in which equal images have equal origins are one
-one_by_map : {X K : Type 0} (f : X → K) (xs ys : List X) → map f xs ≡ map f ys → ((x y : X) → Contains xs x → Contains ys y → f x ≡ f y → x ≡ y) → xs ≡ ys
-one_by_map f [] [] same alike = refl
-one_by_map f [] (y ∷ ys) same alike = absurd cc
-one_by_map f (x ∷ xs) [] same alike = absurd cc
-one_by_map f (x ∷ xs) (y ∷ ys) same alike =
-    let heads : f x ≡ f y = cc in
-    let tails : map f xs ≡ map f ys = cc in
-    ap₂ ◌∷◌ (alike x y (contains_first x xs) (contains_first y ys) heads)
-    (one_by_map f xs ys tails (λ v w has also. alike v w (contains_later x xs v has) (contains_later y ys w also)))
-
 -- ---- postings
-
--- a posting behind another has another number
-not_above : (x y : Posting) (postings : List Posting) → AllByRecursion (λ z. nat_cmp x.0 z ≡ Less) (map number_of postings) → Contains postings y → ¬ (x.0 ≡ y.0)
-not_above x y postings up has same =
-    let less = all_below nat_cmp x.0 (map number_of postings) y.0 up (contains_map number_of postings y has) in
-    not_below_itself nat_cmp_total x.0 (subst (λ (n : ℕ). nat_cmp x.0 n ≡ Less) (sym same) less)
-
--- a posting is told by its number
-one_posting : (postings : List Posting) → AreSorted postings → (e f : Posting) → Contains postings e → Contains postings f → e.0 ≡ f.0 → e ≡ f
-unfolding IsStrictlySortedBy
-one_posting [] up e f has also same = absurd (contains_none e has)
-one_posting (x ∷ postings) up e f has also same =
-    elim (contains_cases x postings e has) [
-      | inl first ↦
-          elim (contains_cases x postings f also) [
-            | inl second ↦ sym first ∙ second
-            | inr later ↦ absurd (not_above x f postings up.0 later (ap number_of first ∙ same))
-          ]
-      | inr before ↦
-          elim (contains_cases x postings f also) [
-            | inl second ↦ absurd (not_above x e postings up.0 before (ap number_of second ∙ sym same))
-            | inr later ↦ one_posting postings up.1 e f before later same
-          ]
-    ]
 
 -- each number of the one list is one of the other
 numbers_there : (one other : List Posting) → All IsTermPosting one → ((number position : ℕ) → HasPosition one number position → HasPosition other number position)
@@ -73,7 +40,7 @@ positions_there : (one other : List Posting) → AreSorted other → ((number po
     → (e f : Posting) → Contains one e → Contains other f → e.0 ≡ f.0 → (position : ℕ) → Contains e.1 position → Contains f.1 position
 positions_there one other up moves e f has also same position in_e =
     let moved = moves e.0 position (record { positions = e.1; among = has; positioned = in_e }) in
-    let is : (e.0, moved.positions) ≡ f = one_posting other up (e.0, moved.positions) f moved.among also same in
+    let is : (e.0, moved.positions) ≡ f = one_of_key number_of nat_cmp_total other up (e.0, moved.positions) f moved.among also same in
     subst (λ (posting : Posting). Contains posting.1 position) is moved.positioned
 
 -- which number has which position tells the list
@@ -84,7 +51,7 @@ one_list one other p q same =
     let up_one = sorted_from_strictly_increasing (map number_of one) p.ascending in
     let up_other = sorted_from_strictly_increasing (map number_of other) q.ascending in
     let numbers = one_ascending nat_cmp_total (map number_of one) (map number_of other) up_one up_other (λ n. (numbers_there one other p.each there n, numbers_there other one q.each back n)) in
-    one_by_map number_of one other numbers (λ e f has also alike.
+    one_by_keys number_of one other numbers (λ e f has also alike.
     let sorted = λ (xs : List Posting) (x : Posting) (all : All IsTermPosting xs) (in_xs : Contains xs x). sorted_from_strictly_increasing x.1 (All-contains IsTermPosting xs x all in_xs).1 in
     let positions = one_ascending nat_cmp_total e.1 f.1 (sorted one e p.each has) (sorted other f q.each also)
     (λ k. (positions_there one other up_other there e f has also alike k, positions_there other one up_one back f e also has (sym alike) k)) in
@@ -105,15 +72,16 @@ same_postings collection e f p q same =
 one_dictionary : (collection : Collection) (p q : Parts) → ArePartsOf collection p → ArePartsOf collection q → p.entries ≡ q.entries
 one_dictionary collection p q are also =
     let terms = one_vocabulary collection (terms_of p.entries) (terms_of q.entries) are.vocabulary also.vocabulary in
-    one_by_map (λ (entry : DictionaryEntry). entry.term) p.entries q.entries terms (λ e f has there same.
+    one_by_keys (λ (entry : DictionaryEntry). entry.term) p.entries q.entries terms (λ e f has there same.
     same_postings collection e f (All-contains (IsEntryOf collection) p.entries e are.entries has) (All-contains (IsEntryOf collection) q.entries f also.entries there) same)
 
 one_parts : (collection : Collection) (p q : Parts) → ArePartsOf collection p → ArePartsOf collection q → p ≡ q
 one_parts collection p q are also =
     same_parts_fields p q (are.stop ∙ sym also.stop) (are.rows ∙ sym also.rows) (one_dictionary collection p q are also)
 
--- a collection has one text of a version
-pub one_index_text : (version : Version) (collection : Collection) (one other : List ℕ) → IsIndexText version collection one → IsIndexText version collection other → one ≡ other
+-- ---- texts
+
+pub one_index_text : CollectionHasOneIndexText
 one_index_text version collection one other p q =
     let parts = one_parts collection p.parts q.parts p.of_collection q.of_collection in
     let grams = one_gram_list p.grams q.grams p.grams_of_collection.ascending q.grams_of_collection.ascending p.grams_of_collection.each q.grams_of_collection.each (λ g n. (
@@ -121,3 +89,18 @@ one_index_text version collection one other p q =
       λ has. (p.grams_of_collection.related g n).1 ((q.grams_of_collection.related g n).0 has),
     )) in
     p.spelled ∙ ap₂ (layout version) parts grams ∙ sym q.spelled
+
+pub has_index_text : CollectionHasIndexText
+has_index_text version collection lawful =
+    let is = has_parts collection in
+    let some = has_grams (terms_of is.parts.entries) in (
+      layout version is.parts some.grams,
+      record {
+        lawful = lawful;
+        parts = is.parts;
+        grams = some.grams;
+        of_collection = is.of_collection;
+        grams_of_collection = of_collection collection is.parts some.grams is.of_collection some.of_terms;
+        spelled = refl;
+      },
+    )
