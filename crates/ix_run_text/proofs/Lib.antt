@@ -9,6 +9,7 @@ pub mod HeadLemmas
 pub mod InputLemmas
 pub mod ListSteps
 pub mod MarkedReaders
+pub mod OneRunText
 pub mod OrderLemmas
 pub mod PieceLemmas
 pub mod RaisedLists

@@ -16,6 +16,10 @@ HasEighteenBytes = (first : ℕ) (collection : Collection) (bytes : List ℕ) �
 abbrev pub RunTextTellsCollection : Type 0
 RunTextTellsCollection = (first start : ℕ) (one other : Collection) (bytes : List ℕ) → IsRunText first one bytes → IsRunText start other bytes → (first ≡ start) × (one ≡ other)
 
+-- a collection counted from one number has one run text
+abbrev pub CollectionHasOneRunText : Type 0
+CollectionHasOneRunText = (first : ℕ) (collection : Collection) (one other : List ℕ) → IsRunText first collection one → IsRunText first collection other → one ≡ other
+
 -- behind a run text stands nothing that would make a longer one
 abbrev pub NoRunTextBeginsAnother : Type 0
 NoRunTextBeginsAnother = (first start : ℕ) (one other : Collection) (bytes rest : List ℕ) → IsRunText first one bytes → IsRunText start other (bytes ++ rest) → rest ≡ []

@@ -1,5 +1,5 @@
 //! Laws of the run text. The functions do nothing: what they ensure is a fact about the definitions.
-ghost use Rattle.ix_run_text.specs.Laws.{HasEighteenBytes, NoRunTextBeginsAnother, RunTextIsRead, RunTextTellsCollection, WhatIsReadIsRunText};
+ghost use Rattle.ix_run_text.specs.Laws.{CollectionHasOneRunText, HasEighteenBytes, NoRunTextBeginsAnother, RunTextIsRead, RunTextTellsCollection, WhatIsReadIsRunText};
 
 use std::io::Read;
 
@@ -11,6 +11,11 @@ pub fn run_text_has_eighteen_bytes()
 /// A run text stands for one lawful collection at most, and for one number of its first document.
 pub fn run_text_tells_collection()
     ensures { RunTextTellsCollection }
+{}
+
+/// A lawful collection has one run text at most for each number of its first document.
+pub fn collection_has_one_run_text()
+    ensures { CollectionHasOneRunText }
 {}
 
 /// No run text begins another: its last byte can be told without what follows.

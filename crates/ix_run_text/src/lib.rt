@@ -20,8 +20,8 @@ mod token_counts;
 pub use head::{RunDoc, RunHead};
 pub use ix_vbyte::VbError;
 pub use laws::{
-    no_run_text_begins_another, run_text_has_eighteen_bytes, run_text_is_read,
-    run_text_tells_collection, what_is_read_is_run_text,
+    collection_has_one_run_text, no_run_text_begins_another, run_text_has_eighteen_bytes,
+    run_text_is_read, run_text_tells_collection, what_is_read_is_run_text,
 };
 pub use listed::{ListError, Listed};
 pub use run_reader::RunReader;

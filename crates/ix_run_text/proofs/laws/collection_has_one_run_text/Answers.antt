@@ -1,0 +1,5 @@
+use Rattle.ix_run_text.proofs.OneRunText.{one_run_text}
+use Rattle.ix_run_text.proofs.laws.collection_has_one_run_text.Goals as goal
+
+pub returns : goal.returns
+returns c = one_run_text
