@@ -16,7 +16,7 @@ use Rattle.ix_file.proofs.GramLists.{of_collection}
 use Rattle.ix_run.specs.Heads.{Heading, parts_with}
 use Rattle.ix_run.specs.Sources.{Yielding}
 use Rattle.ix_merge.specs.Merged.{AreShares, HasMergedAll, HasMergedSome, IsMergeOf, Share}
-use Rattle.ix_merge.specs.Pieces.{ArePiecesOf, IsConcatenation, MayYieldPiece, Piece, WritesConcatenation, WritesFront}
+use Rattle.ix_merge.specs.Pieces.{ArePiecesOf, IsConcatenation, MayYieldPiece, Piece, WritesConcatenation, WritesFront, WritesYieldedFront}
 use Rattle.ix_merge.specs.Rows.{AreRowsOf, tokens_under}
 use Rattle.ix_merge.proofs.GramsExist.{has_grams}
 use Rattle.ix_merge.proofs.Parting.{concatenated, own_heading, own_lawful, parts_of_own, piece_of, pieces_headed}
@@ -54,6 +54,15 @@ pub record IsClosed {S : Type 0} (yields : Yielding S) (heading : S → Heading)
   pub pieces : List Piece
   pub yielded : ArePiecesOf yields heading sources pieces
   pub concatenation : IsConcatenation pieces whole
+
+-- the front of a text is one of a longer text
+pub front_of_longer : (before now : Option (List ℕ)) (text more : List ℕ) → AppendsFront before now text → AppendsFront before now (text ++ more)
+front_of_longer before now text more front = record {
+  front = front.front;
+  rest = front.rest ++ more;
+  parts = ap (λ (bytes : List ℕ). bytes ++ more) front.parts ∙ append_assoc front.front front.rest more;
+  gained = front.gained;
+}
 
 module _ {S : Type 0} (yields : Yielding S) (heading : S → Heading) (sources : List S) (parts : Parts)
     (all : HasMergedAll yields heading sources parts.entries) (begun : AreBegun (map heading sources) parts.stop parts.rows) where
@@ -107,14 +116,33 @@ module _ {S : Type 0} (yields : Yielding S) (heading : S → Heading) (sources :
       let at = closed in
       record { pieces = at.pieces; yielded = at.yielded; whole = at.whole; concatenation = at.concatenation; written = writes at.whole at.lawful at.of_collection }
 
--- the front of a text is one of a longer text
-front_of_longer : (before now : Option (List ℕ)) (text more : List ℕ) → AppendsFront before now text → AppendsFront before now (text ++ more)
-front_of_longer before now text more front = record {
-  front = front.front;
-  rest = front.rest ++ more;
-  parts = ap (λ (bytes : List ℕ). bytes ++ more) front.parts ∙ append_assoc front.front front.rest more;
-  gained = front.gained;
-}
+  -- and a front of a layout of the parts is one of its index text
+  pub yielded_layout : (before now : Option (List ℕ)) → ((grams : List GramEntry) → AreGramsOfTerms (terms_of parts.entries) grams → AppendsFront before now (layout FrontCoded parts grams)) → WritesYieldedFront yields heading sources before now
+  yielded_layout before now front =
+      let at = closed in
+      let some = has_grams (terms_of parts.entries) in
+      record {
+        pieces = at.pieces;
+        yielded = at.yielded;
+        whole = at.whole;
+        concatenation = at.concatenation;
+        text = layout FrontCoded parts some.grams;
+        of_whole = record {
+          lawful = at.lawful;
+          parts = parts;
+          grams = some.grams;
+          of_collection = at.of_collection;
+          grams_of_collection = of_collection at.whole parts some.grams at.of_collection some.of_terms;
+          spelled = refl;
+        };
+        gained = front some.grams some.of_terms;
+      }
+
+  -- and so is a front of what is settled by them
+  pub yielded_front : (before now : Option (List ℕ)) → AppendsFront before now (magic FrontCoded ++ postings_section parts.entries) → WritesYieldedFront yields heading sources before now
+  unfolding layout
+  yielded_front before now front =
+      yielded_layout before now (λ grams of_terms. front_of_longer before now (magic FrontCoded ++ postings_section parts.entries) (tail FrontCoded parts grams) front)
 
 module _ (headings : List Heading) (shares : List Share) (parts : Parts) (are : AreShares headings shares) (begun : AreBegun headings parts.stop parts.rows) (merge : IsMergeOf shares parts.entries) where
   are_one : AreUnited shares parts

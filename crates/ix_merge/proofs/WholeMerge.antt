@@ -1,10 +1,12 @@
 -- The steps of a merge, from what the sources say of themselves to the text that is written.
 use Rattle.std.proofs.Common.{◌≡◌, ℕ, ◌<◌, ◌≤◌, ◌^◌, List, [], length, map, Option, None, Result, Ok, Err, OnErr, All, inl, inr, sym, subst, arith}
+use Rattle.std.proofs.KnownBytes.{Keeps-refl}
 use Rattle.std.proofs.lemmas.Bool.{cases_lt}
+use Rattle.std.specs.Io.KnownBytes.{Keeps}
 use Rattle.std.proofs.lemmas.List.Elements.{All-map, All-weaker}
 use Rattle.std.proofs.lemmas.Option.{slice_get_within}
 use Rattle.ix_text.specs.Collections.{Collection, IsLawful, IsName}
-use Rattle.ix_text.specs.Parts.{ArePartsOf, DictionaryEntry, DocumentRow, GramEntry, terms_of}
+use Rattle.ix_text.specs.Parts.{ArePartsOf, DictionaryEntry, DocumentRow, GramEntry, Parts, terms_of}
 use Rattle.ix_output.specs.Sinks.{AppendsFront}
 use Rattle.ix_file.specs.Endings.{WritesIndexText}
 use Rattle.ix_file.specs.Grams.{AreGramsOfTerms}
@@ -13,6 +15,7 @@ use Rattle.ix_file.specs.Rows.{document_row}
 use Rattle.ix_file.specs.Sections.{FrontCoded}
 use Rattle.ix_file.specs.Told.{Told, entries_of, parts_of}
 use Rattle.ix_file.specs.DocRow.{DocRow}
+use Rattle.ix_file.specs.Writers.{sink}
 use Rattle.ix_file.specs.WriterSections.{WriterSections}
 use Rattle.ix_file.specs.IndexWriter.{IndexWriter}
 use Rattle.ix_run.specs.Heads.{Heading, IsLawfulHeading}
@@ -20,12 +23,13 @@ use Rattle.ix_run.specs.Sources.{Faulting, Giving, IsLawfulFront, IsUnread, Yiel
 use Rattle.ix_merge.specs.Beginnings.{BeginsWith}
 use Rattle.ix_merge.specs.Covers.{Cover}
 use Rattle.ix_merge.specs.Merging.{AreApart, IsOfWriter, IsRefusalOf, TellsAll}
-use Rattle.ix_merge.specs.Pieces.{WritesConcatenation, WritesFront}
+use Rattle.ix_merge.specs.Pieces.{LeavesYieldedFront, WritesConcatenation, WritesFront, WritesYieldedFront}
 use Rattle.ix_merge.specs.Refusals.{AreMergeable, IsRefusal}
 use Rattle.ix_merge.specs.Rows.{AreRowsOf}
+use Rattle.ix_merge.specs.Unfinished.{LeavesMergedFront}
 use Rattle.ix_merge.specs.declared.merge_error.MergeError.{MergeError}
 use Rattle.ix_merge.specs.declared.merge_error.MergeError.TheVariants.{Gap, Overlap, StopDiffers, Source, TooLarge, Write, Memory}
-use Rattle.ix_merge.proofs.Closing.{AreBegun, all_of_map, front_of_layout, written_all}
+use Rattle.ix_merge.proofs.Closing.{AreBegun, all_of_map, front_of_layout, written_all, yielded_front, yielded_layout}
 
 -- what was given of nothing says that the head is lawful
 lawful_heading : (heading : Heading) → IsLawfulFront heading [] None → IsLawfulHeading heading
@@ -104,3 +108,18 @@ module _ {S W : Type 0} (yields : Yielding S) (heading : S → Heading) (content
   front_written now front =
       front_of_layout (map heading sources) tells.all.shares (parts_of tells.now) tells.all.are
       (begun_still (map heading sources) told.stop tells.now.stop told.rows tells.now.rows tells.stop tells.rows begins) tells.all.merge before now front
+
+  -- and of that text if it is one of all that the sources yielded
+  pub yielded_written : (now : Option (List ℕ)) → ((grams : List GramEntry) → AreGramsOfTerms (terms_of (entries_of tells.now)) grams → AppendsFront before now (layout FrontCoded (parts_of tells.now) grams)) → WritesYieldedFront yields heading sources before now
+  yielded_written now front =
+      yielded_layout yields heading sources (parts_of tells.now) tells.all
+      (begun_still (map heading sources) told.stop tells.now.stop told.rows tells.now.rows tells.stop tells.rows begins) before now front
+
+-- what a merge leaves that stops among the terms
+pub left_yielded : {S W : Type 0} (yields : Yielding S) (heading : S → Heading) (contents : W → Option (List ℕ)) (sources : List S) (stop : List (List ℕ)) (rows : List DocumentRow) (old new : IndexWriter W WriterSections)
+    → AreBegun (map heading sources) stop rows → LeavesMergedFront yields heading contents sources (contents (sink old)) old new → LeavesYieldedFront yields heading sources (contents (sink old)) (contents (sink new))
+left_yielded {S} {W} yields heading contents sources stop rows old new begun (inl same) =
+    inl (subst (λ (out : W). Keeps (contents (sink old)) (contents out)) (sym same) (Keeps-refl (contents (sink old))))
+left_yielded yields heading contents sources stop rows old new begun (inr some) =
+    let parts : Parts = record { stop = stop; rows = rows; entries = some.entries } in
+    inr (yielded_front yields heading sources parts some.all begun (contents (sink old)) (contents (sink new)) some.gained)

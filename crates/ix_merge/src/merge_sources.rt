@@ -3,11 +3,12 @@ ghost use Rattle.std.specs.Prelude.{◌≡◌, ◌⊎◌, ◌^◌, ◌<◌, ℕ,
 ghost use Rattle.std.specs.Io.KnownBytes.{Keeps};
 ghost use Rattle.ix_run.specs.Heads.{IsLawfulHeading};
 ghost use Rattle.ix_run.specs.Sources.{IsUnread};
+ghost use Rattle.ix_run.specs.Yields.{AlwaysYield};
 ghost use Rattle.ix_file.specs.Rows.{document_row};
 ghost use Rattle.ix_file.specs.Writers.{Answers, IsReady, WasTold, sink, sink_name};
 ghost use Rattle.ix_merge.specs.Covers.{IsGap, IsOverlap};
 ghost use Rattle.ix_merge.specs.Beginnings.{BeginsWith};
-ghost use Rattle.ix_merge.specs.Pieces.{LeavesFront, WritesConcatenation};
+ghost use Rattle.ix_merge.specs.Pieces.{LeavesFront, LeavesYieldedFront, WritesConcatenation};
 ghost use Rattle.ix_merge.specs.Refusals.{AreMergeable, AreTooLarge, DifferInStop, HaveOneStop, IsEarly, IsOrMemory, IsRefusal, TellsFault};
 ghost use Rattle.ix_merge.specs.Rows.{AreRowsOf};
 
@@ -35,7 +36,8 @@ use std::io::Write;
 /// * `StopDiffers`: two sources have different stop terms.
 /// * `TooLarge`: the sources have more than 2^28 tokens.
 ///
-/// Then, with a prefix of an index text written, perhaps nothing of it, or all of it if the flush failed:
+/// Then, with a prefix written of the index text of some collection with the heads of the sources, perhaps nothing of it,
+/// or all of it if the flush failed; of runs in memory and of indexes it is the text of their concatenation:
 ///
 /// * `Source(place, error)`: the source at this place of the list returned `error`.
 /// * `Write`: a write or the flush failed.
@@ -68,6 +70,9 @@ pub fn merge<S: Source + Drop, W: Write>(
     ensures early { IfErr result (λ error. IsEarly error
         → Keeps (W.contents out.old) (W.contents out.new)) }
     ensures front { OnErr result (LeavesFront (map S.heading sources.items)
+        (W.contents out.old) (W.contents out.new)) }
+    ensures unfinished { AlwaysYield S.yields S.gives
+        → OnErr result (LeavesYieldedFront S.yields S.heading sources.items
         (W.contents out.old) (W.contents out.new)) }
 {
     let mut writer = {
