@@ -8,7 +8,7 @@ ghost use Rattle.ix_file.specs.Rows.{document_row};
 ghost use Rattle.ix_file.specs.Writers.{Answers, IsReady, WasTold, sink, sink_name};
 ghost use Rattle.ix_merge.specs.Covers.{IsGap, IsOverlap};
 ghost use Rattle.ix_merge.specs.Beginnings.{BeginsWith};
-ghost use Rattle.ix_merge.specs.Pieces.{LeavesFront, LeavesYieldedFront, WritesConcatenation};
+ghost use Rattle.ix_merge.specs.Pieces.{LeavesFront, LeavesYieldedPart, WritesConcatenation};
 ghost use Rattle.ix_merge.specs.Refusals.{AreMergeable, AreTooLarge, DifferInStop, HaveOneStop, IsEarly, IsOrMemory, IsRefusal, TellsFault};
 ghost use Rattle.ix_merge.specs.Rows.{AreRowsOf};
 
@@ -72,8 +72,8 @@ pub fn merge<S: Source + Drop, W: Write>(
     ensures front { OnErr result (LeavesFront (map S.heading sources.items)
         (W.contents out.old) (W.contents out.new)) }
     ensures unfinished { AlwaysYield S.yields S.gives
-        → OnErr result (LeavesYieldedFront S.yields S.heading sources.items
-        (W.contents out.old) (W.contents out.new)) }
+        → IfErr result (λ error. LeavesYieldedPart S.yields S.heading sources.items
+        (W.contents out.old) (W.contents out.new) (error ≡ MergeError.Write)) }
 {
     let mut writer = {
         let rows = collect_rows(alloc, sources.as_slice())?;

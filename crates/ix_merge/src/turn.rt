@@ -71,7 +71,8 @@ pub(crate) fn take_turn<S: Source, W: Write>(
 /// The error of a writer that had returned none before.
 pub(crate) fn put_error<E>(error: PutError) -> MergeError<E>
     requires { error ≢ PutError.Failed }
-    ensures { IsOfWriter result }
+    ensures of_writer { IsOfWriter result }
+    ensures memory { result ≢ MergeError.Write → error ≡ PutError.Memory }
 {
     match error {
         PutError::Write => MergeError::Write,
