@@ -1,5 +1,5 @@
 -- What sources yield, merged under the rows of all documents, is the concatenation of pieces that they may yield.
-use Rattle.std.proofs.Common.{◌≡◌, ℕ, ◌≤◌, ◌^◌, List, [], ◌++◌, length, map, slice_get, Option, Some, All, Contains, refl, sym, ap, ◌∙◌, subst, arith}
+use Rattle.std.proofs.Common.{◌≡◌, ℕ, ◌<◌, ◌≤◌, ◌^◌, List, [], ◌++◌, length, map, slice_get, Option, Some, All, Contains, refl, sym, ap, ◌∙◌, subst, arith, length-append}
 use Rattle.std.proofs.lemmas.List.{append_assoc, get_or-map, length-map}
 use Rattle.std.proofs.lemmas.Option.{get_or_from_slice_get, slice_get-map, slice_get_within}
 use Rattle.std.specs.Option.{option_map}
@@ -10,14 +10,14 @@ use Rattle.ix_text.proofs.CollectionTold.{has_collection}
 use Rattle.ix_text.proofs.PartsLemmas.{at_same_place, injected}
 use Rattle.ix_file.specs.Endings.{WritesIndexText}
 use Rattle.ix_file.specs.Grams.{AreGramsOfTerms}
-use Rattle.ix_file.specs.IndexText.{layout, magic, tail}
+use Rattle.ix_file.specs.IndexText.{end_mark, layout, magic, tail}
 use Rattle.ix_file.specs.Sections.{FrontCoded, postings_section}
 use Rattle.ix_file.proofs.GramLists.{of_collection}
 use Rattle.ix_file.proofs.GramsExist.{has_grams}
 use Rattle.ix_run.specs.Heads.{Heading, parts_with}
 use Rattle.ix_run.specs.Sources.{Yielding}
 use Rattle.ix_merge.specs.Merged.{AreShares, HasMergedAll, HasMergedSome, IsMergeOf, Share}
-use Rattle.ix_merge.specs.Pieces.{ArePiecesOf, IsConcatenation, MayYieldPiece, Piece, WritesConcatenation, WritesFront}
+use Rattle.ix_merge.specs.Pieces.{ArePiecesOf, IsConcatenation, MayYieldPiece, Piece, WritesConcatenation, WritesFront, WritesPart, WritesYieldedPart}
 use Rattle.ix_merge.specs.Rows.{AreRowsOf, tokens_under}
 use Rattle.ix_merge.proofs.Parting.{concatenated, own_heading, own_lawful, parts_of_own, piece_of, pieces_headed}
 use Rattle.ix_merge.proofs.Shares.{heading_of_share}
@@ -54,6 +54,39 @@ pub record IsClosed {S : Type 0} (yields : Yielding S) (heading : S → Heading)
   pub pieces : List Piece
   pub yielded : ArePiecesOf yields heading sources pieces
   pub concatenation : IsConcatenation pieces whole
+
+-- the front of a text is one of a longer text
+pub front_of_longer : (before now : Option (List ℕ)) (text more : List ℕ) → AppendsFront before now text → AppendsFront before now (text ++ more)
+front_of_longer before now text more front = record {
+  front = front.front;
+  rest = front.rest ++ more;
+  parts = ap (λ (bytes : List ℕ). bytes ++ more) front.parts ∙ append_assoc front.front front.rest more;
+  gained = front.gained;
+}
+
+length_end : length (end_mark FrontCoded) ≡ 8
+unfolding end_mark
+length_end = refl
+
+-- there are bytes behind POSTINGS
+some_tail : (parts : Parts) (grams : List GramEntry) (bytes : List ℕ) → bytes ≡ tail FrontCoded parts grams → 0 < length bytes
+unfolding tail
+some_tail parts grams bytes spelled =
+    let e = ap length spelled in
+    let simple = simp length-append at e in
+    omega (arith, simple, length_end)
+
+-- so a front of what is settled by parts is not the whole text
+pub part_of_layout : (before now : Option (List ℕ)) (parts : Parts) (grams : List GramEntry) (if_whole : Type 0) → AppendsFront before now (magic FrontCoded ++ postings_section parts.entries) → WritesPart before now (layout FrontCoded parts grams) if_whole
+unfolding layout front_of_longer
+part_of_layout before now parts grams if_whole front =
+    let more : List ℕ = tail FrontCoded parts grams in
+    record {
+      front = front_of_longer before now (magic FrontCoded ++ postings_section parts.entries) more front;
+      cut = λ none.
+          let e : length (front.rest ++ more) ≡ 0 = ap length none in
+          absurd (omega (arith, some_tail parts grams more refl, e, length-append front.rest more));
+    }
 
 module _ {S : Type 0} (yields : Yielding S) (heading : S → Heading) (sources : List S) (parts : Parts)
     (all : HasMergedAll yields heading sources parts.entries) (begun : AreBegun (map heading sources) parts.stop parts.rows) where
@@ -107,14 +140,32 @@ module _ {S : Type 0} (yields : Yielding S) (heading : S → Heading) (sources :
       let at = closed in
       record { pieces = at.pieces; yielded = at.yielded; whole = at.whole; concatenation = at.concatenation; written = writes at.whole at.lawful at.of_collection }
 
--- the front of a text is one of a longer text
-front_of_longer : (before now : Option (List ℕ)) (text more : List ℕ) → AppendsFront before now text → AppendsFront before now (text ++ more)
-front_of_longer before now text more front = record {
-  front = front.front;
-  rest = front.rest ++ more;
-  parts = ap (λ (bytes : List ℕ). bytes ++ more) front.parts ∙ append_assoc front.front front.rest more;
-  gained = front.gained;
-}
+  -- and a front of a layout of the parts is one of its index text
+  pub yielded_layout : (before now : Option (List ℕ)) (if_whole : Type 0) → ((grams : List GramEntry) → AreGramsOfTerms (terms_of parts.entries) grams → WritesPart before now (layout FrontCoded parts grams) if_whole)
+      → WritesYieldedPart yields heading sources before now if_whole
+  yielded_layout before now if_whole front =
+      let at = closed in
+      let some = has_grams (terms_of parts.entries) in
+      record {
+        pieces = at.pieces;
+        yielded = at.yielded;
+        whole = at.whole;
+        concatenation = at.concatenation;
+        text = layout FrontCoded parts some.grams;
+        of_whole = record {
+          lawful = at.lawful;
+          parts = parts;
+          grams = some.grams;
+          of_collection = at.of_collection;
+          grams_of_collection = of_collection at.whole parts some.grams at.of_collection some.of_terms;
+          spelled = refl;
+        };
+        gained = front some.grams some.of_terms;
+      }
+
+  -- and so is a front of what is settled by them
+  pub yielded_front : (before now : Option (List ℕ)) (if_whole : Type 0) → AppendsFront before now (magic FrontCoded ++ postings_section parts.entries) → WritesYieldedPart yields heading sources before now if_whole
+  yielded_front before now if_whole front = yielded_layout before now if_whole (λ grams of_terms. part_of_layout before now parts grams if_whole front)
 
 module _ (headings : List Heading) (shares : List Share) (parts : Parts) (are : AreShares headings shares) (begun : AreBegun headings parts.stop parts.rows) (merge : IsMergeOf shares parts.entries) where
   are_one : AreUnited shares parts

@@ -1,5 +1,6 @@
 pub mod Behind
 pub mod Closing
+pub mod Courses
 pub mod Covering
 pub mod Enclosed
 pub mod Faulting
@@ -19,6 +20,7 @@ pub mod Spans
 pub mod Starts
 pub mod StopTerms
 pub mod Turning
+pub mod Unfinished
 pub mod Uniting
 pub mod WholeMerge
 pub mod WinnerNodes

@@ -30,6 +30,7 @@ use Rattle.ix_merge.specs.Rows.{tokens_under}
 use Rattle.ix_file.specs.Postings.{shifted}
 use Rattle.ix_merge.specs.Starting.{HasStarted, HaveStarted}
 use Rattle.ix_merge.specs.Turns.{GivesEntry, HasToldSome, HasTurned, MayTurn, told_then}
+use Rattle.ix_merge.specs.Unfinished.{HasMergedFront}
 use Rattle.ix_merge.specs.declared.pending_entry.PendingEntry.{PendingEntry}
 use Rattle.ix_merge.proofs.Behind.{AreBehind, behind_more, may_turn, next_above}
 use Rattle.ix_merge.proofs.GatheredLists.{gathered_bytes, gathered_none}
@@ -221,9 +222,9 @@ module _ {S W : Type 0} (heading : S → Heading) (current : S → Option (List 
       }
 
     -- the turn fails
-    pub merged_some_then : (after : IndexWriter W WriterSections) → HasToldSome heading current contents before source share_here.entries merging.told last next after → HasMergedSome (map heading begun) before (contents (sink after))
+    pub merged_some_then : (after : IndexWriter W WriterSections) → HasToldSome heading current yields gives contents before source share_here.entries merging.told last next after → HasMergedSome (map heading begun) before (contents (sink after))
     merged_some_then after (inl front) = merged_some begun now before told_first writer hand (contents (sink after)) merging front
-    merged_some_then after (inr some) = merged_some_more some.0 (contents (sink after)) some.1
+    merged_some_then after (inr some) = merged_some_more some.0 (contents (sink after)) some.2
 
     -- the turn is done
     module _ (new : S) (after : IndexWriter W WriterSections) (then : PendingEntry) (same : heading new ≡ heading source)
@@ -286,6 +287,15 @@ module _ {S W : Type 0} (heading : S → Heading) (current : S → Option (List 
               omega arith
 
   -- ---- the end
+
+  -- an error of the last write: what was told is all that the sources yielded
+  pub ended_front : (begun now : List S) (before : Option (List ℕ)) (told_first : Told) (writer : IndexWriter W WriterSections) (hand : PendingEntry) (merging : Merging begun now before told_first writer hand)
+      → ((place : ℕ) (source : S) → place < length now → current (get_or now place source) ≡ None) → (after : Option (List ℕ)) → AppendsFront before after (settled_front merging.told) → HasMergedFront yields heading begun before after
+  ended_front begun now before told_first writer hand merging ended after front = record {
+    entries = entries_of merging.told;
+    all = merged_all heading current yields gives lawfully begun now merging.shares merging.reading merging.told (string_bytes hand.term) hand.end merging.has ended;
+    gained = front;
+  }
 
   pub tells_all : (begun now : List S) (before : Option (List ℕ)) (told_first : Told) (writer : IndexWriter W WriterSections) (hand : PendingEntry) (merging : Merging begun now before told_first writer hand)
       → ((place : ℕ) (source : S) → place < length now → current (get_or now place source) ≡ None) → (after : IndexWriter W WriterSections) → WasTold contents before after merging.told → TellsAll yields heading contents begun before told_first after

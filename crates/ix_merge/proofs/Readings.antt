@@ -122,7 +122,7 @@ module _ (shares : List Share) (place : ℕ) (share : Share) (within : place < l
     low : from ≤ share.heading.first
     merged : AreMerged shares (begun.done ++ entry ∷ [])
     others : All (λ entry. 0 < length entry.postings) begun.done
-    no_bytes : length (postings_section (begun.done ++ entry ∷ [])) ≡ length (postings_section (entries_of told))
+    no_bytes : postings_section (begun.done ++ entry ∷ []) ≡ postings_section (entries_of told)
 
   is_begun : IsBegun
   is_begun = ⊎_elim same new begins.is
@@ -146,7 +146,7 @@ module _ (shares : List Share) (place : ℕ) (share : Share) (within : place < l
                 low = ⊎_elim (λ below. absurd (not_below_itself term (subst (λ (t : List ℕ). Below t term) is.0 below))) (λ is'. let l = is'.1 in let f = is.2 in omega arith) follows;
                 merged = subst (AreMerged shares) e has.merged;
                 others = All-front (λ (x : DictionaryEntry). 0 < length x.postings) begun.done (entry ∷ []) (subst (All (λ (x : DictionaryEntry). 0 < length x.postings)) e has.some);
-                no_bytes = ap (λ (es : List DictionaryEntry). length (postings_section es)) (sym e);
+                no_bytes = ap postings_section (sym e);
               }
 
       new : (last ≢ term) × (begun ≡ with_term told term) × (from ≡ 0) → IsBegun
@@ -163,8 +163,8 @@ module _ (shares : List Share) (place : ℕ) (share : Share) (within : place < l
                 (term_merged shares (entries_of told) term has.merged (ascends_on shares told last next term has (⊎_elim (λ below. below) (λ is'. absurd (is.0 is'.0)) follows)));
             others = subst (All (λ (x : DictionaryEntry). 0 < length x.postings)) (sym d) has.some;
             no_bytes =
-                ap (λ (es : List DictionaryEntry). length (postings_section (es ++ entry_with term [] ∷ []))) d
-                ∙ ap length (postings_section-push (entries_of told) (entry_with term []) ∙ append-nil (postings_section (entries_of told)));
+                ap (λ (es : List DictionaryEntry). postings_section (es ++ entry_with term [] ∷ [])) d
+                ∙ postings_section-push (entries_of told) (entry_with term []) ∙ append-nil (postings_section (entries_of told));
           }
 
   -- then the shares are told with the source's postings
@@ -189,22 +189,30 @@ module _ (shares : List Share) (place : ℕ) (share : Share) (within : place < l
         none = λ none. let f : Some hand ≡ None = sym at ∙ none in absurd cc;
       }
 
-  -- there are more bytes of postings
-  pub told_longer : length (postings_section (entries_of told)) < length (postings_section (entries_of (told_then begun share.heading.first postings)))
-  told_longer =
+  -- bytes of postings come behind those before
+  pub told_grown : (more : List ℕ) × (0 < length more) × (postings_section (entries_of (told_then begun share.heading.first postings)) ≡ postings_section (entries_of told) ++ more)
+  told_grown =
       let is : IsBegun = is_begun in
       let hand : DictionaryEntry = listed raised is.entry in
       let at : (told_then begun share.heading.first postings).at_hand ≡ Some hand = ap (option_map (listed raised)) is.at_hand in
       let e : entries_of (told_then begun share.heading.first postings) ≡ begun.done ++ hand ∷ [] = ap (λ (o : Option DictionaryEntry). begun.done ++ option_to_list o) at in
-      let a = ap length (ap postings_section e ∙ postings_section-push begun.done hand) in
-      let b = ap length (postings_section-push begun.done is.entry) in
-      let c = ap length (list_bytes_from-append 0 is.entry.postings raised) in
-      let d = length-append (postings_section begun.done) (list_bytes (is.entry.postings ++ raised)) in
-      let f = length-append (postings_section begun.done) (list_bytes is.entry.postings) in
-      let h = length-append (list_bytes is.entry.postings) (list_bytes_from (next_after 0 (documents_of is.entry.postings)) raised) in
-      let more = some_bytes (next_after 0 (documents_of is.entry.postings)) raised (let s = under.some in omega (arith, length-shifted share.heading.first postings)) in
-      let n = is.no_bytes in
-      omega (arith, a, b, c, d, f, h, more, n)
+      let next : ℕ = next_after 0 (documents_of is.entry.postings) in
+      let before : List ℕ = postings_section begun.done in
+      let more : List ℕ = list_bytes_from next raised in (
+        more,
+        some_bytes next raised (let s = under.some in omega (arith, length-shifted share.heading.first postings)),
+        ap postings_section e ∙ postings_section-push begun.done hand
+            ∙ ap (λ (bytes : List ℕ). before ++ bytes) (list_bytes_from-append 0 is.entry.postings raised)
+            ∙ sym (append_assoc before (list_bytes is.entry.postings) more)
+            ∙ ap (λ (bytes : List ℕ). bytes ++ more) (sym (postings_section-push begun.done is.entry) ∙ is.no_bytes),
+      )
+
+  -- and so there are more of them
+  pub told_longer : length (postings_section (entries_of told)) < length (postings_section (entries_of (told_then begun share.heading.first postings)))
+  told_longer =
+      let grown = told_grown in
+      let some = grown.1 in
+      omega (arith, ap length grown.2, length-append (postings_section (entries_of told)) grown.0, some)
 
   -- and what follows of the term lies behind it
   pub ends_low : next_after from (documents_of raised) ≤ end_of share.heading

@@ -12,6 +12,7 @@ pub mod Refusals
 pub mod Rows
 pub mod Starting
 pub mod Turns
+pub mod Unfinished
 pub mod WinnerTrees
 pub use Rattle.ix_file.specs.Endings
 pub use Rattle.ix_file.specs.IndexText
@@ -19,3 +20,4 @@ pub use Rattle.ix_file.specs.Sections
 pub use Rattle.ix_run.specs.Heads
 pub use Rattle.ix_run.specs.RunSources
 pub use Rattle.ix_run.specs.Sources
+pub use Rattle.ix_run.specs.Yields

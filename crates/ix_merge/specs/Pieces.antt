@@ -65,3 +65,22 @@ pub record WritesFront (headings : List Heading) (before now : Option (List ℕ)
 -- nothing went out, or a front of such a text
 abbrev pub LeavesFront : List Heading → Option (List ℕ) → Option (List ℕ) → Type 0
 LeavesFront headings before now = Keeps before now ⊎ WritesFront headings before now
+
+-- Since `before`, a front of the text went out, and the whole of it only if this holds.
+pub record WritesPart (before now : Option (List ℕ)) (text : List ℕ) (if_whole : Type 0) : Type 0 where
+  pub front : AppendsFront before now text
+  pub cut : front.rest ≡ [] → if_whole
+
+-- Since `before`, such a front went out of the index text of the concatenation of pieces that the sources may yield.
+pub record WritesYieldedPart {S : Type 0} (yields : Yielding S) (heading : S → Heading) (sources : List S) (before now : Option (List ℕ)) (if_whole : Type 0) : Type 0 where
+  pub pieces : List Piece
+  pub yielded : ArePiecesOf yields heading sources pieces
+  pub whole : Collection
+  pub concatenation : IsConcatenation pieces whole
+  pub text : List ℕ
+  pub of_whole : IsIndexText FrontCoded whole text
+  pub gained : WritesPart before now text if_whole
+
+-- nothing went out, or a front of such a text
+abbrev pub LeavesYieldedPart : {S : Type 0} → Yielding S → (S → Heading) → List S → Option (List ℕ) → Option (List ℕ) → Type 0 → Type 0
+LeavesYieldedPart yields heading sources before now if_whole = Keeps before now ⊎ WritesYieldedPart yields heading sources before now if_whole

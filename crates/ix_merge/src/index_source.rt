@@ -49,13 +49,14 @@ impl<'a> Model for IndexSource<'a> {
 }
 
 impl<'a> IndexSource<'a> {
-    ghost use Rattle.std.specs.Prelude.{◌≡◌, ◌≤◌, ◌+◌, ◌^◌, List, [], length, IfOk};
+    ghost use Rattle.std.specs.Prelude.{◌≡◌, ◌≤◌, ◌+◌, ◌^◌, List, [], length, IfOk, OnOk};
     ghost use Rattle.ix_text.specs.Collections.{Collection};
     ghost use Rattle.ix_text.specs.Parts.{ArePartsOf, DictionaryEntry};
     ghost use Rattle.ix_run.specs.Heads.{parts_with};
     ghost use Rattle.ix_run.specs.Runs.{run_value};
     ghost use Rattle.ix_run.specs.RunSources.{HasGiven, HasLeft, unread};
     ghost use Rattle.ix_run.specs.Sources.{IsUnread};
+    ghost use Rattle.ix_run.specs.Yields.{AlwaysYield};
 
     /// The source of an index, from which nothing was read yet: that of a run of the same collection, whose documents
     /// count from `first` on. The sum of `first` and the number of documents is at most 2^28.
@@ -71,6 +72,7 @@ impl<'a> IndexSource<'a> {
             → ArePartsOf collection index.now.parts
             → (entries : List DictionaryEntry) → HasLeft source [] entries
             → ArePartsOf collection (parts_with source.heading entries)) }
+        ensures always { OnOk result (AlwaysYield HasLeft HasGiven) }
     {
         Ok(IndexSource {
             head: RunHead {

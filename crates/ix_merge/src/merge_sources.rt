@@ -1,15 +1,14 @@
 //! The merge of sources into an index text.
-ghost use Rattle.std.specs.Prelude.{◌≡◌, ◌⊎◌, ◌^◌, ◌<◌, ℕ, List, Option, Some, None, [], All, IfErr, IfOk, OnErr, OnOk, length, map};
+ghost use Rattle.std.specs.Prelude.{◌≡◌, ◌^◌, ◌<◌, ℕ, Some, None, All, IfErr, OnErr, OnOk, length, map};
 ghost use Rattle.std.specs.Io.KnownBytes.{Keeps};
-ghost use Rattle.ix_run.specs.Heads.{IsLawfulHeading};
 ghost use Rattle.ix_run.specs.Sources.{IsUnread};
+ghost use Rattle.ix_run.specs.Yields.{AlwaysYield};
 ghost use Rattle.ix_file.specs.Rows.{document_row};
-ghost use Rattle.ix_file.specs.Writers.{Answers, IsReady, WasTold, sink, sink_name};
+ghost use Rattle.ix_file.specs.Writers.{IsReady, sink, sink_name};
 ghost use Rattle.ix_merge.specs.Covers.{IsGap, IsOverlap};
 ghost use Rattle.ix_merge.specs.Beginnings.{BeginsWith};
-ghost use Rattle.ix_merge.specs.Pieces.{LeavesFront, WritesConcatenation};
+ghost use Rattle.ix_merge.specs.Pieces.{LeavesFront, LeavesYieldedPart, WritesConcatenation};
 ghost use Rattle.ix_merge.specs.Refusals.{AreMergeable, AreTooLarge, DifferInStop, HaveOneStop, IsEarly, IsOrMemory, IsRefusal, TellsFault};
-ghost use Rattle.ix_merge.specs.Rows.{AreRowsOf};
 
 use crate::MergeError;
 use crate::overview::collect_rows;
@@ -35,7 +34,8 @@ use std::io::Write;
 /// * `StopDiffers`: two sources have different stop terms.
 /// * `TooLarge`: the sources have more than 2^28 tokens.
 ///
-/// Then, with a prefix of an index text written, perhaps nothing of it, or all of it if the flush failed:
+/// Then, with a prefix written, perhaps nothing of it, of the index text of some collection with the heads of the sources (of
+/// runs in memory and of indexes that of their concatenation, and all of it only after `Write`):
 ///
 /// * `Source(place, error)`: the source at this place of the list returned `error`.
 /// * `Write`: a write or the flush failed.
@@ -69,6 +69,9 @@ pub fn merge<S: Source + Drop, W: Write>(
         → Keeps (W.contents out.old) (W.contents out.new)) }
     ensures front { OnErr result (LeavesFront (map S.heading sources.items)
         (W.contents out.old) (W.contents out.new)) }
+    ensures unfinished { AlwaysYield S.yields S.gives
+        → IfErr result (λ error. LeavesYieldedPart S.yields S.heading sources.items
+        (W.contents out.old) (W.contents out.new) (error ≡ MergeError.Write)) }
 {
     let mut writer = {
         let rows = collect_rows(alloc, sources.as_slice())?;

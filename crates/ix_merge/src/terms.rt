@@ -3,12 +3,14 @@ ghost use Rattle.std.specs.Prelude.{◌≡◌, ◌≤◌, ◌*◌, ◌^◌, ℕ,
 ghost use Rattle.ix_file.specs.Told.{Told, entries_of};
 ghost use Rattle.ix_file.specs.Writers.{WasTold, sink, sink_name};
 ghost use Rattle.ix_run.specs.Sources.{IsUnread, KeepsFaults};
+ghost use Rattle.ix_run.specs.Yields.{AlwaysYield};
 ghost use Rattle.ix_merge.specs.Gathered.{IsNewEntry};
 ghost use Rattle.ix_merge.specs.Keys.{keys_of};
 ghost use Rattle.ix_merge.specs.Merged.{HasMergedSome};
 ghost use Rattle.ix_merge.specs.Merging.{AreApart, IsRefusalAt, IsRefusalOf, KeepFaults, TellsAll, WasToldNoTerm};
 ghost use Rattle.ix_merge.specs.Rows.{tokens_under};
 ghost use Rattle.ix_merge.specs.Starting.{HasStarted, HaveStarted};
+ghost use Rattle.ix_merge.specs.Unfinished.{LeavesMergedFront};
 ghost use Rattle.ix_merge.specs.WinnerTrees.{IsWinnerTree};
 
 use crate::MergeError;
@@ -46,6 +48,11 @@ pub(crate) fn merge_terms<S: Source, W: Write>(
         → WasTold W.contents before writer.old told → entries_of told ≡ []
         → OnErr result (HasMergedSome (map S.heading sources.old) before
         (W.contents (sink writer.new))) }
+    ensures unfinished { AlwaysYield S.yields S.gives
+        → (before : Option (List ℕ)) (told : Told)
+        → WasTold W.contents before writer.old told → entries_of told ≡ []
+        → OnErr result (LeavesMergedFront S.yields S.heading W.contents sources.old before
+        writer.old writer.new) }
     ensures refused { IfErr result (IsRefusalOf S.faults sources.old) }
 {
     let Ok(mut tree) = no_winners(alloc, sources.len()) else {
@@ -76,6 +83,11 @@ fn merge_by<S: Source, W: Write>(
         → WasTold W.contents before writer.old told → entries_of told ≡ []
         → OnErr result (HasMergedSome (map S.heading sources.old) before
         (W.contents (sink writer.new))) }
+    ensures unfinished { AlwaysYield S.yields S.gives
+        → (before : Option (List ℕ)) (told : Told)
+        → WasTold W.contents before writer.old told → entries_of told ≡ []
+        → OnErr result (LeavesMergedFront S.yields S.heading W.contents sources.old before
+        writer.old writer.new) }
     ensures refused { IfErr result (IsRefusalOf S.faults sources.old) }
 {
     begin_all(sources, tree)?;

@@ -46,8 +46,8 @@ pub(crate) fn take_turn<S: Source, W: Write>(
         → HasGathered W.contents before writer.old entry.old told
         → MayTurn S.heading S.current S.gives source.old given told
         (string_bytes entry.old.term) entry.old.end
-        → OnErr result (HasToldSome S.heading S.current W.contents before source.old given told
-        (string_bytes entry.old.term) entry.old.end writer.new) }
+        → OnErr result (HasToldSome S.heading S.current S.yields S.gives W.contents before
+        source.old given told (string_bytes entry.old.term) entry.old.end writer.new) }
     ensures no_more_faults { OnOk result (KeepsFaults S.faults source.old source.new) }
     ensures refused { IfErr result (IsRefusalAt place (S.faults source.old)) }
 {
@@ -71,7 +71,8 @@ pub(crate) fn take_turn<S: Source, W: Write>(
 /// The error of a writer that had returned none before.
 pub(crate) fn put_error<E>(error: PutError) -> MergeError<E>
     requires { error ≢ PutError.Failed }
-    ensures { IsOfWriter result }
+    ensures of_writer { IsOfWriter result }
+    ensures memory { result ≢ MergeError.Write → error ≡ PutError.Memory }
 {
     match error {
         PutError::Write => MergeError::Write,

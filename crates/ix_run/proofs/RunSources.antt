@@ -11,9 +11,11 @@ use Rattle.ix_vbyte.specs.Gaps.{next_after}
 use Rattle.ix_vbyte.specs.Postings.{ArePostings, documents_of, list_bytes, list_bytes_from, shifted}
 use Rattle.ix_vbyte.specs.Walking.{IsCodedList}
 use Rattle.ix_vbyte.proofs.Gaps.{length-Ascends, next_after-le}
+use Rattle.ix_vbyte.proofs.Postings.{list_apart}
 use Rattle.ix_run_text.specs.Heads.{Heading, parts_with}
 use Rattle.ix_run.specs.Runs.{IsRunOf, RunValue, TermValue, coded, last_document, run_value}
 use Rattle.ix_run.specs.RunSources.{AreCoded, EndsAt, HasGiven, HasLeft, IsAtEndOfTerm, IsAtPlace, SourceValue, heading_shown, unread}
+use Rattle.ix_run.specs.Yields.{AlwaysYield}
 use Rattle.ix_run_text.specs.Sources.{AreWhole, BeginsTerm, EndsTerms, GivesList, GivesPosting, closed, entry_with, extended}
 use Rattle.ix_run_text.proofs.Fronts.{front_lawful}
 use Rattle.ix_run_text.proofs.WholeLists.{codable, list_below, postings_behind, shift_after, shift_postings}
@@ -73,6 +75,27 @@ told_postings value postings entry told is are = told entry.postings are (sym (a
 no_entry : (rest : List DictionaryEntry) → AreCoded [] rest → [] ≡ rest
 no_entry [] left = refl
 no_entry (entry ∷ entries) left = absurd (let e = ap length left.told in omega (arith, e))
+
+-- two dictionaries with the same lists, coded, are one
+coded_once : (terms : List TermValue) (rest other : List DictionaryEntry) → AreCoded terms rest → AreCoded terms other → rest ≡ other
+coded_once [] rest other left left' = sym (no_entry rest left) ∙ no_entry other left'
+coded_once (value ∷ values) rest other left left' =
+    let first = first_entry value values rest left in
+    let second = first_entry value values other left' in
+    let same : coded first.entry ≡ coded second.entry = sym first.is ∙ second.is in
+    let postings : first.entry.postings ≡ second.entry.postings =
+    (list_apart 0 (2 ^ 32 - 1) first.entry.postings second.entry.postings [] [] first.are second.are (ap (λ (v : TermValue). v.documents) same) (ap (λ (v : TermValue). v.list ++ []) same)).0 in
+    first.parts
+    ∙ ap₂ (λ (e : DictionaryEntry) (es : List DictionaryEntry). e ∷ es) (same_entry_fields first.entry second.entry (ap (λ (v : TermValue). v.term) same) postings) (coded_once values first.entries second.entries first.left second.left)
+    ∙ sym second.parts
+
+-- so that there is always something left to yield, perhaps of no entries
+pub always_yields : AlwaysYield HasLeft HasGiven
+always_yields source finished at_hand given = record {
+  postings = source.postings;
+  entries = given.rest;
+  yielded = record { of_term = refl; behind = λ rest is. coded_once source.terms given.rest rest given.left is };
+}
 
 module _ (heading : Heading) (value : TermValue) (values : List TermValue) (term : Option (List ℕ)) (left postings : List Posting) (told : ToldBy value postings) where
   abbrev before : SourceValue

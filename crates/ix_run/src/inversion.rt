@@ -1,6 +1,6 @@
 //! Inverting a block of documents (IIR 4.2): its tokens are numbered by term, and coded once the terms are sorted.
 
-ghost use Rattle.std.specs.Prelude.{◌≡◌, ◌+◌, ◌^◌, ◌<◌, ◌≤◌, [], All, map, length, string_bytes, OnOk, IfOk, IfErr, IsErr, Err};
+ghost use Rattle.std.specs.Prelude.{◌≡◌, ◌+◌, ◌^◌, ◌<◌, ◌≤◌, [], All, map, length, OnOk, IfOk, IfErr, IsErr, Err};
 ghost use Rattle.ix_text.specs.Collections.{collection_of};
 ghost use Rattle.ix_text.specs.Docs.{named_text};
 ghost use Rattle.ix_text.specs.Parts.{row_of};

@@ -1,5 +1,5 @@
 //! A run text read to its end.
-ghost use Rattle.std.specs.Prelude.{◌≡◌, [], List, IsSome, IfOk, IfErr, map};
+ghost use Rattle.std.specs.Prelude.{◌≡◌, [], List, IsSome, IfOk, IfErr};
 ghost use Rattle.ix_text.specs.Parts.{DictionaryEntry, Posting};
 ghost use Rattle.ix_run_text.specs.Reading.{Faces, HasRead, IsDrained, term_of};
 ghost use Rattle.ix_run.specs.RunFiles.{GivesTerm, HasBegun, ReadsAll};

@@ -48,8 +48,7 @@ impl<'a> Model for RunSource<'a> {
 }
 
 impl<'a> RunSource<'a> {
-    ghost use Rattle.std.specs.Prelude.{◌≡◌, ◌+◌, ◌-◌, ◌^◌, ◌<◌, ◌++◌, [], None, OnErr, OnOk, length, vec_capacity, vec_len};
-    ghost use Rattle.ix_vbyte.specs.Postings.{ArePostings, list_bytes_from, shifted};
+    ghost use Rattle.std.specs.Prelude.{◌≡◌, [], None};
     ghost use Rattle.ix_run_text.specs.Heads.{heading_of};
     ghost use Rattle.ix_run.specs.RunSources.{HasGiven};
 

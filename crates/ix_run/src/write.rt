@@ -1,6 +1,6 @@
 //! Writing the run text, piece by piece.
 
-ghost use Rattle.std.specs.Prelude.{◌≡◌, ◌^◌, ◌<◌, ◌++◌, ◌∷◌, [], All, map, length, flat_map, codes, string_bytes};
+ghost use Rattle.std.specs.Prelude.{◌^◌, ◌<◌, ◌++◌, [], All, map, length, flat_map, codes, string_bytes};
 ghost use Rattle.std.specs.Int.{to_le_bytes, w32};
 ghost use Rattle.ix_text.specs.Parts.{row_bytes};
 ghost use Rattle.ix_vbyte.specs.Code.{code_of};

@@ -1,6 +1,7 @@
 -- From what the sources say of themselves to what was told of them.
-use Rattle.std.proofs.Common.{◌≡◌, ◌≤◌, ◌<◌, ◌^◌, List, length, map, All, Ok, Err, refl, sym, ap, ◌∙◌, subst, arith, rules, inl, inr}
+use Rattle.std.proofs.Common.{◌≡◌, ◌≢◌, ℕ, Option, ◌≤◌, ◌<◌, ◌^◌, List, length, map, All, Ok, Err, refl, sym, ap, ◌∙◌, subst, arith, rules, inl, inr}
 use Rattle.std.proofs.lemmas.List.{length-map}
+use Rattle.std.specs.Io.KnownBytes.{Keeps}
 use Rattle.std.proofs.lemmas.Result.{err_from_is_err_and}
 use Rattle.ix_file.specs.Rows.{document_row}
 use Rattle.ix_file.specs.Told.{told_first}
@@ -8,13 +9,15 @@ use Rattle.ix_file.specs.Writers.{sink}
 use Rattle.ix_file.specs.DocRow.{DocRow}
 use Rattle.ix_run.specs.Heads.{IsLawfulHeading}
 use Rattle.ix_merge.specs.Merging.{AreApart}
-use Rattle.ix_merge.specs.Pieces.{LeavesFront, WritesConcatenation, WritesFront}
+use Rattle.ix_merge.specs.Pieces.{LeavesFront, LeavesYieldedPart, WritesConcatenation, WritesFront, WritesYieldedPart}
 use Rattle.ix_merge.specs.Refusals.{AreMergeable, HaveOneStop, IsRefusal, TellsFault}
 use Rattle.ix_merge.specs.Rows.{AreRowsOf}
-use Rattle.ix_merge.proofs.Closing.{AreBegun, written_some}
+use Rattle.ix_merge.specs.Unfinished.{LeavesMergedFront}
+use Rattle.ix_merge.specs.declared.merge_error.MergeError.TheVariants.{Write}
+use Rattle.ix_merge.proofs.Closing.{written_some}
 use Rattle.ix_merge.proofs.Faulting.{headings_tell_none, tells_fault, writer_tells_none}
 use Rattle.ix_merge.proofs.Refused.{gap_told, overlap_told, difference_told, size_told}
-use Rattle.ix_merge.proofs.WholeMerge.{begun, covered_apart, front_written, late_refusal, lawful_headings, on_err, short_names, whole_written, writer_refusal}
+use Rattle.ix_merge.proofs.WholeMerge.{begun, covered_apart, front_written, if_err, last_part, late_refusal, lawful_headings, left_yielded, on_err, short_names, whole_written, writer_refusal, yielded_written}
 use Rattle.ix_merge.proofs.merge_sources.merge.Goals as goal
 
 pub collect_rows-requires : goal.collect_rows-requires
@@ -102,17 +105,10 @@ returns-in_err-merge_terms-clause-front g c =
     let begins = c.begin-writer.ensures.told ready in
     let told = told_first begins.stop rows in
     let some = c.in_err-merge_terms.ensures.some before told begins.was refl in
-    let same = c.as_slice.ensures.value ∙ sym c.as_mut_slice.ensures.value in
-    let P : List g.row.S.Denot → Type 0 = λ xs. AreMergeable (map heading xs) in
-    let Q : List g.row.S.Denot → Type 0 = λ xs. AreRowsOf (map heading xs) rows in
     let R : List DocRow → Type 0 = λ xs. AreRowsOf (map heading c.as_slice.result.now) (map document_row xs) in
-    let laid = subst Q same (subst R (sym c.as_slice-3.ensures.value) c.in_ok-rows.ensures.rows) in
-    let B : List g.row.S.Denot → Type 0 = λ xs. AreBegun (map heading xs) begins.stop rows in
-    let at : AreBegun (map heading c.as_slice-2.result.now) begins.stop rows =
-    begun contents before c.begin-writer.result (map heading c.as_slice-2.result.now) rows begins
-    (subst Q (sym (c.as_slice-2.ensures.value ∙ sym c.as_mut_slice.ensures.value)) laid)
-    (subst P (c.as_slice.ensures.value ∙ sym c.as_slice-2.ensures.value) c.in_ok-rows.ensures.mergeable) in
-    let begun_now = subst B (c.as_slice-2.ensures.value ∙ sym c.as_mut_slice.ensures.value) at in
+    let begun_now =
+    begun heading contents before c.begin-writer.result c.args.sources.items c.as_slice.result.now c.as_slice-2.result.now sources rows c.as_slice.ensures.value c.as_slice-2.ensures.value c.as_mut_slice.ensures.value
+    begins (subst R (sym c.as_slice-3.ensures.value) c.in_ok-rows.ensures.rows) c.in_ok-rows.ensures.mergeable in
     let some_written = written_some (map heading sources) begins.stop rows before (contents (sink c.merge_terms.new.writer)) begun_now some in
     let F : List g.row.S.Denot → Type 0 = λ xs. WritesFront (map heading xs) before (contents (sink c.merge_terms.new.writer)) in
     let L : g.row.W.Denot → Type 0 = λ w. WritesFront (map heading c.args.sources.items) before (contents w) in
@@ -146,17 +142,10 @@ returns-in-Ok-clause-written g c =
     let begins = c.begin-writer.ensures.told ready in
     let told = told_first begins.stop rows in
     let tells = c.in_ok-merge_terms.ensures.merged before told begins.was refl in
-    let same = c.as_slice.ensures.value ∙ sym c.as_mut_slice.ensures.value in
-    let P : List g.row.S.Denot → Type 0 = λ xs. AreMergeable (map heading xs) in
-    let Q : List g.row.S.Denot → Type 0 = λ xs. AreRowsOf (map heading xs) rows in
     let R : List DocRow → Type 0 = λ xs. AreRowsOf (map heading c.as_slice.result.now) (map document_row xs) in
-    let laid = subst Q same (subst R (sym c.as_slice-3.ensures.value) c.in_ok-rows.ensures.rows) in
-    let B : List g.row.S.Denot → Type 0 = λ xs. AreBegun (map heading xs) begins.stop rows in
-    let at : AreBegun (map heading c.as_slice-2.result.now) begins.stop rows =
-    begun contents before c.begin-writer.result (map heading c.as_slice-2.result.now) rows begins
-    (subst Q (sym (c.as_slice-2.ensures.value ∙ sym c.as_mut_slice.ensures.value)) laid)
-    (subst P (c.as_slice.ensures.value ∙ sym c.as_slice-2.ensures.value) c.in_ok-rows.ensures.mergeable) in
-    let begun_now = subst B (c.as_slice-2.ensures.value ∙ sym c.as_mut_slice.ensures.value) at in
+    let begun_now =
+    begun heading contents before c.begin-writer.result c.args.sources.items c.as_slice.result.now c.as_slice-2.result.now sources rows c.as_slice.ensures.value c.as_slice-2.ensures.value c.as_mut_slice.ensures.value
+    begins (subst R (sym c.as_slice-3.ensures.value) c.in_ok-rows.ensures.rows) c.in_ok-rows.ensures.mergeable in
     let written = whole_written g.S.Source.yields heading contents sources before told c.merge_terms.new.writer tells begun_now (contents c.finish.new.self.0)
     (λ collection lawful of. c.in-Ok.ensures.index_text before tells.now collection tells.was tells.closable lawful of) in
     let F : List g.row.S.Denot → Type 0 = λ xs. WritesConcatenation g.S.Source.yields heading xs before (contents c.finish.new.self.0) in
@@ -195,14 +184,14 @@ returns-clause-gap g c =
     let hs = map g.S.Source.heading c.args.sources.items in
     let P : List g.row.S.Denot → Type 0 = λ sources. AreMergeable (map g.S.Source.heading sources) in
     let mergeable = subst P c.as_slice.ensures.value c.in_ok-rows.ensures.mergeable in
-    gap_told hs (Err c.put_error.result) tt (writer_refusal hs c.put_error.result mergeable c.put_error.ensures)
+    gap_told hs (Err c.put_error.result) tt (writer_refusal hs c.put_error.result mergeable c.put_error.ensures.of_writer)
 
 pub returns-clause-overlap : goal.returns-clause-overlap
 returns-clause-overlap g c =
     let hs = map g.S.Source.heading c.args.sources.items in
     let P : List g.row.S.Denot → Type 0 = λ sources. AreMergeable (map g.S.Source.heading sources) in
     let mergeable = subst P c.as_slice.ensures.value c.in_ok-rows.ensures.mergeable in
-    overlap_told hs (Err c.put_error.result) tt (writer_refusal hs c.put_error.result mergeable c.put_error.ensures)
+    overlap_told hs (Err c.put_error.result) tt (writer_refusal hs c.put_error.result mergeable c.put_error.ensures.of_writer)
 
 pub returns-clause-front : goal.returns-clause-front
 returns-clause-front g c =
@@ -215,17 +204,10 @@ returns-clause-front g c =
     let begins = c.begin-writer.ensures.told ready in
     let told = told_first begins.stop rows in
     let tells = c.in_ok-merge_terms.ensures.merged before told begins.was refl in
-    let same = c.as_slice.ensures.value ∙ sym c.as_mut_slice.ensures.value in
-    let P : List g.row.S.Denot → Type 0 = λ xs. AreMergeable (map heading xs) in
-    let Q : List g.row.S.Denot → Type 0 = λ xs. AreRowsOf (map heading xs) rows in
     let R : List DocRow → Type 0 = λ xs. AreRowsOf (map heading c.as_slice.result.now) (map document_row xs) in
-    let laid = subst Q same (subst R (sym c.as_slice-3.ensures.value) c.in_ok-rows.ensures.rows) in
-    let B : List g.row.S.Denot → Type 0 = λ xs. AreBegun (map heading xs) begins.stop rows in
-    let at : AreBegun (map heading c.as_slice-2.result.now) begins.stop rows =
-    begun contents before c.begin-writer.result (map heading c.as_slice-2.result.now) rows begins
-    (subst Q (sym (c.as_slice-2.ensures.value ∙ sym c.as_mut_slice.ensures.value)) laid)
-    (subst P (c.as_slice.ensures.value ∙ sym c.as_slice-2.ensures.value) c.in_ok-rows.ensures.mergeable) in
-    let begun_now = subst B (c.as_slice-2.ensures.value ∙ sym c.as_mut_slice.ensures.value) at in
+    let begun_now =
+    begun heading contents before c.begin-writer.result c.args.sources.items c.as_slice.result.now c.as_slice-2.result.now sources rows c.as_slice.ensures.value c.as_slice-2.ensures.value c.as_mut_slice.ensures.value
+    begins (subst R (sym c.as_slice-3.ensures.value) c.in_ok-rows.ensures.rows) c.in_ok-rows.ensures.mergeable in
     let written = front_written g.S.Source.yields heading contents sources before told c.merge_terms.new.writer tells begun_now (contents c.finish.new.self.0)
     (λ grams of. c.in-Err.ensures.front before tells.now tells.was tells.closable grams of) in
     let F : List g.row.S.Denot → Type 0 = λ xs. WritesFront (map heading xs) before (contents c.finish.new.self.0) in
@@ -242,9 +224,61 @@ returns-in_err-merge_terms-clause-fault g c =
     rw (p.1, p.2) (subst P c.as_mut_slice.ensures.value (tells_fault g.S.Source.faults c.as_mut_slice.result.now error c.in_err-merge_terms.ensures.refused))
 
 pub returns-clause-fault : goal.returns-clause-fault
-returns-clause-fault g c = writer_tells_none g.S.Source.faults c.args.sources.items c.put_error.result c.put_error.ensures
+returns-clause-fault g c = writer_tells_none g.S.Source.faults c.args.sources.items c.put_error.result c.put_error.ensures.of_writer
 
 pub returns-in_err-rows-clause-fault : goal.returns-in_err-rows-clause-fault
 returns-in_err-rows-clause-fault g c =
     let p = err_from_is_err_and c.from_residual.result c.from_residual.ensures.1 in
     rw (p.1, p.2) (headings_tell_none g.S.Source.faults c.args.sources.items c.in_err-rows.field-0.0 c.in_err-rows.ensures.of_headings)
+
+pub returns-in_err-merge_terms-clause-unfinished : goal.returns-in_err-merge_terms-clause-unfinished
+returns-in_err-merge_terms-clause-unfinished g c always =
+    let heading = g.S.Source.heading in
+    let contents = g.W.Write.contents in
+    let before = contents c.args.out.now in
+    let sources = c.as_mut_slice.result.now in
+    let rows = map document_row c.as_slice-3.result.now in
+    let ready = (c.is_ready.ensures).0 c.if-not-is_ready.false in
+    let begins = c.begin-writer.ensures.told ready in
+    let told = told_first begins.stop rows in
+    let R : List DocRow → Type 0 = λ xs. AreRowsOf (map heading c.as_slice.result.now) (map document_row xs) in
+    let begun_now =
+    begun heading contents before c.begin-writer.result c.args.sources.items c.as_slice.result.now c.as_slice-2.result.now sources rows c.as_slice.ensures.value c.as_slice-2.ensures.value c.as_mut_slice.ensures.value
+    begins (subst R (sym c.as_slice-3.ensures.value) c.in_ok-rows.ensures.rows) c.in_ok-rows.ensures.mergeable in
+    let old : contents (sink c.begin-writer.result) ≡ before = ap contents c.begin-writer.ensures.nothing_written in
+    let some = c.in_err-merge_terms.ensures.unfinished always before told begins.was refl in
+    let M : Option (List ℕ) → Type 0 = λ known. LeavesMergedFront g.S.Source.yields heading contents sources known c.begin-writer.result c.merge_terms.new.writer in
+    let left : (if_whole : Type 0) → LeavesYieldedPart g.S.Source.yields heading sources (contents (sink c.begin-writer.result)) (contents (sink c.merge_terms.new.writer)) if_whole =
+    λ if_whole. left_yielded g.S.Source.yields heading contents sources begins.stop rows c.begin-writer.result c.merge_terms.new.writer if_whole begun_now (subst M (sym old) some) in
+    let moved : (if_whole : Type 0) (w : g.row.W.Denot) → w ≡ c.drop-writer-in_err-merge_terms.new.self.0 → LeavesYieldedPart g.S.Source.yields heading c.args.sources.items before (contents w) if_whole =
+    λ if_whole w same.
+    let F : List g.row.S.Denot → Type 0 = λ xs. LeavesYieldedPart g.S.Source.yields heading xs (contents (sink c.begin-writer.result)) (contents (sink c.merge_terms.new.writer)) if_whole in
+    let K : Option (List ℕ) → Type 0 = λ known. LeavesYieldedPart g.S.Source.yields heading c.args.sources.items known (contents (sink c.merge_terms.new.writer)) if_whole in
+    let L : g.row.W.Denot → Type 0 = λ w. LeavesYieldedPart g.S.Source.yields heading c.args.sources.items before (contents w) if_whole in
+    subst L (sym (same ∙ c.drop-writer-in_err-merge_terms.ensures)) (subst K old (subst F c.as_mut_slice.ensures.value (left if_whole))) in
+    if_err c.from_residual-in_err-merge_terms.result _ (λ error. moved _ _ (search rules))
+
+pub returns-clause-unfinished : goal.returns-clause-unfinished
+returns-clause-unfinished g c always =
+    let heading = g.S.Source.heading in
+    let contents = g.W.Write.contents in
+    let before = contents c.args.out.now in
+    let sources = c.as_mut_slice.result.now in
+    let rows = map document_row c.as_slice-3.result.now in
+    let ready = (c.is_ready.ensures).0 c.if-not-is_ready.false in
+    let begins = c.begin-writer.ensures.told ready in
+    let told = told_first begins.stop rows in
+    let tells = c.in_ok-merge_terms.ensures.merged before told begins.was refl in
+    let R : List DocRow → Type 0 = λ xs. AreRowsOf (map heading c.as_slice.result.now) (map document_row xs) in
+    let begun_now =
+    begun heading contents before c.begin-writer.result c.args.sources.items c.as_slice.result.now c.as_slice-2.result.now sources rows c.as_slice.ensures.value c.as_slice-2.ensures.value c.as_mut_slice.ensures.value
+    begins (subst R (sym c.as_slice-3.ensures.value) c.in_ok-rows.ensures.rows) c.in_ok-rows.ensures.mergeable in
+    let error = c.put_error.result in
+    let memory : error ≢ Write → Keeps (contents (sink c.merge_terms.new.writer)) (contents c.finish.new.self.0) = λ other. c.in-Err.ensures.memory (c.put_error.ensures.memory other) in
+    let written = yielded_written g.S.Source.yields heading contents sources before told c.merge_terms.new.writer tells begun_now (contents c.finish.new.self.0) (error ≡ Write)
+    (λ grams of. last_part contents before c.merge_terms.new.writer tells.now c.finish.new.self.0 error grams tells.was c.put_error.ensures.of_writer (c.in-Err.ensures.front before tells.now tells.was tells.closable grams of) memory) in
+    let F : List g.row.S.Denot → Type 0 = λ xs. WritesYieldedPart g.S.Source.yields heading xs before (contents c.finish.new.self.0) (error ≡ Write) in
+    let L : g.row.W.Denot → Type 0 = λ w. WritesYieldedPart g.S.Source.yields heading c.args.sources.items before (contents w) (error ≡ Write) in
+    let moved : (w : g.row.W.Denot) → w ≡ c.finish.new.self.0 → LeavesYieldedPart g.S.Source.yields heading c.args.sources.items before (contents w) (error ≡ Write) =
+    λ w same. inr (subst L (sym same) (subst F c.as_mut_slice.ensures.value written)) in
+    moved _ (search rules)

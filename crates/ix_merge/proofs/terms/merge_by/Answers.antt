@@ -1,5 +1,5 @@
 -- From turn to turn: the sources gave what was told, and the tree holds the least of their current terms.
-use Rattle.std.proofs.Common.{◌≡◌, ◌+◌, ◌*◌, ◌-◌, ◌^◌, ◌<◌, List, length, length-set, get_or, string_bytes, refl, sym, subst, ◌∙◌, arith}
+use Rattle.std.proofs.Common.{◌≡◌, ◌+◌, ◌*◌, ◌-◌, ◌^◌, ◌<◌, List, length, length-set, get_or, string_bytes, refl, sym, subst, ◌∙◌, arith, inl, inr}
 use Rattle.std.proofs.Math.Seq.{map-set_same}
 use Rattle.std.proofs.lemmas.List.{get_or_default, length-map}
 use Rattle.std.proofs.lemmas.Result.{err_from_is_err_and}
@@ -8,10 +8,11 @@ use Rattle.ix_run.specs.Heads.{Heading}
 use Rattle.ix_merge.specs.Keys.{HoldsFirst, key_of, keys_of}
 use Rattle.ix_merge.specs.Merging.{AreApart}
 use Rattle.ix_merge.proofs.Faulting.{keep_more, refusal_at}
-use Rattle.ix_merge.proofs.MergingSteps.{behind_then, longer, may_take, merged_nothing, merged_some, merged_some_then, merging_first, merging_more, share_here, tells_all}
+use Rattle.ix_merge.proofs.MergingSteps.{behind_then, ended_front, longer, may_take, merged_nothing, merged_some, merged_some_then, merging_first, merging_more, share_here, tells_all}
 use Rattle.ix_merge.proofs.Rounds.{advanced, behind_first, has_term, none_left}
 use Rattle.ix_merge.proofs.Starts.{started_headed}
 use Rattle.ix_merge.proofs.Turning.{on_err_if}
+use Rattle.ix_merge.proofs.Unfinished.{unfinished}
 use Rattle.ix_merge.proofs.WinnerNodes.{holds_first}
 use Rattle.ix_merge.proofs.terms.merge_by.Goals as goal
 
@@ -177,3 +178,32 @@ take_turn-requires-clause-at_hand g c =
     let source = get_or c.loop-place.sources c.in-Some.place c.index-sources-place.result in
     let here : get_or c.loop-place.sources c.in-Some.place source ≡ source = get_or_default c.loop-place.sources c.in-Some.place source c.index-sources-place.result within in
     has_term g.S.Source.heading g.S.Source.current c.loop-place.sources c.in-Some.place source within here first.there
+
+pub returns-in_err-begin_all-clause-unfinished : goal.returns-in_err-begin_all-clause-unfinished
+returns-in_err-begin_all-clause-unfinished g c always before told was none = on_err_if c.from_residual.result _ (inl refl)
+
+pub returns-in_err-more-clause-unfinished : goal.returns-in_err-more-clause-unfinished
+returns-in_err-more-clause-unfinished g c always before told was none =
+    let i = c.loop-place.invariant in
+    let merging = i.merging before told was none in
+    let first : HoldsFirst (keys_of g.S.Source.heading g.S.Source.current c.loop-place.sources) c.in-Some.place =
+    holds_first (keys_of g.S.Source.heading g.S.Source.current c.loop-place.sources) c.loop-place.tree c.in-Some.place i.played (sym c.root.ensures ∙ c.in-Some.is) in
+    let within : c.in-Some.place < length c.loop-place.sources = omega (arith, first.within, length-map c.loop-place.sources (key_of g.S.Source.heading g.S.Source.current)) in
+    let source = get_or c.loop-place.sources c.in-Some.place c.index-sources-place.result in
+    let here : get_or c.loop-place.sources c.in-Some.place source ≡ source = get_or_default c.loop-place.sources c.in-Some.place source c.index-sources-place.result within in
+    let may =
+    may_take g.S.Source.heading g.S.Source.current g.S.Source.yields g.S.Source.gives g.W.Write.contents g.met.S.Source.given_lawfully c.args.sources.now c.loop-place.sources before told c.loop-place.writer
+    c.loop-place.entry merging i.behind c.requires.few c.in-Some.place source within here in
+    on_err_if c.from_residual-in_err-more.result _
+    (inr
+    (unfinished g.S.Source.heading g.S.Source.current g.S.Source.yields g.S.Source.gives g.met.S.Source.yielded_lawfully g.W.Write.contents c.args.sources.now c.loop-place.sources before told c.loop-place.writer
+    c.loop-place.entry merging i.behind c.requires.unread c.requires.apart always c.in-Some.place source within here first c.take_turn.new.writer (c.in_err-more.ensures.some before merging.told _ merging.was may)))
+
+pub returns-in-Err-clause-unfinished : goal.returns-in-Err-clause-unfinished
+returns-in-Err-clause-unfinished g c always before told was none =
+    let i = c.loop-place.invariant in
+    let merging = i.merging before told was none in
+    inr
+    (ended_front g.S.Source.heading g.S.Source.current g.S.Source.yields g.S.Source.gives g.W.Write.contents g.met.S.Source.given_lawfully c.args.sources.now c.loop-place.sources before told c.loop-place.writer
+    c.loop-place.entry merging (none_left g.S.Source.heading g.S.Source.current c.loop-place.sources c.loop-place.tree i.played (sym c.root.ensures ∙ c.in_default.is))
+    (g.W.Write.contents (sink c.send.new.writer)) (c.send.ensures.front before merging.told merging.was))
