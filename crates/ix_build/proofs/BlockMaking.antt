@@ -41,15 +41,15 @@ counted_there (first ∷ askings) asked c =
     (contains_cases first askings asked c)
 
 -- an asking of all new ones is a new one of some maker
-asked_of_one : {V : Type 0} (before after : List (BlockMaker V)) (asked : Asked) → Contains (all_of (new_askings asked_of before after)) asked
-    → (w : ℕ) × (old : BlockMaker V) × (new : BlockMaker V) × (slice_get before w ≡ Some old) × (slice_get after w ≡ Some new) × Contains (gained (asked_of old) (asked_of new)) asked
-asked_of_one [] after asked c = absurd (let within = c.1 in omega (arith, within))
-asked_of_one (old ∷ before) [] asked c = absurd (let within = c.1 in omega (arith, within))
-asked_of_one (old ∷ before) (new ∷ after) asked c =
+pub asked_of_one : {M : Type 0} (askings : M → List Asked) (before after : List M) (asked : Asked) → Contains (all_of (new_askings askings before after)) asked
+    → (w : ℕ) × (old : M) × (new : M) × (slice_get before w ≡ Some old) × (slice_get after w ≡ Some new) × Contains (gained (askings old) (askings new)) asked
+asked_of_one askings [] after asked c = absurd (let within = c.1 in omega (arith, within))
+asked_of_one askings (old ∷ before) [] asked c = absurd (let within = c.1 in omega (arith, within))
+asked_of_one askings (old ∷ before) (new ∷ after) asked c =
     ⊎_elim
     (λ here. (0, old, new, refl, refl, here))
-    (λ later. let t = asked_of_one before after asked later in (suc t.0, t.1, t.2, t.3, t.4, t.5))
-    (Contains-append_cases (gained (asked_of old) (asked_of new)) (all_of (new_askings asked_of before after)) asked c)
+    (λ later. let t = asked_of_one askings before after asked later in (suc t.0, t.1, t.2, t.3, t.4, t.5))
+    (Contains-append_cases (gained (askings old) (askings new)) (all_of (new_askings askings before after)) asked c)
 
 module _ {V : Type 0} (texts : List NamedText) (stop : List (List ℕ)) (bounds : List ℕ) (makers after : List (BlockMaker V)) (are : All (IsMakerOf texts stop bounds) makers) where
   -- each run is that of its block
@@ -68,7 +68,7 @@ module _ {V : Type 0} (texts : List NamedText) (stop : List (List ℕ)) (bounds 
       let shares = new_askings asked_of makers after in
       let asked = asking place (Some Refused) in
       let counted : 0 < times_asked place (all_of shares) = counted_there (all_of shares) asked refused.lowest.refused in
-      let t = asked_of_one makers after asked refused.lowest.refused in
+      let t = asked_of_one asked_of makers after asked refused.lowest.refused in
       let maker = got-All (IsMakerOf texts stop bounds) makers t.0 t.1 are t.3 in
       let later = refused.back.each t.0 t.1 t.2 t.3 t.4 in
       let none = All-contains (RefusesNoBlock t.1.bounds.now) (gained (asked_of t.1) (asked_of t.2)) asked later.goes_on.none_refused t.5 in

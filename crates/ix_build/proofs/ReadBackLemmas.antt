@@ -88,33 +88,45 @@ module _ {R : Type 0} (remaining : R → Option (List ℕ)) where
     pub all_unread : All (IsUnread HasRead) readers
     all_unread = all_from_get (IsUnread HasRead) readers (λ k reader at. let heading = heading_at k reader at in (read.each k heading.0 reader heading.1 at).unread)
 
--- a run that does not read as one is told by its place
-read_told : (count place : ℕ) (error : RunTextError) → place < count → ComesOfMerging count (told_of_reading place error)
-read_told count place text.Memory within = tt
-read_told count place text.Magic within = within
-read_told count place (text.Number fault) within = within
-read_told count place text.Text within = within
-read_told count place text.Name within = within
-read_told count place text.TermSize within = within
-read_told count place text.TermOrder within = within
-read_told count place text.ListLength within = within
-read_told count place text.DocRange within = within
-read_told count place text.Zero within = within
-read_told count place text.PositionRange within = within
-read_told count place text.StopIndexed within = within
-read_told count place text.StopOrder within = within
-read_told count place text.Extra within = within
-read_told count place text.TooLarge within = within
-read_told count place text.Read within = within
-read_told count place text.Doubled within = within
-read_told count place text.Failed within = within
+-- what the lists show at a place is the same if they show the same
+pub same_there : {A B : Type 0} (f : A → B) (xs ys : List A) (k : ℕ) (x y : A) → slice_get xs k ≡ Some x → slice_get ys k ≡ Some y → map f xs ≡ map f ys → f x ≡ f y
+same_there {B = B} f xs ys k x y at there same = same_Some (f x) (f y) (sym (get-map f xs k x at) ∙ ap (λ (l : List B). slice_get l k) same ∙ get-map f ys k y there)
+
+-- the heading that is kept at a place
+pub kept_at : (heads : List RunHead) (k : ℕ) (head : RunHead) → slice_get heads k ≡ Some head → (place : ℕ) (heading : Heading) → (place ≡ k) × (heading ≡ heading_of head) → slice_get (map heading_of heads) place ≡ Some heading
+kept_at heads k head at place heading is = ap (slice_get (map heading_of heads)) is.0 ∙ get-map heading_of heads k head at ∙ ap (λ (h : Heading). Some h) (sym is.1)
+
+-- an error of reading is told as its place, or as want of memory
+pub told_cases : (place : ℕ) (error : RunTextError) → (told_of_reading place error ≡ Memory) ⊎ (told_of_reading place error ≡ Spill place)
+told_cases place text.Memory = inl refl
+told_cases place text.Magic = inr refl
+told_cases place (text.Number fault) = inr refl
+told_cases place text.Text = inr refl
+told_cases place text.Name = inr refl
+told_cases place text.TermSize = inr refl
+told_cases place text.TermOrder = inr refl
+told_cases place text.ListLength = inr refl
+told_cases place text.DocRange = inr refl
+told_cases place text.Zero = inr refl
+told_cases place text.PositionRange = inr refl
+told_cases place text.StopIndexed = inr refl
+told_cases place text.StopOrder = inr refl
+told_cases place text.Extra = inr refl
+told_cases place text.TooLarge = inr refl
+told_cases place text.Read = inr refl
+told_cases place text.Doubled = inr refl
+told_cases place text.Failed = inr refl
+
+-- what holds of want of memory, and of the place if it is told, holds of what is told of reading
+pub told_holds : (P : BuildError → Type 0) (place : ℕ) (error : RunTextError) → P Memory → (told_of_reading place error ≡ Spill place → P (Spill place)) → P (told_of_reading place error)
+told_holds P place error memory spill = ⊎_elim (λ is. subst P (sym is) memory) (λ is. subst P (sym is) (spill is)) (told_cases place error)
 
 -- what a merge of runs that were read back comes to, where they are not refused for what they are
 pub merge_told : (headings : List Heading) (error : MergeError RunTextError) → IsRefusal headings error → MayComeOfMerge error → ComesOfMerging (length headings) (told_of_read_merge error)
 merge_told headings (merge.Gap number) refused may = absurd may
 merge_told headings (merge.Overlap number) refused may = absurd may
 merge_told headings merge.StopDiffers refused may = absurd may
-merge_told headings (merge.Source place error) refused may = read_told (length headings) place error refused.1
+merge_told headings (merge.Source place error) refused may = told_holds (ComesOfMerging (length headings)) place error tt (λ spills. refused.1)
 merge_told headings merge.TooLarge refused may = absurd may
 merge_told headings merge.Write refused may = tt
 merge_told headings merge.Memory refused may = tt

@@ -1,23 +1,26 @@
 -- What the stores of makers saved, against what the makers were asked for.
-use Rattle.std.proofs.Common.{◌≡◌, ℕ, zero, suc, ◌≤◌, cond, List, [], ◌∷◌, ◌++◌, length, map, Contains, refl, sym, ap, subst, ◌∙◌, arith}
+use Rattle.std.proofs.Common.{◌≡◌, ℕ, zero, suc, ◌+◌, ◌<◌, ◌≤◌, cond, List, [], ◌∷◌, ◌++◌, length, map, Contains, refl, sym, ap, subst, ◌∙◌, arith}
 use Rattle.std.specs.Prelude.{Option, Some, None, slice_get, flat_map}
 use Rattle.std.specs.List.{count_by}
 use Rattle.std.proofs.lemmas.List.{drop_at, length-map}
 use Rattle.std.proofs.lemmas.List.Concat.{flat_map-cons}
-use Rattle.std.proofs.lemmas.List.Elements.{Contains-append_left, Contains-append_right}
+use Rattle.std.proofs.lemmas.List.Elements.{All-contains, Contains-append_left, Contains-append_right}
 use Rattle.std.proofs.lemmas.List.Sums.{sum_by-cons}
 use Rattle.std.proofs.lemmas.Option.{none-some, same_Some}
 use Rattle.ix_board.proofs.Closings.{got-map}
+use Rattle.ix_board.proofs.Endings.{get-map}
 use Rattle.ix_board.proofs.SliceGets.{contains_there}
 use Rattle.ix_pool.specs.declared.maker.MakeError.{MakeError}
+use Rattle.ix_pool.specs.declared.maker.MakeError.TheVariants as make
 use Rattle.ix_pool.specs.declared.maker.Asked.{Asked}
 use Rattle.ix_build.specs.declared.saving_maker.SavingMaker.{SavingMaker}
-use Rattle.ix_pool.specs.Askings.{NoneRefused, asks, first_place, times_asked}
+use Rattle.ix_pool.specs.Askings.{NoneRefused, asking, asks, first_place, times_asked}
 use Rattle.ix_pool.specs.Outcomes.{CameBack, IsLater}
+use Rattle.ix_build.proofs.BlockMaking.{asked_of_one}
 use Rattle.ix_build.specs.SavingLaws.{made_places-append}
-use Rattle.ix_build.specs.SavingMakers.{GivesHead, HasSaved, StaysSavingMaker, asked_of_saving, made_places, store_of, with_place}
+use Rattle.ix_build.specs.SavingMakers.{GivesHead, HasSaved, IsOfStore, StaysSavingMaker, asked_of_saving, made_places, store_of, with_place}
 use Rattle.ix_pool.specs.Shares.{BeginWithOwn, EachOnce, NoneTwice, all_of, gained, new_askings}
-use Rattle.ix_build.specs.Stores.{AreSaved, AreSavedInPart, IsLaterStore, NoneSavedTwice, SaveOwnFirst, SavedOnce, StoresCameBack, gained_places, is_place, new_places, times_saved}
+use Rattle.ix_build.specs.Stores.{AreSaved, AreSavedInPart, HasRefused, IsLaterStore, NoneSavedTwice, SaveOwnFirst, SavedOnce, StoresCameBack, gained_places, is_place, new_places, times_saved}
 
 -- ---- one list of askings
 
@@ -148,4 +151,24 @@ module _ {T : Type 0} (places : T → List ℕ) (refusals : T → ℕ) (back : T
         record {
           came_back = stores_back before after came;
           none_twice = subst NoneSavedTwice (sym is) none;
+        }
+
+    -- a block that was refused was refused by a store
+    pub refused_by : (bounds : List ℕ) → ((w : ℕ) (maker : SavingMaker T) → slice_get before w ≡ Some maker → maker.inverter.bounds.now ≡ bounds) → (place : ℕ) → place + 1 < length bounds
+        → Contains (all_of (new_askings asked_of_saving before after)) (asking place (Some make.Refused)) → HasRefused refusals (map store_of before) (map store_of after)
+    refused_by bounds are place within among =
+        let refused = asking place (Some make.Refused) in
+        let of_one = asked_of_one asked_of_saving before after refused among in
+        let old = of_one.1 in
+        let new = of_one.2 in
+        let more = gained old.inverter.asked.items new.inverter.asked.items in
+        let stays = (came.each of_one.0 old new of_one.3 of_one.4).goes_on in
+        let caused = All-contains (IsOfStore old.inverter.bounds.now (refusals old.store) (refusals new.store)) more refused stays.caused of_one.5 in
+        record {
+          w = of_one.0;
+          old = old.store;
+          new = new.store;
+          was = get-map store_of before of_one.0 old of_one.3;
+          is = get-map store_of after of_one.0 new of_one.4;
+          counted = caused (subst (λ (l : List ℕ). place + 1 < length l) (sym (are of_one.0 old of_one.3)) within) refl;
         }

@@ -1,5 +1,5 @@
 -- What makers that save come back with: the head of each block's run, and stores that saved each place once.
-use Rattle.std.proofs.Common.{◌≡◌, ℕ, zero, suc, ◌+◌, ◌<◌, ◌≤◌, cond, List, [], ◌∷◌, ◌++◌, length, map, All, refl, sym, ap, subst, ◌∙◌, arith}
+use Rattle.std.proofs.Common.{◌≡◌, ℕ, zero, suc, ◌+◌, ◌<◌, ◌≤◌, cond, List, [], ◌∷◌, ◌++◌, length, map, All, Contains, refl, sym, ap, subst, ◌∙◌, arith}
 use Rattle.std.specs.Prelude.{Some, nat_lt, slice_get, slice_set, flat_map}
 use Rattle.std.specs.List.{count_by}
 use Rattle.std.proofs.lemmas.Bool.Decides.{nat_tests}
@@ -18,10 +18,10 @@ use Rattle.ix_pool.specs.Outcomes.{IsMade, IsRefusedAt, IsStopped}
 use Rattle.ix_build.specs.SavedBlocks.{AreHeadsOf, FailsToSave, unsaved_at}
 use Rattle.ix_build.specs.SavingMakers.{GivesHead, HasSaved, IsHeadOfBlock, IsSavingMakerOf, StaysSavingMaker, asked_of_saving, store_of}
 use Rattle.ix_pool.specs.Shares.{NoneTwice, all_of, new_askings}
-use Rattle.ix_build.specs.Stores.{AreSaved, AreSavedInPart, IsLaterStore, IsLowestUnsaved, SaveOwnFirst, SavedOnce, StoresCameBack, gained_places, is_place, new_places, times_saved}
+use Rattle.ix_build.specs.Stores.{AreSaved, AreSavedInPart, HasRefused, IsLaterStore, IsLowestUnsaved, SaveOwnFirst, SavedOnce, StoresCameBack, gained_places, is_place, new_places, times_saved}
 use Rattle.ix_build.proofs.BlockMaking.{counted_there, weight_within}
 use Rattle.ix_build.proofs.LowestUnsaved.{lowest_unsaved}
-use Rattle.ix_build.proofs.SavedPlaces.{are_saved, are_saved_in_part, later_store, shares_saved}
+use Rattle.ix_build.proofs.SavedPlaces.{are_saved, are_saved_in_part, later_store, refused_by, shares_saved}
 use Rattle.ix_build.specs.SavingLaws.{saved_none}
 
 at_most_one : (k n times : ℕ) → times ≡ cond (nat_lt k n) 1 0 → times ≤ 1
@@ -70,8 +70,9 @@ module _ {T : Type 0} (places : T → List ℕ) (refusals : T → ℕ) (back : T
     pub stopped_in_part : Stopped makers after → AreSavedInPart places refusals back stores (map store_of after)
     stopped_in_part stopped = in_part stopped.none_twice stopped
 
-    pub fails_at : (place : ℕ) (error : MakeError) → Refused makers count after place error → FailsToSave places refusals back stores count (map store_of after) (unsaved_at place error)
-    fails_at place error refused = by error within part lowest
+    pub fails_at : (texts : List NamedText) (stop : List (List ℕ)) (bounds : List ℕ) → All (IsSavingMakerOf texts stop bounds) makers → count + 1 ≡ length bounds
+        → (place : ℕ) (error : MakeError) → Refused makers count after place error → FailsToSave places refusals back stores count (map store_of after) (unsaved_at place error)
+    fails_at texts stop bounds each size place error refused = by error refused.lowest.refused
       where
         shares : List (List Asked)
         shares = new_askings asked_of_saving makers after
@@ -92,10 +93,14 @@ module _ {T : Type 0} (places : T → List ℕ) (refusals : T → ℕ) (back : T
             subst (λ (l : List T). IsLowestUnsaved (new_places places l (map store_of after)) place) are
             (subst (λ (l : List (List ℕ)). IsLowestUnsaved l place) (sym (shares_saved places refusals back makers after refused.back.each)) saved)
 
-        by : (e : MakeError) → place < count → AreSavedInPart places refusals back stores (map store_of after) → IsLowestUnsaved (new_places places stores (map store_of after)) place
-            → FailsToSave places refusals back stores count (map store_of after) (unsaved_at place e)
-        by make.Refused inside saved first = (inside, saved, first)
-        by make.Memory inside saved first = saved
+        by : (e : MakeError) → Contains (all_of shares) (asking place (Some e)) → FailsToSave places refusals back stores count (map store_of after) (unsaved_at place e)
+        by make.Refused among =
+            let bounds_are : (w : ℕ) (maker : SavingMaker T) → slice_get makers w ≡ Some maker → maker.inverter.bounds.now ≡ bounds =
+            λ w maker at. (got-All (IsSavingMakerOf texts stop bounds) makers w maker each at).bounds_are in
+            let here = within in
+            let has = refused_by places refusals back makers after refused.back bounds bounds_are place (omega (arith, size, here)) among in
+            (within, part, lowest, subst (λ (l : List T). HasRefused refusals l (map store_of after)) are has)
+        by make.Memory among = part
 
     -- each head is that of its block
     pub heads_of_blocks : (texts : List NamedText) (stop : List (List ℕ)) (bounds : List ℕ) → All (IsSavingMakerOf texts stop bounds) makers → count + 1 ≡ length bounds

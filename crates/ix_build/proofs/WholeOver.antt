@@ -1,22 +1,26 @@
 -- Building over stores the blocks of a cut: what it writes, which errors come, and what they leave.
-use Rattle.std.proofs.Common.{◌≡◌, ℕ, ◌+◌, ◌<◌, ◌≤◌, ◌^◌, List, [], length, map, Option, refl, ap, subst, inl, inr, arith}
+use Rattle.std.proofs.Common.{◌≡◌, ℕ, ◌+◌, ◌<◌, ◌≤◌, ◌^◌, List, [], ◌∷◌, length, map, Option, refl, sym, ap, subst, ◌∙◌, inl, inr, arith}
 use Rattle.std.specs.Prelude.{None, Some, slice_get, slice_set}
 use Rattle.std.specs.Io.KnownBytes.{Keeps}
+use Rattle.std.proofs.lemmas.Option.{none-some}
+use Rattle.ix_board.proofs.Closings.{got-map}
 use Rattle.ix_text.specs.Collections.{NamedText, collection_of, token_total}
 use Rattle.ix_text.specs.Sizes.{AreSmall}
 use Rattle.ix_text.proofs.SizeLemmas.{tokens_no_more_than_bytes}
 use Rattle.ix_merge.specs.Endings.{WritesIndexText}
-use Rattle.ix_run.specs.Heads.{heading_of}
+use Rattle.ix_run.specs.Heads.{Heading, heading_of}
 use Rattle.ix_run.specs.RunHead.{RunHead}
 use Rattle.ix_merge.specs.Pieces.{LeavesFront}
 use Rattle.ix_build.specs.AlikeFronts.{LeavesAlikeFront, WritesAlike}
 use Rattle.ix_build.specs.Blocks.{AreBounds, IsBlockPlace}
 use Rattle.ix_build.specs.BuiltOver.{AreBlocksSaved, FailsOver}
 use Rattle.ix_build.specs.GivenBack.{GivesBlocksBack}
-use Rattle.ix_build.specs.ReadBack.{ComesOfMerging, MayBeMerged, TellBytes, WritesReadBack}
+use Rattle.ix_build.specs.KeptHeadings.{IsHeadingOfBlock}
+use Rattle.ix_build.specs.ReadBack.{ComesOfMerging, MayBeMerged, TellBytes, TellsCause, WritesReadBack}
 use Rattle.ix_build.specs.SavedBlocks.{AreHeadsOf, FailsToSave}
 use Rattle.ix_build.specs.SavingMakers.{HasSaved}
-use Rattle.ix_build.specs.Stores.{AreSaved}
+use Rattle.ix_build.specs.SavingLaws.{counts_since}
+use Rattle.ix_build.specs.Stores.{AreSaved, CountsMore, HasRefused}
 use Rattle.ix_build.specs.declared.build_error.BuildError.{BuildError}
 use Rattle.ix_build.specs.declared.build_error.BuildError.TheVariants.{Thread, Spill, Write, Memory}
 use Rattle.ix_build.specs.declared.plan.Cut.{Cut}
@@ -27,6 +31,10 @@ use Rattle.ix_build.proofs.WholeBuild.{bounds_counted, some_block}
 pub keeps_itself : (known : Option (List ℕ)) → Keeps known known
 keeps_itself None = tt
 keeps_itself (Some bytes) = refl
+
+set_first : {T : Type 0} (after : List T) (store new : T) → slice_get after 0 ≡ Some store → slice_get (slice_set after 0 new) 0 ≡ Some new
+set_first [] store new at = absurd (none-some store at)
+set_first (first ∷ rest) store new at = refl
 
 -- small documents have few tokens
 pub few_tokens : (stop : List (List ℕ)) (texts : List NamedText) → AreSmall texts → token_total (collection_of stop texts) ≤ 2 ^ 28
@@ -49,9 +57,17 @@ module _ (cut : Cut) (texts : List NamedText) (bounds : List ℕ) (are : AreBoun
     pub fails_saving : (stores after : List T) (before now : Option (List ℕ)) (error : BuildError) → Keeps before now → FailsToSave places refusals back stores count after error
         → FailsOver places refusals back cut texts stores after before now error
     fails_saving stores after before now (Thread worker) keeps fails = (fails, keeps)
-    fails_saving stores after before now (Spill place) keeps fails = (block_place place fails.0, inl (record { in_part = fails.1; lowest = fails.2; unwritten = keeps }))
+    fails_saving stores after before now (Spill place) keeps fails = (block_place place fails.0, inl (record { in_part = fails.1; lowest = fails.2; refused = fails.3; unwritten = keeps }))
     fails_saving stores after before now Write keeps fails = absurd fails
     fails_saving stores after before now Memory keeps fails = fails
+
+    -- a place that was not saved was refused by a store
+    pub saving_caused : {R : Type 0} (remaining : R → Option (List ℕ)) (kept : ℕ → Heading → Type 0) (given : ℕ → List ℕ → Type 0) (stores after : List T) (before : Option (List ℕ)) (error : BuildError)
+        → FailsToSave places refusals back stores count after error → TellsCause remaining (HasRefused refusals stores after) kept given before before error
+    saving_caused remaining kept given stores after before (Thread worker) fails = tt
+    saving_caused remaining kept given stores after before (Spill place) fails = inl (keeps_itself before, inl fails.3)
+    saving_caused remaining kept given stores after before Write fails = tt
+    saving_caused remaining kept given stores after before Memory fails = tt
 
     -- the first store, which all runs were read back from
     module _ (stores after : List T) (store new : T) (at : slice_get after 0 ≡ Some store) (saved : AreSaved places refusals back stores count after) (read : HasSaved places refusals back store new []) where
@@ -71,6 +87,17 @@ module _ (cut : Cut) (texts : List NamedText) (bounds : List ℕ) (are : AreBoun
       fails_merging before now Write comes = blocks_saved
       fails_merging before now Memory comes = saved_in_part places refusals back stores count (slice_set after 0 new) in_the_end
 
+      -- a refusal of the first store as it is read
+      pub refused_reading : (first : T) → slice_get stores 0 ≡ Some first → CountsMore (refusals store) (refusals new) → HasRefused refusals stores (slice_set after 0 new)
+      refused_reading first is_first more = record {
+        w = 0;
+        old = first;
+        new = new;
+        was = is_first;
+        is = set_first after store new at;
+        counted = counts_since (refusals first) (refusals store) (refusals new) (saved.came_back.each 0 first store is_first at).counted read.counted more;
+      }
+
       -- what may come back was settled before
       pub gives_as_before : (stop : List (List ℕ)) (first : T) → slice_get stores 0 ≡ Some first → GivesBlocksBack cut texts stop (back first) → GivesBlocksBack cut texts stop (back store)
       gives_as_before stop first is_first gives found place bytes of_cut within came =
@@ -82,6 +109,13 @@ module _ (cut : Cut) (texts : List NamedText) (bounds : List ℕ) (are : AreBoun
 
     pub as_many_heads : length heads ≡ count
     as_many_heads = let many = of_blocks.as_many in omega (arith, many, size)
+
+    -- the headings that were kept are those of the blocks
+    pub kept_of_blocks : (place : ℕ) (heading : Heading) → slice_get (map heading_of heads) place ≡ Some heading → IsHeadingOfBlock cut texts stop place heading
+    kept_of_blocks place heading at =
+        let head = got-map heading_of heads place heading at in
+        let is = of_blocks.each place head.0 head.1 in
+        record { bounds = bounds; of_cut = are; run = is.run; of_block = is.of_block; of_run = sym head.2 ∙ is.headed }
 
     pub over_merge : token_total (collection_of stop texts) ≤ 2 ^ 28 → MayBeMerged (map heading_of heads)
     over_merge few = heads_merge texts stop bounds are.blocks are.of_cut.whole are.bounds_are (some_block cut texts bounds are) heads long of_blocks.each before now few

@@ -3,7 +3,7 @@ use Rattle.std.specs.Prelude.{ℕ, ◌<◌, ◌⊎◌, List, length, Option}
 use Rattle.std.specs.Io.KnownBytes.{Keeps}
 use Rattle.ix_text.specs.Collections.{NamedText}
 use Rattle.ix_build.specs.Blocks.{AreBlocks, IsBlockPlace}
-use Rattle.ix_build.specs.Stores.{AreSaved, AreSavedInPart, IsLowestUnsaved, new_places}
+use Rattle.ix_build.specs.Stores.{AreSaved, AreSavedInPart, HasRefused, IsLowestUnsaved, new_places}
 use Rattle.ix_build.specs.declared.build_error.BuildError.{BuildError}
 use Rattle.ix_build.specs.declared.build_error.BuildError.TheVariants.{Thread, Spill, Write, Memory}
 use Rattle.ix_build.specs.declared.plan.Cut.{Cut}
@@ -15,10 +15,11 @@ module _ {T : Type 0} (places : T → List ℕ) (refusals : T → ℕ) (back : T
     pub of_cut : AreBlocks cut texts blocks
     pub saved : AreSaved places refusals back before (length blocks) after
 
-  -- The run of this place was not saved, while that of each lower one was, and nothing was written.
+  -- The run of this place was not saved, while that of each lower one was: a store has refused, and nothing was written.
   pub record IsUnsaved (stores after : List T) (place : ℕ) (before now : Option (List ℕ)) : Type 0 where
     pub in_part : AreSavedInPart places refusals back stores after
     pub lowest : IsLowestUnsaved (new_places places stores after) place
+    pub refused : HasRefused refusals stores after
     pub unwritten : Keeps before now
 
   -- What an error tells. After `Thread` nothing is said of the stores. The place of `Spill` is the lowest one whose run was

@@ -10,6 +10,7 @@ pub mod BuiltOver
 pub mod ByErrors
 pub mod FolderStores
 pub mod GivenBack
+pub mod KeptHeadings
 pub mod Plans
 pub mod ReadBack
 pub mod RunPaths

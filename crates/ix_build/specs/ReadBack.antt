@@ -1,16 +1,17 @@
 -- Runs read back from a store.
-use Rattle.std.specs.Prelude.{◌≡◌, ◌⊎◌, ℕ, ◌<◌, List, [], length, Option, Some, IsSome, slice_get}
+use Rattle.std.specs.Prelude.{◌≡◌, ◌≢◌, ◌⊎◌, ℕ, ◌<◌, List, [], ◌++◌, length, Option, Some, IfSome, IsSome, slice_get}
 use Rattle.std.specs.Io.KnownBytes.{Keeps}
 use Rattle.ix_text.specs.Parts.{DictionaryEntry}
 use Rattle.ix_run.specs.Faults.{MayFault}
-use Rattle.ix_run.specs.Heads.{Heading, parts_with}
+use Rattle.ix_run.specs.Heads.{Heading, IsLawfulHeading, parts_with}
 use Rattle.ix_run.specs.Reading.{HasRead, MayYield}
 use Rattle.ix_run.specs.RunReaders.{heading_read}
-use Rattle.ix_run.specs.RunText.{run_layout}
+use Rattle.ix_run.specs.RunText.{heading_bytes, run_layout}
 use Rattle.ix_run.specs.Sources.{IsUnread}
 use Rattle.ix_run.specs.RunReader.{RunReader}
 use Rattle.ix_run.specs.RunTextError.{RunTextError}
 use Rattle.ix_run.specs.RunTextError.TheVariants as text
+use Rattle.ix_run.specs.RunTextErrors.{IsRefusal as IsReadRefusal}
 use Rattle.ix_merge.specs.Pieces.{WritesConcatenation}
 use Rattle.ix_merge.specs.Refusals.{IsRefusal}
 use Rattle.ix_merge.specs.declared.merge_error.MergeError.{MergeError}
@@ -90,6 +91,38 @@ module _ {R : Type 0} (remaining : R → Option (List ℕ)) where
     pub error : RunTextError
     pub may : MayFault remaining reader error
     pub spills : told_of_reading place error ≡ Spill place
+
+  -- A reader of what came back of the place gave no run, by an error that is told as the place: if the head of a run stands first
+  -- in its bytes, by a failed read.
+  pub record GivesNoRun (back : ℕ → List ℕ → Type 0) (place : ℕ) : Type 0 where
+    pub reader : R
+    pub came : IfSome (remaining reader) (back place)
+    pub error : RunTextError
+    pub fault : (heading : Heading) (rest : List ℕ) → IsLawfulHeading heading → remaining reader ≡ Some (heading_bytes heading ++ rest) → IsReadRefusal error
+    pub spills : told_of_reading place error ≡ Spill place
+
+  -- What came back of the place begins as a run, with another heading than the one that was kept.
+  pub record GivesOtherRun (kept : ℕ → Heading → Type 0) (back : ℕ → List ℕ → Type 0) (place : ℕ) : Type 0 where
+    pub reader : RunReader R
+    pub unread : IsUnread HasRead reader
+    pub told : TellBytes → IsOfBytes (back place) reader
+    pub heading : Heading
+    pub is_kept : kept place heading
+    pub other : heading_read reader ≢ heading
+
+  -- Why the run of a place is not given back: the store has refused, or what came back is no run, or another.
+  abbrev pub IsNotGivenBack : Type 0 → (ℕ → Heading → Type 0) → (ℕ → List ℕ → Type 0) → ℕ → Type 0
+  IsNotGivenBack refused kept back place = refused ⊎ GivesNoRun back place ⊎ GivesOtherRun kept back place
+
+  -- an error that tells a place is of one whose run is not given back
+  abbrev pub TellsNotGivenBack : Type 0 → (ℕ → Heading → Type 0) → (ℕ → List ℕ → Type 0) → BuildError → Type 0
+  TellsNotGivenBack refused kept back (Spill place) = IsNotGivenBack refused kept back place
+  TellsNotGivenBack refused kept back _ = Unit {0}
+
+  -- If a place is told, its run was not given back, before a byte was written, or what came back of it may not be read to its end.
+  abbrev pub TellsCause : Type 0 → (ℕ → Heading → Type 0) → (ℕ → List ℕ → Type 0) → Option (List ℕ) → Option (List ℕ) → BuildError → Type 0
+  TellsCause refused kept back before now (Spill place) = (Keeps before now × IsNotGivenBack refused kept back place) ⊎ MayNotRead back place
+  TellsCause refused kept back before now _ = Unit {0}
 
   -- If a place is told, then before a byte was written, or what came back of it may not be read to its end.
   abbrev pub TellsUnread : (ℕ → List ℕ → Type 0) → Option (List ℕ) → Option (List ℕ) → BuildError → Type 0

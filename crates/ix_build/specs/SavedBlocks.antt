@@ -3,7 +3,7 @@ use Rattle.std.specs.Prelude.{◌≡◌, ℕ, ◌+◌, ◌<◌, List, length, So
 use Rattle.ix_text.specs.Collections.{NamedText}
 use Rattle.ix_run.specs.RunHead.{RunHead}
 use Rattle.ix_build.specs.SavingMakers.{IsHeadOfBlock}
-use Rattle.ix_build.specs.Stores.{AreSavedInPart, IsLowestUnsaved, new_places}
+use Rattle.ix_build.specs.Stores.{AreSavedInPart, HasRefused, IsLowestUnsaved, new_places}
 use Rattle.ix_build.specs.declared.build_error.BuildError.{BuildError}
 use Rattle.ix_build.specs.declared.build_error.BuildError.TheVariants.{Thread, Spill, Write, Memory}
 use Rattle.ix_pool.specs.declared.maker.MakeError.{MakeError}
@@ -21,9 +21,10 @@ pub record AreHeadsOf (texts : List NamedText) (stop : List (List ℕ)) (bounds 
 
 module _ {T : Type 0} (places : T → List ℕ) (refusals : T → ℕ) (back : T → ℕ → List ℕ → Type 0) where
   -- What an error tells. After `Thread` nothing is said of the stores, and else none saved a place that another did; the
-  -- place of `Spill` is the lowest that was not saved.
+  -- place of `Spill` is the lowest that was not saved, and a store has refused.
   abbrev pub FailsToSave : List T → ℕ → List T → BuildError → Type 0
   FailsToSave before count after (Thread worker) = worker < length before
   FailsToSave before count after (Spill place) = (place < count) × AreSavedInPart places refusals back before after × IsLowestUnsaved (new_places places before after) place
+      × HasRefused refusals before after
   FailsToSave before count after Write = ⊥
   FailsToSave before count after Memory = AreSavedInPart places refusals back before after

@@ -1,5 +1,5 @@
 -- Makers that save the runs of blocks and give their heads.
-use Rattle.std.specs.Prelude.{◌≡◌, ℕ, ◌-◌, ◌≤◌, ◌↔◌, List, [], ◌∷◌, ◌++◌, map, Option, Some, None, vec_len}
+use Rattle.std.specs.Prelude.{◌≡◌, ℕ, ◌+◌, ◌-◌, ◌<◌, ◌≤◌, ◌↔◌, List, [], ◌∷◌, ◌++◌, map, length, All, Option, Some, None, vec_len}
 use Rattle.std.specs.Vec.{vec_capacity}
 use Rattle.ix_text.specs.Collections.{NamedText}
 use Rattle.ix_text.specs.Docs.{named_text}
@@ -9,6 +9,7 @@ use Rattle.ix_run.specs.Runs.{RunValue}
 use Rattle.ix_run.specs.RunHead.{RunHead}
 use Rattle.ix_build.specs.BlockMakers.{IsMakerOf}
 use Rattle.ix_build.specs.BlockRuns.{IsRunOfBlock}
+use Rattle.ix_build.specs.Stores.{CountsMore}
 use Rattle.ix_pool.specs.Shares.{gained}
 use Rattle.ix_pool.specs.declared.maker.MakeError.{MakeError}
 use Rattle.ix_pool.specs.declared.maker.MakeError.TheVariants as make
@@ -31,6 +32,10 @@ with_place (Some error) place places = places
 abbrev pub made_places : List Asked → List ℕ
 made_places [] = []
 made_places (asked ∷ askings) = with_place asked.error asked.place (made_places askings)
+
+-- If a block was refused, its store counted a refusal from the one number to the other.
+abbrev pub IsOfStore : List ℕ → ℕ → ℕ → Asked → Type 0
+IsOfStore bounds old new asked = asked.place + 1 < length bounds → asked.error ≡ Some make.Refused → CountsMore old new
 
 -- The head is that of the run of the place's block.
 pub record IsHeadOfBlock (texts : List NamedText) (stop : List (List ℕ)) (bounds : List ℕ) (place : ℕ) (head : RunHead) : Type 0 where
@@ -70,14 +75,9 @@ module _ {T : Type 0} (places : T → List ℕ) (refusals : T → ℕ) (back : T
     pub stop : new.inverter.stop.now ≡ old.inverter.stop.now
     pub bounds : new.inverter.bounds.now ≡ old.inverter.bounds.now
 
-  -- The same maker, asked once more: its store has saved the place, unless the asking has an error.
-  pub record MakesOne (old new : SavingMaker T) (asked : Asked) : Type 0 where
-    pub same : MakesSame old new
-    pub noted : new.inverter.asked.items ≡ old.inverter.asked.items ++ asked ∷ []
-    pub store : HasSaved old.store new.store (made_places (asked ∷ []))
-
-  -- The same maker, later: its store has saved the places of the new askings that have no error.
+  -- The same maker, later: its store has saved the places of the new askings that have no error, and refused a block where the maker did.
   pub record StaysSavingMaker (old new : SavingMaker T) : Type 0 where
     pub same : MakesSame old new
     pub grown : new.inverter.asked.items ≡ old.inverter.asked.items ++ gained old.inverter.asked.items new.inverter.asked.items
     pub store : HasSaved old.store new.store (made_places (gained old.inverter.asked.items new.inverter.asked.items))
+    pub caused : All (IsOfStore old.inverter.bounds.now (refusals old.store) (refusals new.store)) (gained old.inverter.asked.items new.inverter.asked.items)

@@ -6,6 +6,10 @@ use Rattle.std.specs.List.{count_by}
 abbrev pub IsOneMore : ℕ → ℕ → Type 0
 IsOneMore old new = (old < 2 ^ 64 - 1 → new ≡ old + 1) × (2 ^ 64 - 1 ≤ old → new ≡ old)
 
+-- A refusal is counted from the one number to the other, unless the first one is the greatest of 64 bits.
+abbrev pub CountsMore : ℕ → ℕ → Type 0
+CountsMore old new = old < 2 ^ 64 - 1 → old < new
+
 -- A refused call is counted, and one that was done is not.
 abbrev pub CountsRefusal : {T E : Type 0} → Result T E → ℕ → ℕ → Type 0
 CountsRefusal result old new = MatchResult result (λ done. new ≡ old) (λ error. IsOneMore old new)
@@ -44,6 +48,15 @@ pub record IsLowestUnsaved (shares : List (List ℕ)) (place : ℕ) : Type 0 whe
 -- Store w saved place w first, where there is such a place.
 abbrev pub SaveOwnFirst : ℕ → List (List ℕ) → Type 0
 SaveOwnFirst count shares = (w : ℕ) (share : List ℕ) → w < count → slice_get shares w ≡ Some share → slice_get share 0 ≡ Some w
+
+-- One of the stores has counted a refusal from before to after.
+pub record HasRefused {S : Type 0} (refusals : S → ℕ) (before after : List S) : Type 0 where
+  pub w : ℕ
+  pub old : S
+  pub new : S
+  pub was : slice_get before w ≡ Some old
+  pub is : slice_get after w ≡ Some new
+  pub counted : CountsMore (refusals old) (refusals new)
 
 module _ {S : Type 0} (places : S → List ℕ) (refusals : S → ℕ) (back : S → ℕ → List ℕ → Type 0) where
   -- The same store, later: it has saved places behind those that it had, it has not fewer refusals, and gives back what

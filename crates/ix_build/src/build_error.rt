@@ -22,7 +22,7 @@ pub enum BuildError {
 
 impl BuildError {
     ghost use Rattle.ix_build.specs.BuildErrors.{MayComeOfMerge, MayComeOfWork, build_error_number, told_of_merge, told_of_work};
-    ghost use Rattle.ix_build.specs.ReadBack.{told_of_read_merge};
+    ghost use Rattle.ix_build.specs.ReadBack.{told_of_read_merge, told_of_reading};
 
     /// The error's number in the list of these errors, from 1.
     pub fn number(&self) -> u8
@@ -60,16 +60,25 @@ impl BuildError {
         }
     }
 
-    /// The error of a merge of runs that were read back and may be merged. A run that does not read as one is reported by
-    /// its place.
+    /// The error of reading the run of a place back. A run that does not read as one is reported by its place.
+    pub(crate) fn of_reading(place: usize, error: RunTextError) -> BuildError
+        ensures { result ≡ told_of_reading place error }
+    {
+        match error {
+            RunTextError::Memory => BuildError::Memory,
+            _ => BuildError::Spill(place),
+        }
+    }
+
+    /// The error of a merge of runs that were read back and may be merged.
     pub(crate) fn of_read_merge(error: MergeError<RunTextError>) -> BuildError
         requires { MayComeOfMerge error }
         ensures { result ≡ told_of_read_merge error }
     {
         match error {
-            MergeError::Source(_, RunTextError::Memory) | MergeError::Memory => BuildError::Memory,
-            MergeError::Source(place, _) => BuildError::Spill(place),
+            MergeError::Source(place, error) => BuildError::of_reading(place, error),
             MergeError::Write => BuildError::Write,
+            MergeError::Memory => BuildError::Memory,
             _ => unreachable!(),
         }
     }

@@ -61,6 +61,7 @@ impl<'a, F> FolderStore<'a, F> {
         ensures files { files_of result ≡ files.now }
         ensures folder { folder_of result ≡ folder.now }
         ensures saved { saved_of result ≡ [] }
+        ensures faults { faults_of result ≡ 0 }
     {
         FolderStore {
             alloc,

@@ -5,7 +5,9 @@ ghost use Rattle.ix_merge.specs.Endings.{WritesIndexText};
 ghost use Rattle.ix_build.specs.AlikeFronts.{LeavesAlikeFront, WritesAlike};
 ghost use Rattle.ix_build.specs.BuiltOver.{AreBlocksSaved, FailsOver};
 ghost use Rattle.ix_build.specs.GivenBack.{GivesBlocksBack};
-ghost use Rattle.ix_build.specs.ReadBack.{TellBytes, TellsUnread};
+ghost use Rattle.ix_build.specs.KeptHeadings.{IsHeadingOfBlock};
+ghost use Rattle.ix_build.specs.ReadBack.{TellBytes, TellsCause};
+ghost use Rattle.ix_build.specs.Stores.{HasRefused};
 
 use crate::blocks::{block_count, bounds_of};
 use crate::build_error::BuildError;
@@ -67,10 +69,13 @@ pub fn build_over<T: RunStore, W: Write, R: Threads + Wait + Sync>(
         plan.now.cut collection.now stores.items result.stores.items
         (W.contents out.old) (W.contents out.new)) }
 
-    // If `Spill` comes after bytes were written, the first store gave back for its place what may
-    // not be read to its end.
-    ensures unread { (first : T) → slice_get stores.items 0 ≡ Some first
-        → IfErr result.result (TellsUnread T.Reader.remaining (T.back first)
+    // Before anything is written `Spill` comes only if a store refused a call, or if what the first
+    // one gave back for the place is no run, or one with another head; and afterwards only if it
+    // may not be read to its end.
+    ensures caused { (first : T) → slice_get stores.items 0 ≡ Some first
+        → IfErr result.result (TellsCause T.Reader.remaining
+        (HasRefused T.refusals stores.items result.stores.items)
+        (IsHeadingOfBlock plan.now.cut collection.now stop.now) (T.back first)
         (W.contents out.old) (W.contents out.new)) }
     ensures front { OnErr result.result (LeavesAlikeFront (collection_of stop.now collection.now)
         (W.contents out.old) (W.contents out.new)) }

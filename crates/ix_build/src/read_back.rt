@@ -1,15 +1,16 @@
 //! Runs read back from a store, and their merge.
-ghost use Rattle.std.specs.Prelude.{◌≡◌, ◌+◌, [], length, map, IfErr, IfOk, IsTrue, OnErr, OnOk};
+ghost use Rattle.std.specs.Prelude.{◌≡◌, ◌≢◌, ◌+◌, [], length, map, slice_get, Some, IfErr, IfOk, IsFalse, IsTrue, OnErr, OnOk};
 ghost use Rattle.ix_merge.specs.Pieces.{LeavesFront};
 ghost use Rattle.ix_run.specs.Heads.{heading_of, row_of_doc};
 ghost use Rattle.ix_build.specs.ReadBack.{AreReadBack, ComesOfMerging, ComesOfReading, IsReadBack, MayBeMerged};
-ghost use Rattle.ix_build.specs.ReadBack.{TellsUnread, WritesReadBack};
+ghost use Rattle.ix_build.specs.ReadBack.{TellsCause, TellsNotGivenBack, WritesReadBack};
 ghost use Rattle.ix_build.specs.SavingMakers.{HasSaved};
+ghost use Rattle.ix_build.specs.Stores.{CountsMore};
 
 use crate::build_error::BuildError;
 use crate::store::{RunStore, StoreError};
 use ix_merge::merge;
-use ix_run::{RunDoc, RunHead, RunReader, RunTextError};
+use ix_run::{RunDoc, RunHead, RunReader};
 use ix_text::StopList;
 use std::alloc::Global;
 use std::io::Write;
@@ -24,6 +25,9 @@ fn open_run<T: RunStore>(
     ensures read { IfOk result (λ reader. IsReadBack T.Reader.remaining (T.back store.old place)
         (heading_of kept.now) reader) }
     ensures refused { IfErr result (ComesOfReading (place + 1)) }
+    ensures caused { IfErr result (TellsNotGivenBack T.Reader.remaining
+        (CountsMore (T.refusals store.old) (T.refusals store.new))
+        (λ at heading. (at ≡ place) × (heading ≡ heading_of kept.now)) (T.back store.old)) }
     ensures store { HasSaved T.places T.refusals T.back store.old store.new [] }
 {
     let reader = match store.load(place) {
@@ -39,8 +43,7 @@ fn open_run<T: RunStore>(
                 Err(BuildError::Spill(place))
             }
         }
-        Err(RunTextError::Memory) => Err(BuildError::Memory),
-        Err(_) => Err(BuildError::Spill(place)),
+        Err(error) => Err(BuildError::of_reading(place, error)),
     }
 }
 
@@ -53,6 +56,10 @@ fn open_runs<T: RunStore>(
     ensures read { IfOk result (λ readers. AreReadBack T.Reader.remaining (T.back store.old)
         (map heading_of heads.now) readers.items) }
     ensures refused { IfErr result (ComesOfReading (length heads.now)) }
+    ensures caused { IfErr result (TellsNotGivenBack T.Reader.remaining
+        (CountsMore (T.refusals store.old) (T.refusals store.new))
+        (λ place heading. slice_get (map heading_of heads.now) place ≡ Some heading)
+        (T.back store.old)) }
     ensures store { HasSaved T.places T.refusals T.back store.old store.new [] }
 {
     let Ok(mut readers) = Vec::with_capacity(alloc, heads.len()) else {
@@ -78,8 +85,10 @@ pub(crate) fn merge_saved<T: RunStore, W: Write>(
     ensures written { OnOk result (WritesReadBack T.Reader.remaining (T.back store.old)
         (map heading_of heads.now) (W.contents out.old) (W.contents out.new)) }
     ensures refused { IfErr result (ComesOfMerging (length heads.now)) }
-    ensures unread { IfErr result (TellsUnread T.Reader.remaining (T.back store.old)
-        (W.contents out.old) (W.contents out.new)) }
+    ensures caused { IfErr result (TellsCause T.Reader.remaining
+        (CountsMore (T.refusals store.old) (T.refusals store.new))
+        (λ place heading. slice_get (map heading_of heads.now) place ≡ Some heading)
+        (T.back store.old) (W.contents out.old) (W.contents out.new)) }
     ensures front { OnErr result (LeavesFront (map heading_of heads.now)
         (W.contents out.old) (W.contents out.new)) }
     ensures store { HasSaved T.places T.refusals T.back store.old store.new [] }
@@ -93,7 +102,8 @@ pub(crate) fn merge_saved<T: RunStore, W: Write>(
 
 /// Whether two heads have the same first number, stop terms and documents.
 pub(crate) fn are_same(one: &RunHead, other: &RunHead) -> bool
-    ensures { IsTrue result → heading_of one.now ≡ heading_of other.now }
+    ensures same { IsTrue result → heading_of one.now ≡ heading_of other.now }
+    ensures other { IsFalse result → heading_of one.now ≢ heading_of other.now }
 {
     one.first == other.first
         && have_same_terms(&one.stop, &other.stop)
@@ -102,21 +112,24 @@ pub(crate) fn are_same(one: &RunHead, other: &RunHead) -> bool
 
 /// Whether two stop lists have the same terms.
 fn have_same_terms(one: &StopList, other: &StopList) -> bool
-    ensures { IsTrue result → one.now ≡ other.now }
+    ensures same { IsTrue result → one.now ≡ other.now }
+    ensures other { IsFalse result → one.now ≢ other.now }
 {
     one.terms() == other.terms()
 }
 
 /// Whether two documents have the same name and number of tokens.
 fn is_same_doc(one: &RunDoc, other: &RunDoc) -> bool
-    ensures { IsTrue result → row_of_doc one.now ≡ row_of_doc other.now }
+    ensures same { IsTrue result → row_of_doc one.now ≡ row_of_doc other.now }
+    ensures other { IsFalse result → row_of_doc one.now ≢ row_of_doc other.now }
 {
     one.tokens == other.tokens && one.name == other.name
 }
 
 /// Whether there are as many documents, and the same at each place.
 fn have_same_docs(one: &[RunDoc], other: &[RunDoc]) -> bool
-    ensures { IsTrue result → map row_of_doc one.now ≡ map row_of_doc other.now }
+    ensures same { IsTrue result → map row_of_doc one.now ≡ map row_of_doc other.now }
+    ensures other { IsFalse result → map row_of_doc one.now ≢ map row_of_doc other.now }
 {
     if one.len() != other.len() {
         return false;

@@ -1,17 +1,16 @@
 -- Shifts, as one more comes behind them.
-use Rattle.std.proofs.Common.{◌≡◌, ℕ, Bool, false, List, [], ◌∷◌, ◌++◌, map, refl, sym, ap, subst, ◌∙◌, append-nil}
-use Rattle.std.specs.Prelude.{Option, None, flat_map}
+use Rattle.std.proofs.Common.{◌≡◌, ℕ, Bool, false, List, [], ◌∷◌, ◌++◌, map, sym, ap, subst, ◌∙◌, append-nil}
+use Rattle.std.specs.Prelude.{Option, flat_map}
 use Rattle.std.proofs.lemmas.List.{map_push}
 use Rattle.std.proofs.lemmas.List.Concat.{flat_map-cons}
 use Rattle.std.proofs.lemmas.Grind.{flat_map-append}
-use Rattle.std.proofs.lemmas.List.Elements.{All-push, All-nil}
+use Rattle.std.proofs.lemmas.List.Elements.{All-push}
 use Rattle.ix_board.specs.Desks.{DeskView}
 use Rattle.ix_pool.specs.declared.worker.Refusal.{Refusal}
 use Rattle.ix_pool.specs.declared.maker.Asked.{Asked}
 use Rattle.ix_pool.specs.Lowest.{IsLowest}
 use Rattle.ix_pool.specs.Working.{WholeStint}
 use Rattle.ix_pool.specs.Shifts.{Shift, asked_in, HaveWorked}
-use Rattle.ix_pool.proofs.WorkLemmas.{none_refused_of_none}
 
 module _ {M P : Type 0} (askings : M → List Asked) (gives : M → ℕ → P → Type 0) (follows : M → M → Type 0) where
   abbrev Work : Type 0

@@ -8,7 +8,7 @@ use crate::maker::{MakeError, Maker};
 use crate::threads::{Handle, work_in_threads};
 use crate::worker::Report;
 use ix_board::{Board, Desk};
-use std::alloc::{AllocError, Global};
+use std::alloc::Global;
 use std::sync::Wait;
 use std::thread::Threads;
 use thiserror::Error;
@@ -66,9 +66,11 @@ fn prepare<M: Maker>(alloc: Global, workers: usize, count: usize) -> Result<Work
         × (count ≤ vec_capacity workspace.pieces)) }
     ensures board { IfOk result (λ workspace. (workspace.board.count ≡ count)
         × (workspace.board.workers ≡ workers)) }
-    ensures desks { IfOk result (λ workspace. workspace.desks.items ≡ fresh_desks workspace.board workers) }
+    ensures desks { IfOk result (λ workspace.
+        workspace.desks.items ≡ fresh_desks workspace.board workers) }
     ensures as_many { IfOk result (λ workspace. vec_len workspace.desks ≡ workers) }
-    ensures own { IfOk result (λ workspace. All (λ d. d.board ≡ workspace.board) workspace.desks.items) }
+    ensures own { IfOk result (λ workspace.
+        All (λ d. d.board ≡ workspace.board) workspace.desks.items) }
     ensures memory { IfErr result (λ error. error ≡ WorkError.Memory) }
 {
     let (Ok(handles), Ok(pieces)) = (

@@ -1,6 +1,9 @@
 -- The first store is one of the folder.
 use Rattle.std.proofs.Common.{ℕ, List, arith}
 use Rattle.std.proofs.lemmas.Result.{on_ok_weaker}
+use Rattle.ix_build.specs.FolderStores.{faults_of}
+use Rattle.ix_build.specs.KeptHeadings.{IsHeadingOfBlock}
+use Rattle.ix_build.specs.Stores.{HasRefused}
 use Rattle.ix_build.specs.declared.watched_files.WatchedFiles.{WatchedFiles}
 use Rattle.ix_build.proofs.FolderLemmas.{first_gives, first_unread}
 use Rattle.ix_build.proofs.in_folder.build_in_folder.Goals as goal
@@ -22,4 +25,5 @@ returns-clause-unread g c =
     let watched : M = record { files = c.args.files; watch = c.args.watch; blocks = c.block_count-count.result } in
     let back : M → List ℕ → List ℕ → Type 0 = λ w. g.F.RunFiles.back w.files.now in
     first_unread g.F.Reader.Read.remaining back watched c.args.folder.now stores.items c.in-Ok-stores_in.ensures.each (omega (arith, stores.ok.0, c.in-Ok-stores_in.ensures.as_many, c.workers.ensures.few.0))
-    c.build_over-result.result.result (g.W.Write.contents c.args.out.now) (g.W.Write.contents c.build_over-result.new.out) c.build_over-result.ensures.unread
+    c.build_over-result.result.result (g.W.Write.contents c.args.out.now) (g.W.Write.contents c.build_over-result.new.out)
+    (HasRefused faults_of stores.items c.build_over-result.result.stores.items) (IsHeadingOfBlock c.args.plan.now.cut c.args.collection.now c.args.stop.now) c.build_over-result.ensures.caused

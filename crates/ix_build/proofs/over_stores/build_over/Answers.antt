@@ -3,19 +3,21 @@ use Rattle.std.proofs.Common.{◌≡◌, ℕ, List, length, map, refl, sym, subs
 use Rattle.std.specs.Prelude.{Some, slice_get, slice_set}
 use Rattle.std.proofs.lemmas.Option.{slice_get_read}
 use Rattle.std.proofs.lemmas.Result.{IfErr-at_err, IfErr-weaker, IfOk-at_ok, on_err_weaker, on_ok_weaker}
+use Rattle.ix_run.specs.Heads.{Heading, heading_of}
 use Rattle.ix_run.specs.RunHead.{RunHead}
 use Rattle.ix_text.specs.Collections.{NamedText}
 use Rattle.ix_text.specs.Docs.{named_text}
 use Rattle.ix_build.specs.Blocks.{AreBounds}
 use Rattle.ix_build.specs.BuiltOver.{FailsOver}
-use Rattle.ix_build.specs.ReadBack.{ComesOfMerging, TellsUnread}
+use Rattle.ix_build.specs.KeptHeadings.{IsHeadingOfBlock}
+use Rattle.ix_build.specs.ReadBack.{ComesOfMerging, TellsCause}
 use Rattle.ix_build.specs.SavedBlocks.{AreHeadsOf, FailsToSave}
-use Rattle.ix_build.specs.Stores.{AreSaved}
+use Rattle.ix_build.specs.Stores.{AreSaved, CountsMore, HasRefused}
 use Rattle.ix_build.specs.declared.plan.Cut.{Cut}
 use Rattle.ix_build.proofs.SavedWork.{not_begun}
-use Rattle.ix_build.proofs.UnreadLemmas.{told_unwritten, unread_before}
+use Rattle.ix_build.proofs.UnreadLemmas.{tells_cause}
 use Rattle.ix_build.proofs.WholeBuild.{some_bound}
-use Rattle.ix_build.proofs.WholeOver.{as_many_heads, blocks_saved, fails_merging, fails_saving, few_tokens, gives_as_before, keeps_itself, over_alike, over_exact, over_left, over_merge}
+use Rattle.ix_build.proofs.WholeOver.{as_many_heads, blocks_saved, fails_merging, fails_saving, few_tokens, gives_as_before, keeps_itself, kept_of_blocks, over_alike, over_exact, over_left, over_merge, refused_reading, saving_caused}
 use Rattle.ix_build.proofs.over_stores.build_over.Goals as goal
 
 -- the bounds that were found are those of the plan's cut of the collection
@@ -171,13 +173,31 @@ returns-clause-front g c =
     let now = g.W.Write.contents c.merge_saved-result.new.out in
     on_err_weaker c.merge_saved-result.result (over_left cut texts bounds are count c.block_count-count.ensures stop heads of_blocks before now) c.merge_saved-result.ensures.front
 
-pub returns-in-Err-clause-unread : goal.returns-in-Err-clause-unread
-returns-in-Err-clause-unread g c = λ first is_first.
-    let before = g.W.Write.contents c.args.out.now in
-    told_unwritten g.T.Reader.Read.remaining (g.T.RunStore.back first) before before c.in-Err.error (keeps_itself before)
+pub returns-in-Err-clause-caused : goal.returns-in-Err-clause-caused
+returns-in-Err-clause-caused g c = λ first is_first.
+    let cut = c.args.plan.now.cut in
+    let texts = c.args.collection.now in
+    let are = bounds_found c.cut.result cut (map named_text c.docs-docs.result.now) texts c.in-Ok.bounds.items c.as_slice-bounds.result.now c.cut.ensures.cut c.docs-docs.ensures.documents c.as_slice-bounds.ensures.value c.in-Ok.ensures.bounds in
+    let places = g.T.RunStore.places in
+    let refusals = g.T.RunStore.refusals in
+    let back = g.T.RunStore.back in
+    let stores = c.args.stores.items in
+    let after = c.save_blocks-stores.result.stores.items in
+    let count = c.block_count-count.result in
+    let fails = IfErr-at_err (FailsToSave places refusals back stores count after) c.in-Err.is c.save_blocks-stores.ensures.failed in
+    saving_caused cut texts c.as_slice-bounds.result.now are count c.block_count-count.ensures places refusals back g.T.Reader.Read.remaining (IsHeadingOfBlock cut texts c.args.stop.now) (back first) stores after
+    (g.W.Write.contents c.args.out.now) c.in-Err.error fails
 
-pub returns-clause-unread : goal.returns-clause-unread
-returns-clause-unread g c = λ first is_first.
+pub returns-clause-caused : goal.returns-clause-caused
+returns-clause-caused g c = λ first is_first.
+    let cut = c.args.plan.now.cut in
+    let texts = c.args.collection.now in
+    let stop = c.args.stop.now in
+    let bounds = c.as_slice-bounds.result.now in
+    let are = bounds_found c.cut.result cut (map named_text c.docs-docs.result.now) texts c.in-Ok.bounds.items bounds c.cut.ensures.cut c.docs-docs.ensures.documents c.as_slice-bounds.ensures.value c.in-Ok.ensures.bounds in
+    let heads = c.as_slice.result.now in
+    let saved_heads = IfOk-at_ok (λ kept. AreHeadsOf (map named_text c.docs-docs.result.now) stop bounds kept.items) c.in-Ok-result.is c.save_blocks-stores.ensures.heads in
+    let of_blocks = heads_found (map named_text c.docs-docs.result.now) texts stop bounds c.in-Ok-result.heads.items heads c.docs-docs.ensures.documents c.as_slice.ensures.value saved_heads in
     let remaining = g.T.Reader.Read.remaining in
     let places = g.T.RunStore.places in
     let refusals = g.T.RunStore.refusals in
@@ -185,12 +205,22 @@ returns-clause-unread g c = λ first is_first.
     let stores = c.args.stores.items in
     let after = c.save_blocks-stores.result.stores.items in
     let store = c.index_mut.result.now in
+    let new = c.merge_saved-result.new.store in
     let count = c.block_count-count.result in
     let before = g.W.Write.contents c.args.out.now in
     let now = g.W.Write.contents c.merge_saved-result.new.out in
     let saved = IfOk-at_ok (λ kept. AreSaved places refusals back stores count after) c.in-Ok-result.is c.save_blocks-stores.ensures.saved in
     let many = saved.came_back.as_many in
     let at : slice_get after 0 ≡ Some store = slice_get_read after _ 0 store refl (omega (arith, many, c.args.stores.ok.0, c.requires, c.workers-workers.ensures.workers, c.workers-workers.ensures.few.0)) c.index_mut.ensures.value in
-    IfErr-weaker c.merge_saved-result.result (TellsUnread remaining (back store) before now) (TellsUnread remaining (back first) before now)
-    (λ error told. unread_before remaining (back first) (back store) before now error (λ place bytes. ((saved.came_back.each 0 first store is_first at).keeps place bytes).0) told)
-    c.merge_saved-result.ensures.unread
+    let More = CountsMore (refusals store) (refusals new) in
+    let Refused = HasRefused refusals stores (slice_set after 0 new) in
+    let Kept : ℕ → Heading → Type 0 = λ place heading. slice_get (map heading_of heads) place ≡ Some heading in
+    let Of_block = IsHeadingOfBlock cut texts stop in
+    IfErr-weaker c.merge_saved-result.result (TellsCause remaining More Kept (back store) before now) (TellsCause remaining Refused Of_block (back first) before now)
+    (λ error told.
+    tells_cause remaining More Refused Kept Of_block (back store) (back first)
+    (refused_reading cut texts bounds are count c.block_count-count.ensures places refusals back stores after store new at saved c.merge_saved-result.ensures.store first is_first)
+    (kept_of_blocks cut texts bounds are count c.block_count-count.ensures stop heads of_blocks before now)
+    (λ place bytes. ((saved.came_back.each 0 first store is_first at).keeps place bytes).0)
+    before now error told)
+    c.merge_saved-result.ensures.caused

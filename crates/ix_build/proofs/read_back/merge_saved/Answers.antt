@@ -1,12 +1,14 @@
-use Rattle.std.proofs.Common.{List, length, map, sym, subst}
+use Rattle.std.proofs.Common.{◌≡◌, ℕ, List, length, map, sym, subst}
+use Rattle.std.specs.Prelude.{Some, slice_get}
 use Rattle.std.proofs.lemmas.List.{length-map}
 use Rattle.ix_merge.specs.Pieces.{LeavesFront}
 use Rattle.ix_merge.specs.Refusals.{IsRefusal}
 use Rattle.ix_run.specs.Heads.{Heading, heading_of}
-use Rattle.ix_build.specs.ReadBack.{ComesOfMerging, TellsUnread, told_of_read_merge}
+use Rattle.ix_build.specs.ReadBack.{ComesOfMerging, TellsCause, told_of_read_merge}
+use Rattle.ix_build.specs.Stores.{CountsMore}
 use Rattle.ix_build.specs.declared.build_error.BuildError.{BuildError}
 use Rattle.ix_build.proofs.ReadBackLemmas.{all_unread, headings_read, merge_told}
-use Rattle.ix_build.proofs.UnreadLemmas.{told_of_merge_fault, unwritten_up}
+use Rattle.ix_build.proofs.UnreadLemmas.{passed_on, told_of_merge_fault, told_unwritten}
 use Rattle.ix_build.proofs.WholeOver.{keeps_itself}
 use Rattle.ix_build.proofs.read_back.merge_saved.Goals as goal
 
@@ -41,16 +43,28 @@ returns-in-Err-clause-front g c =
     let same = headings_read g.T.Reader.Read.remaining back (map heading_of c.args.heads.now) readers c.in_ok-readers.ensures.read in
     subst (λ (hs : List Heading). LeavesFront hs (g.W.Write.contents c.args.out.now) (g.W.Write.contents c.merge.new.out)) same c.in-Err.ensures.front
 
-pub returns-in_err-readers-clause-unread : goal.returns-in_err-readers-clause-unread
-returns-in_err-readers-clause-unread g c =
+pub returns-in_err-readers-clause-caused : goal.returns-in_err-readers-clause-caused
+returns-in_err-readers-clause-caused g c =
+    let store = c.args.store.now in
+    let refused = CountsMore (g.T.RunStore.refusals store) (g.T.RunStore.refusals c.open_runs.new.store) in
+    let headings = map heading_of c.args.heads.now in
+    let kept : ℕ → Heading → Type 0 = λ place heading. slice_get headings place ≡ Some heading in
     let before = g.W.Write.contents c.args.out.now in
-    unwritten_up g.T.Reader.Read.remaining (g.T.RunStore.back c.args.store.now) before before c.from_residual.result (keeps_itself before)
-
-pub returns-in-Err-clause-unread : goal.returns-in-Err-clause-unread
-returns-in-Err-clause-unread g c =
+    let error = c.in_err-readers.field-0.0 in
     let remaining = g.T.Reader.Read.remaining in
-    let back = g.T.RunStore.back c.args.store.now in
+    let back = g.T.RunStore.back store in
+    passed_on (TellsCause remaining refused kept back before before) c.from_residual.result error c.from_residual.ensures.1
+    (told_unwritten remaining refused kept back before before error (keeps_itself before) c.in_err-readers.ensures.caused)
+
+pub returns-in-Err-clause-caused : goal.returns-in-Err-clause-caused
+returns-in-Err-clause-caused g c =
+    let remaining = g.T.Reader.Read.remaining in
+    let store = c.args.store.now in
+    let back = g.T.RunStore.back store in
+    let refused = CountsMore (g.T.RunStore.refusals store) (g.T.RunStore.refusals c.open_runs.new.store) in
+    let headings = map heading_of c.args.heads.now in
+    let kept : ℕ → Heading → Type 0 = λ place heading. slice_get headings place ≡ Some heading in
     let before = g.W.Write.contents c.args.out.now in
     let now = g.W.Write.contents c.merge.new.out in
-    subst (TellsUnread remaining back before now) (sym c.of_read_merge.ensures)
-    (told_of_merge_fault remaining back (map heading_of c.args.heads.now) c.in_ok-readers.readers.items c.in_ok-readers.ensures.read before now c.in-Err.error c.in-Err.ensures.fault)
+    subst (TellsCause remaining refused kept back before now) (sym c.of_read_merge.ensures)
+    (told_of_merge_fault remaining refused kept back before now headings c.in_ok-readers.readers.items c.in_ok-readers.ensures.read c.in-Err.error c.in-Err.ensures.fault)

@@ -1,10 +1,12 @@
-use Rattle.std.proofs.Common.{◌≡◌, ℕ, [], length, refl, sym, subst, arith}
+use Rattle.std.proofs.Common.{◌≡◌, ℕ, [], length, map, refl, sym, subst, arith}
 use Rattle.std.specs.Prelude.{Some, slice_get}
 use Rattle.std.proofs.lemmas.Option.{slice_get_read}
-use Rattle.ix_run.specs.Heads.{heading_of}
+use Rattle.ix_run.specs.Heads.{Heading, heading_of}
 use Rattle.ix_build.specs.ReadBack.{IsReadBack}
-use Rattle.ix_build.specs.SavingLaws.{saved_both, saved_none}
-use Rattle.ix_build.proofs.ReadBackLemmas.{AreReadOf, all_read, none_read, one_read, read_before, reading_within}
+use Rattle.ix_build.specs.SavingLaws.{counts_since, saved_both, saved_none}
+use Rattle.ix_build.specs.Stores.{CountsMore}
+use Rattle.ix_build.proofs.ReadBackLemmas.{AreReadOf, all_read, kept_at, none_read, one_read, read_before, reading_within}
+use Rattle.ix_build.proofs.UnreadLemmas.{tells_not_given}
 use Rattle.ix_build.proofs.read_back.open_runs.Goals as goal
 
 pub loop-place-init : goal.loop-place-init
@@ -20,6 +22,26 @@ loop-place-init g c =
 
 pub returns-in-Err-clause-refused : goal.returns-in-Err-clause-refused
 returns-in-Err-clause-refused g c = reading_within c.loop-place.place (length c.args.heads.now) c.in-Err.error c.loop-place-test.true c.in-Err.ensures.refused
+
+pub returns-in-Err-clause-caused : goal.returns-in-Err-clause-caused
+returns-in-Err-clause-caused g c =
+    let inv = c.loop-place.invariant in
+    let refusals = g.T.RunStore.refusals in
+    let back = g.T.RunStore.back in
+    let heads = c.args.heads.now in
+    let place = c.loop-place.place in
+    let store = c.args.store.now in
+    let here = c.loop-place.store in
+    let new = c.open_run.new.store in
+    let head = c.index-heads-place.result in
+    let at : slice_get heads place ≡ Some head = slice_get_read heads _ place head refl c.loop-place-test.true c.index-heads-place.is in
+    let Own : ℕ → Heading → Type 0 = λ k heading. (k ≡ place) × (heading ≡ heading_of head) in
+    let Kept : ℕ → Heading → Type 0 = λ k heading. slice_get (map heading_of heads) k ≡ Some heading in
+    tells_not_given g.T.Reader.Read.remaining (CountsMore (refusals here) (refusals new)) (CountsMore (refusals store) (refusals new)) Own Kept (back here) (back store)
+    (counts_since (refusals store) (refusals here) (refusals new) inv.store.counted c.open_run.ensures.store.counted)
+    (kept_at heads place head at)
+    (λ k bytes. (inv.store.keeps k bytes).0)
+    c.in-Err.error c.in-Err.ensures.caused
 
 pub returns-in-Err-clause-store : goal.returns-in-Err-clause-store
 returns-in-Err-clause-store g c =

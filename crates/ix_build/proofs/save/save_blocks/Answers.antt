@@ -45,7 +45,9 @@ returns-in-Err-Make-clause-failed g c =
     let after = c.work_all-makers.result.makers.items in
     let Told = Fails asked_of_saving GivesHead (StaysSavingMaker places refusals back) makers c.args.count after in
     let refused = IfErr-at_err Told (c.in-Err-Make.is ∙ ap Err (rw c.in-Err-Make.is at c.in-Err-Make.field-0-is)) c.work_all-makers.ensures.failed in
-    let fails = fails_at places refusals back stores makers after c.makers_over-makers.ensures.stores c.args.count c.in-Err-Make.place c.in-Err-Make.error refused in
+    let fails =
+    fails_at places refusals back stores makers after c.makers_over-makers.ensures.stores c.args.count (map named_text c.args.docs.now) c.args.stop.now c.args.bounds.now c.makers_over-makers.ensures.each c.requires.all
+    c.in-Err-Make.place c.in-Err-Make.error refused in
     subst (λ l. FailsToSave places refusals back stores c.args.count l c.unsaved.result) (sym c.stores_of-in-Err-Make.ensures)
     (subst (FailsToSave places refusals back stores c.args.count (map store_of after)) (sym c.unsaved.ensures) fails)
 
