@@ -1,6 +1,6 @@
 -- What was read of a file against all of it: a lawful text was read whole, and one that was not is too long.
-use Rattle.std.proofs.Common.{◌≡◌, ℕ, ◌+◌, ◌^◌, ◌<◌, ◌≤◌, List, length, take, Option, Some, Result, Ok, Err, IfOk, IfErr, IsErrAnd, OnOk, inl, inr, sym, ◌∙◌, ap, subst, arith}
-use Rattle.std.specs.Prelude.{IsSomeAnd}
+use Rattle.std.proofs.Common.{◌≡◌, ℕ, ◌+◌, ◌^◌, ◌<◌, ◌≤◌, List, length, take, Option, Some, None, Result, Ok, Err, IfOk, IfErr, IsErrAnd, OnOk, inl, inr, sym, ◌∙◌, ap, subst, arith}
+use Rattle.std.specs.Prelude.{IfSome, IsSomeAnd}
 use Rattle.std.specs.Borrow.{Bor}
 use Rattle.std.proofs.lemmas.List.{length-take, take_all}
 use Rattle.ix_text.specs.Collections.{NamedText}
@@ -11,9 +11,11 @@ use Rattle.ix_text.specs.declared.collection.CollectionError.{CollectionError}
 use Rattle.ix_text.specs.declared.collection.CollectionError.TheVariants.{TooLarge, NotUtf8, NoTab, Name, NoLineEnd, Memory}
 use Rattle.ix_command.specs.AskedFiles.{IsNoStopText, IsStopHeld, RefusesStop}
 use Rattle.ix_ask.specs.Asking.{IsAnswered, IsCutShort, Leaves, RefusesCollection}
-use Rattle.ix_command.specs.Files.{Holding, IsFront}
-use Rattle.ix_ask.specs.declared.asking.AskError.{AskError}
-use Rattle.ix_ask.specs.declared.asking.AskError.TheVariants as asking
+use Rattle.ix_command.specs.Files.{Holding, IsFront, held_in}
+use Rattle.ix_files.specs.Opened.{IsOpened}
+use Rattle.ix_files.specs.Views.{View}
+use Rattle.ix_ask.specs.declared.ask_error.AskError.{AskError}
+use Rattle.ix_ask.specs.declared.ask_error.AskError.TheVariants as asking
 use Rattle.ix_command.specs.declared.refusal.Refusal.{Refusal}
 
 abbrev pub room : ℕ
@@ -42,6 +44,18 @@ read_within bytes whole cut long =
     let same : length bytes ≡ length (take room whole) = ap length cut in
     omega (arith, length-take room whole, same)
 
+-- what a reader has left is what was read of the path
+pub told_held : (view : View) (path : List ℕ) (left : Option (List ℕ)) → (view.honest → IsOpened view path left) → IfSome left (held_in view path)
+told_held view path None is = tt
+told_held view path (Some bytes) is = λ honest file there.
+    let opened = is honest in
+    let same : bytes ≡ opened.bytes = cc in
+    same ∙ opened.held file there
+
+-- a reader that does not say it is not opened, if all answers were as the files were
+pub untold_held : (view : View) (path : List ℕ) (left : Option (List ℕ)) → (view.honest → IsOpened view path left) → (bytes : List ℕ) → left ≡ None → held_in view path bytes
+untold_held view path left is bytes none = λ honest file there. let known = (is honest).known in cc
+
 -- ---- collections
 
 collection_fault : (bytes whole : List ℕ) (error : CollectionError) → bytes ≡ take room whole → IsCollectionFault bytes error → IsCollectionFault whole error
@@ -64,6 +78,7 @@ leaves_whole workers bytes whole stop query old new (asking.Collection error) cu
 leaves_whole workers bytes whole stop query old new (asking.Query error) cut leaves =
     let same = read_whole bytes whole cut leaves.0.0.1.size in
     ((subst (λ text. (documents : List NamedText) × IsCollectionText text documents) same leaves.0.0, leaves.0.1), leaves.1)
+leaves_whole workers bytes whole stop query old new (asking.Pattern error) cut leaves = leaves
 leaves_whole workers bytes whole stop query old new (asking.Build error) cut leaves = leaves
 leaves_whole workers bytes whole stop query old new (asking.Open error) cut leaves = leaves
 leaves_whole workers bytes whole stop query old new asking.Write cut leaves =

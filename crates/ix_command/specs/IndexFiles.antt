@@ -9,13 +9,12 @@ use Rattle.ix_file.specs.Sections.{Version}
 use Rattle.ix_file.specs.declared.open_error.OpenError.TheVariants as open_error
 use Rattle.ix_command.specs.Files.{Holding}
 use Rattle.ix_ask.specs.Listing.{IsPrinted, LeavesListing}
-use Rattle.ix_command.specs.Refusals.{IsUnread, TellsListing, TellsSearch}
+use Rattle.ix_command.specs.Refusals.{IsUnread, Tells}
 use Rattle.ix_ask.specs.Searching.{IsSearched, LeavesSearch}
-use Rattle.ix_ask.specs.declared.listing.ListingError.{ListingError}
+use Rattle.ix_ask.specs.declared.ask_error.AskError.{AskError}
 use Rattle.ix_ask.specs.declared.refusal.EngineRefusal.TheVariants as engine
 use Rattle.ix_command.specs.declared.refusal.Refusal.{Refusal}
 use Rattle.ix_command.specs.declared.refusal.Refusal.TheVariants as refusal
-use Rattle.ix_ask.specs.declared.searching.SearchError.{SearchError}
 
 -- The file of this path holds an index text of this version and collection.
 pub record IsIndexHeld (holds : Holding) (path : Text) (version : Version) (collection : Collection) : Type 0 where
@@ -49,8 +48,8 @@ pub record IsSearchedFromFile (holds : Holding) (path query : Text) (old new : O
 
 -- The question to this collection was refused, as the refusal tells, and leaves this of the standard output.
 pub record IsSearchTold (collection : Collection) (query : Text) (old new : Option Text) (told : Refusal) : Type 0 where
-  pub error : SearchError
-  pub tells : TellsSearch error told
+  pub error : AskError
+  pub tells : Tells error told
   pub leaves : LeavesSearch collection query old new error
 
 -- Why `search` was refused, and what it leaves of the standard output: the file gives no index, or the question to its
@@ -68,8 +67,8 @@ pub record IsPrintedFromFile (holds : Holding) (path pattern : Text) (old new : 
 
 -- The listing of this collection was refused, as the refusal tells, and leaves this of the standard output.
 pub record IsListingTold (collection : Collection) (pattern : Text) (old new : Option Text) (told : Refusal) : Type 0 where
-  pub error : ListingError
-  pub tells : TellsListing error told
+  pub error : AskError
+  pub tells : Tells error told
   pub leaves : LeavesListing collection pattern old new error
 
 -- Why `terms` was refused, and what it leaves of the standard output: the file gives no index, or the listing of its

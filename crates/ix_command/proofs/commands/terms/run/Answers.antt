@@ -2,7 +2,7 @@
 use Rattle.std.proofs.Common.{rules, subst, sym}
 use Rattle.ix_file.specs.Opened.{IsIndexOf, Opened}
 use Rattle.ix_command.specs.IndexFiles.{no_listed_index, no_lines}
-use Rattle.ix_command.specs.Refusals.{TellsListing}
+use Rattle.ix_command.specs.Refusals.{Tells}
 use Rattle.ix_command.proofs.FileLemmas.{handed_up, told_up}
 use Rattle.ix_command.proofs.commands.terms.run.Goals as goal
 
@@ -13,7 +13,7 @@ pub returns-in_err-list_terms-clause-refused : goal.returns-in_err-list_terms-cl
 returns-in_err-list_terms-clause-refused g c =
     let opened = c.in_ok-volume.ensures.opened in
     let index = subst (λ (o : Opened). IsIndexOf o opened.version opened.collection) (sym c.index.ensures) opened.index in
-    told_up TellsListing _ c.from_residual-in_err-list_terms.result c.in_err-list_terms.field-0.0 c.from_residual-in_err-list_terms.ensures.1
+    told_up Tells _ c.from_residual-in_err-list_terms.result c.in_err-list_terms.field-0.0 c.from_residual-in_err-list_terms.ensures.1
     (λ told tells. no_lines opened.version opened.collection opened.held (record {
       error = c.in_err-list_terms.field-0.0;
       tells = tells;
