@@ -57,6 +57,7 @@ refused_of_files holds stop_file plan path output bytes stop front stop_held tol
 -- what is not saved is not built
 pub unbuilt_unsaved : (plan : PlanValue) (documents : List NamedText) (path : List ℕ) (told : Refusal) → IsUnsaved path told → IsUnbuilt plan documents path told
 unbuilt_unsaved plan documents path (refusal.Engine (engine.Build error)) is = absurd is
+unbuilt_unsaved plan documents path (refusal.Locked folder) is = absurd is
 unbuilt_unsaved plan documents path told is = is
 
 -- what is so of runs in memory, and of runs in a folder that come back, is so of runs that come back
