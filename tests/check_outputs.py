@@ -167,13 +167,17 @@ def refused():
         listening.bind("socket")
     Path("bad.run").write_bytes(Path("y.run").read_bytes()[:-3])
     Path("bad.txt").write_bytes(b"no tab\n")
+    os.mkdir("held")
 
     def few_bytes():
         signal.signal(signal.SIGXFSZ, signal.SIG_IGN)
         resource.setrlimit(resource.RLIMIT_FSIZE, (4096, 4096))
 
+    holder = os.open("held", os.O_RDONLY)
+    fcntl.flock(holder, fcntl.LOCK_EX)
     for name, words, line, options in [
         ("a folder of runs that is not there", ["build", "--runs", "none", "big.txt", "out"], b"build 2: Spill(0)", {}),
+        ("a folder of runs that is locked", ["build", "--runs", "held", "a.txt", "out"], b"file 5: Locked(held)", {}),
         ("a full disk", ["build", "big.txt", "out"], b"build 3: Write", {"prepare": few_bytes}),
         ("a full disk, of a run", ["run", "big.txt", "out"], b"file 2: Write(out)", {"prepare": few_bytes}),
         ("a full disk, of a merge", ["merge", "out", "big.ix"], b"merge 6: Write", {"prepare": few_bytes}),
@@ -183,16 +187,19 @@ def refused():
         ("a folder as collection", ["build", "folder", "out"], b"file 1: Read(folder)", {}),
         ("a folder as collection of a run", ["run", "folder", "out"], b"file 1: Read(folder)", {}),
         ("no collection", ["build", "bad.txt", "out"], b"collection 3: NoTab(1)", {}),
+        ("two standard inputs", ["build", "--stop", "-", "-", "out"], b"", {"stdin": b"a\tx\n"}),
+        ("two standard inputs of a merge", ["merge", "out", "-", "x.run", "-"], b"", {"stdin": b""}),
     ]:
         Path("out").write_bytes(OLD)
         before = set(os.listdir("."))
         done = run(*words, **options)
-        expected = b"ix: " + line + b"\n"
+        expected = b"ix: " + (line if line else b"arguments refused") + b"\n"
         if name == "a damaged run":
             expected = done.stderr if done.stderr.startswith(b"ix: merge 4: Source(1, ") else expected
         check(name, (done.returncode, done.stdout, done.stderr) == (2, b"", expected), done)
         check(f"{name}: the old file", Path("out").read_bytes() == OLD)
         check(f"{name}: nothing else", set(os.listdir(".")) == before, set(os.listdir(".")) ^ before)
+    os.close(holder)
 
     fails("a folder as output", ["build", "a.txt", "folder"], b"file 2: Write(folder)")
     fails("a socket as output", ["build", "a.txt", "socket"], b"file 2: Write(socket)")
@@ -262,8 +269,37 @@ def large():
         os.remove(name)
 
 
-def in_place():
-    """The output of `merge` and `upgrade` may be what they read."""
+def apart():
+    """The output of `build` and `run` is not what they read; that of `merge` and `upgrade` may be. Neither is one of the runs."""
+    name = "runs/run-0000000000"
+    for words, kept in (
+        (["build", "--runs", "runs", name, "out"], Path("a.txt").read_bytes()),
+        (["build", "--runs", "runs", "--stop", name, "a.txt", "out"], b"y\n"),
+        (["build", "--runs", "runs", "a.txt", name], OLD),
+        (["build", "--runs", "./runs/../runs", "--block", "1", "a.txt", "runs/run-0000000004"], OLD),
+    ):
+        path = words[-1] if words[-1].startswith("runs") else name
+        Path(path).write_bytes(kept)
+        Path("out").write_bytes(OLD)
+        done = run(*words)
+        check(f"{words[2:]}", done.returncode == 2 and done.stderr.startswith(b"ix: file 4: Same("), done)
+        check(f"{words[2:]}: nothing is made", Path("out").read_bytes() == OLD)
+        check(f"{words[2:]}: nothing is gone", os.path.exists(path) and Path(path).read_bytes() == kept, os.listdir("runs"))
+        Path(path).unlink(missing_ok=True)
+    Path("runs/run-0000000005").write_bytes(OLD)
+    succeeds("no run of the plan", ["build", "--runs", "runs", "--block", "1", "a.txt", "runs/run-0000000005"])
+    os.remove("runs/run-0000000005")
+    text = Path("a.txt").read_bytes()
+    os.symlink("a.txt", "to_a")
+    os.link("a.txt", "also_a")
+    for out in ("a.txt", "./a.txt", "to_a", "also_a"):
+        for command in ("build", "run"):
+            fails(f"{command} over its collection by {out}", [command, "a.txt", out], f"file 4: Same({out})".encode())
+            check("the collection stays", Path("a.txt").read_bytes() == text)
+    for command in ("build", "run"):
+        fails(f"{command} over its stop file", [command, "--stop", "stop", "a.txt", "stop"], b"file 4: Same(stop)")
+    check("the stop file stays", Path("stop").read_bytes() == b"y\n")
+
     shutil.copy("a.ix", "all.ix")
     succeeds("merge into an input", ["merge", "all.ix", "all.ix", "b.ix"])
     succeeds("merge elsewhere", ["merge", "else.ix", "a.ix", "b.ix"])
@@ -278,6 +314,14 @@ def left_over():
     succeeds("beside a file that was left", ["build", "a.txt", "o"])
     check("it is removed", not drafts(), drafts())
     check("the text is there", Path("o").read_bytes() == Path("a.ix").read_bytes())
+
+    for numbers in ((1, 2, 3), (2,)):
+        for number in numbers:
+            Path(f".o.ix-{number}").write_bytes(b"left")
+        succeeds(f"beside files that were left, {numbers}", ["build", "a.txt", "o"])
+        check(f"they are removed, {numbers}", not drafts(), drafts())
+        for name in drafts():
+            os.remove(name)
 
     Path(".o.ix-1").write_bytes(b"held")
     with open(".o.ix-1", "rb") as held:
