@@ -74,6 +74,8 @@ pub data RefusesText (plan : PlanValue) (text output : Text) : Refusal → Type 
 -- collection text, or the index text of what they hold cannot be built or saved.
 pub data IsBuildRefused (holds : Holding) (stop_file : Option (Bor Text)) (plan : PlanValue) (path output : Text) : Refusal → Type 0 where
   no_output : {told : Refusal} → IsSameOrUnsaved output told → IsBuildRefused holds stop_file plan path output told
+  no_input : {told : Refusal} → IsSameOrUnsaved path told → IsBuildRefused holds stop_file plan path output told
+  no_stop_file : {told : Refusal} → IsSomeAnd stop_file (λ named. IsSameOrUnsaved named.now told) → IsBuildRefused holds stop_file plan path output told
   no_stop_list : {told : Refusal} → IsSomeAnd stop_file (λ named. RefusesStop holds named.now told) → IsBuildRefused holds stop_file plan path output told
   no_file : {told : Refusal} → IsUnread path told → IsBuildRefused holds stop_file plan path output told
   no_documents : {told : Refusal} (text : Text) (stop : List Text) → holds path text → IsStopHeld holds stop_file stop → RefusesDocuments text told → IsBuildRefused holds stop_file plan path output told

@@ -1,5 +1,6 @@
 //! Index files, opened.
 ghost use Rattle.std.specs.Prelude.{IfOk, IfErr};
+ghost use Rattle.ix_command.specs.Files.{held_in};
 ghost use Rattle.ix_command.specs.IndexFiles.{IsOpened, RefusesIndex};
 
 use crate::reading::read_front;

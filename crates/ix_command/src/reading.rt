@@ -1,6 +1,6 @@
 //! What the files that a command line names hold.
 
-ghost use Rattle.std.specs.Prelude.{◌≡◌, take, IfOk, IfSome};
+ghost use Rattle.std.specs.Prelude.{◌≡◌, ◌≤◌, length, take, IfOk, IfSome};
 ghost use Rattle.ix_command.specs.Files.{IsFront, held_in};
 
 use ix_files::{FileError, Files};
@@ -33,12 +33,17 @@ pub fn read_up_to<S: Read + Drop>(
     reader: S,
     room: usize,
 ) -> Result<Vec<u8>, FileError>
-    ensures { IfOk result (λ bytes. IfSome (S.remaining reader)
+    ensures short { IfOk result (λ bytes. length bytes.items ≤ room) }
+    ensures front { IfOk result (λ bytes. IfSome (S.remaining reader)
         (λ left. bytes.items ≡ take room left)) }
 {
     let mut bytes = Vec::new(alloc);
     match reader.take(room as u64).read_to_end(&mut bytes) {
-        Ok(_) => Ok(bytes),
+        Ok(_) => {
+            // There are no more than `room`, which the contract of `take` does not tell.
+            bytes.truncate(room);
+            Ok(bytes)
+        }
         Err(error) if error.kind() == ErrorKind::OutOfMemory => Err(FileError::Memory),
         Err(_) => Err(FileError::Failed),
     }

@@ -4,7 +4,7 @@ ghost use Rattle.std.specs.Prelude.{◌≡◌, ℕ, List, take, IfOk, IfErr, IsS
 ghost use Rattle.ix_text.specs.StopText.{IsStopText};
 ghost use Rattle.ix_command.specs.AskedFiles.{IsAnsweredFromFiles, IsAskRefused, IsNoStopText, IsStopHeld};
 ghost use Rattle.ix_command.specs.AskedFiles.{RefusesStop};
-ghost use Rattle.ix_command.specs.Files.{IsFront};
+ghost use Rattle.ix_command.specs.Files.{IsFront, held_in};
 ghost use Rattle.ix_command.specs.Refusals.{IsUnread};
 
 use crate::reading::read_front;

@@ -12,7 +12,7 @@ ghost use Rattle.ix_command.specs.SavedIndexes.{SavesAlike, SavesIndex};
 ghost use Rattle.ix_files.specs.Outputs.{LeavesOthers, LeavesTarget, now_in, saved_in};
 
 use crate::commands::ask::{read_file, read_stop_list};
-use crate::outputs::{begin, end, keep_apart, lock_runs};
+use crate::outputs::{begin, end, keep_apart, keep_from_runs, lock_runs};
 use crate::refusal::Refusal;
 use ix_ask::EngineRefusal;
 use ix_build::{InvertedBlocks, Plan, RunFiles, Watch, build_with_files, invert_all};
@@ -59,8 +59,11 @@ pub fn run<'a, R: Threads + Wait + Sync, F: Files, S: RunFiles, V: Watch>(
     let text = read_file(alloc, files, collection)?;
     if let Some(path) = stop {
         keep_apart(files, path, output)?;
+        keep_from_runs(alloc, files, plan, path)?;
     }
     keep_apart(files, collection, output)?;
+    keep_from_runs(alloc, files, plan, collection)?;
+    keep_from_runs(alloc, files, plan, output)?;
     build_text(rt, alloc, files, runs, watch, text, &stop_list, plan, output)
 }
 

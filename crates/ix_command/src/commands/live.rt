@@ -1,6 +1,7 @@
 //! `ix live`: carries out a script on a live index.
 
 ghost use Rattle.std.specs.Prelude.{◌≡◌, List, ℕ, IfOk, IfErr, map};
+ghost use Rattle.ix_command.specs.Files.{held_in};
 ghost use Rattle.ix_script.specs.Steps.{IsScript, step_of};
 ghost use Rattle.ix_command.specs.LiveScripts.{IsCarriedOutTold, IsLiveRefused, IsLived, IsNoScript};
 ghost use Rattle.ix_command.specs.LiveScripts.{IsStoppedTold};

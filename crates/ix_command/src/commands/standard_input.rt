@@ -1,8 +1,7 @@
 //! How often a line reads the standard input.
 
-ghost use Rattle.std.specs.Prelude.{◌↔◌, ◌<◌, IsTrue};
-ghost use Rattle.ix_line.specs.Lines.{texts_of};
-ghost use Rattle.ix_command.specs.StandardInput.{AreBothInput, ReadsInputTwice, count_input};
+ghost use Rattle.std.specs.Prelude.{◌↔◌, ◌<◌, IsTrue, count_by};
+ghost use Rattle.ix_command.specs.StandardInput.{AreBothInput, ReadsInputTwice, is_input};
 
 use ix_line::Line;
 
@@ -25,7 +24,7 @@ pub fn reads_input_twice(line: &Line<'_>) -> bool
 
 /// Whether both a stop file and another path are the standard input.
 fn are_both_input(stop: Option<&str>, other: &str) -> bool
-    ensures { IsTrue result ↔ AreBothInput stop other.now }
+    ensures { IsTrue result ↔ AreBothInput stop.entry other.now }
 {
     match stop {
         Some(path) => path == STANDARD_INPUT && other == STANDARD_INPUT,
@@ -35,13 +34,7 @@ fn are_both_input(stop: Option<&str>, other: &str) -> bool
 
 /// Whether two or more of these paths are the standard input.
 fn are_some_input(paths: &[&str]) -> bool
-    ensures { IsTrue result ↔ 1 < count_input (texts_of paths.now) }
+    ensures { IsTrue result ↔ 1 < count_by is_input paths.now }
 {
-    let mut count: usize = 0;
-    for path in paths {
-        if *path == STANDARD_INPUT {
-            count += 1;
-        }
-    }
-    count > 1
+    paths.iter().filter(|path| **path == STANDARD_INPUT).count() > 1
 }
