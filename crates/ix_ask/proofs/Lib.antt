@@ -4,4 +4,3 @@ pub mod HeadlineLemmas
 pub mod ListingLemmas
 pub mod MergingLemmas
 pub mod NameLemmas
-pub mod OneTextLemmas

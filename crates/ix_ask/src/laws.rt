@@ -2,7 +2,7 @@
 ghost use Rattle.ix_ask.specs.Headline.{AskWritesTheNames, BuildWritesIndexText, BuildsWriteOneText};
 ghost use Rattle.ix_ask.specs.Headline.{OpensAsThatCollection, SearchWritesTheSame};
 
-use ix_file::index_text_tells_version_and_collection;
+use ix_file::{collection_has_one_index_text, index_text_tells_version_and_collection};
 use ix_query::{a_query_has_one_scan, a_text_has_one_tree};
 use ix_text::has_documents_or_a_fault;
 
@@ -16,6 +16,7 @@ pub fn what_is_built_opens_and_answers()
     ensures asked { AskWritesTheNames }
     ensures searched { SearchWritesTheSame }
 {
+    collection_has_one_index_text();
     index_text_tells_version_and_collection();
     has_documents_or_a_fault();
     a_text_has_one_tree();

@@ -2,9 +2,9 @@
 use Rattle.std.proofs.Common.{◌≡◌, ℕ, zero, suc, ◌+◌, ◌-◌, ◌<◌, ◌≤◌, ◌↔◌, Bool, IsTrue, List, [], ◌∷◌, ◌++◌, length, get_or, take, drop, slice_range, flat_map, All, Some, refl, sym, ap, ap₂, ◌∙◌, subst, ⊎_elim, arith}
 use Rattle.std.specs.List.{AllZip, sum_by}
 use Rattle.std.proofs.lemmas.Grind.{flat_map-append}
-use Rattle.std.proofs.lemmas.List.{append-nil, get_or-drop, get_or-map, length-drop, length-map, take-append-drop, take_all, take_more}
+use Rattle.std.proofs.lemmas.List.{append-nil, get_or-drop, get_or-map, length-drop, length-map, length-take, take-append-drop, take_all, take_more}
 use Rattle.std.proofs.lemmas.List.Elements.{All-weaker}
-use Rattle.std.proofs.lemmas.List.Sums.{sum_by_more_le}
+use Rattle.std.proofs.lemmas.List.Sums.{sum_by_more, sum_by_more_le}
 use Rattle.std.proofs.lemmas.Option.{slice_get-get_or}
 use Rattle.ix_vbyte.specs.Postings.{documents_of, IsPosting as IsPostingBelow, ArePostings as ArePostingsBelow}
 use Rattle.ix_vbyte.proofs.Gaps.{Ascends-wider}
@@ -16,6 +16,7 @@ use Rattle.ix_text.proofs.PartsLawful.{sum_by-map}
 use Rattle.ix_text.proofs.TokensBefore.{count_of}
 use Rattle.ix_file.specs.Claimed.{HasClaimed, HaveClaimed}
 use Rattle.ix_index_text.specs.Listings.{Listing}
+use Rattle.ix_file.specs.LongLists.{bytes_before}
 use Rattle.ix_file.specs.ReadListings.{AreLaidOut, HasListedCounts, listing_in, listings_in, sizes_sum}
 use Rattle.ix_file.specs.ReadLists.{AreClaimedLists, AreListedIn, AreListsIn, IsListOf, list_in}
 use Rattle.ix_file.specs.declared.open.claims.Claims.{Claims}
@@ -43,6 +44,17 @@ pub counts_at : (terms : List PlacedTerm) (n : ℕ) (term : PlacedTerm) → All 
 counts_at terms n term all within is =
     subst HasListedCounts (get_or-map listing_in terms n term (listing_in term) within ∙ ap listing_in (sym is))
     (all n (listing_in term) (omega (arith, within, length-map terms listing_in)))
+
+-- one list more, and all lists
+pub bytes_more : (terms : List PlacedTerm) (n : ℕ) (term : PlacedTerm) → n < length terms → term ≡ get_or terms n term → bytes_before terms (n + 1) ≡ bytes_before terms n + term.size
+bytes_more terms n term within is =
+    omega (arith, sizes (take (n + 1) terms), sizes (take n terms), sum_by_more size_of terms n term within, ap size_of is)
+
+pub bytes_all : (terms : List PlacedTerm) (n : ℕ) → length terms ≡ n → bytes_before terms n ≡ sizes_sum (listings_in terms)
+bytes_all terms n all = ap (λ ts. sizes_sum (listings_in ts)) (take_all n terms (omega (arith, all)))
+
+pub range_size : (section : List ℕ) (from size : ℕ) → length (slice_range section from (from + size)) ≤ size
+range_size section from size = omega (arith, length-take (from + size - from) (drop from section))
 
 -- ---- one list stands there
 postings_below : (rows : List DocumentRow) (count : ℕ) (bytes : List ℕ) (postings : List Posting) → AreListedIn rows count bytes postings → ArePostingsBelow 0 (length rows + sum_by count_of rows) postings

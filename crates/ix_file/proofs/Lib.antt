@@ -39,6 +39,7 @@ pub mod TablesRefused
 pub mod TokenTotals
 pub use Rattle.ix_index_text.proofs.EndingLemmas
 pub use Rattle.ix_index_text.proofs.GramLists
+pub use Rattle.ix_index_text.proofs.GramsExist
 pub use Rattle.ix_index_text.proofs.ListTold
 pub use Rattle.ix_index_text.proofs.TellingLemmas
 pub use Rattle.ix_vbyte.proofs.Gaps

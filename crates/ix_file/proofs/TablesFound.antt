@@ -13,7 +13,7 @@ use Rattle.ix_file.specs.Frames.{FileSectionTexts}
 use Rattle.ix_index_text.specs.Grams.{AreGramsOfTerms}
 use Rattle.ix_index_text.specs.Listings.{Listing, listing_of, listings_section}
 use Rattle.ix_file.specs.ReadListings.{AreLaidOut, AreListings, listing_in, listings_in, sizes_sum}
-use Rattle.ix_file.specs.LongLists.{IsLongIn}
+use Rattle.ix_file.specs.LongLists.{IsLongIn, place_count}
 use Rattle.ix_file.specs.OpenedGrams.{IsGramRow, grams_in}
 use Rattle.ix_file.specs.OpenedRows.{AreRows, IsNameRow, row_in, rows_in}
 use Rattle.ix_file.specs.ReadLists.{AreListsIn}
@@ -43,6 +43,7 @@ pub record AreRead (version : Version) (texts : FileSectionTexts) (tables : Tabl
   pub lists : List (List Posting)
   pub listed : AreListsIn (rows_in texts.documents tables.rows.items) texts.postings tables.terms lists
   pub longs : All (IsLongIn texts.postings tables.terms) tables.longs.items
+  pub few_places : place_count tables.longs.items ≤ length texts.postings
   pub of_terms : AreGramsOfTerms (map term_in tables.terms) (grams_in texts.grams tables.grams.items)
   pub grams : texts.grams ≡ grams_section (grams_in texts.grams tables.grams.items)
   pub gaps : All (IsGramRow texts.grams) tables.grams.items
@@ -114,6 +115,7 @@ module _ (version : Version) (texts : FileSectionTexts) (tables : Tables) (docum
     names = read.names;
     lists = λ k d below. list_row rows texts.postings (get_or tables.terms k d) few (each k d below) (within k d below);
     longs = read.longs;
+    few_places = read.few_places;
     gaps = read.gaps;
   }
 

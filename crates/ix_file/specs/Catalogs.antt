@@ -1,5 +1,5 @@
 -- What stands in an index text before its lists and grams are looked at.
-use Rattle.std.specs.Prelude.{◌≡◌, ℕ, List, length, All}
+use Rattle.std.specs.Prelude.{◌≡◌, ℕ, ◌≤◌, List, length, All}
 use Rattle.ix_text.specs.Parts.{GramEntry, Parts, Posting, terms_of}
 use Rattle.ix_text.specs.PartsLaws.{AreLawful}
 use Rattle.ix_text.specs.StopSets.{IsStopSet}
@@ -7,7 +7,7 @@ use Rattle.ix_file.specs.Frames.{FileSectionTexts}
 use Rattle.ix_index_text.specs.Grams.{AreGramsOfTerms}
 use Rattle.ix_index_text.specs.Listings.{listings_section}
 use Rattle.ix_file.specs.ReadListings.{AreLaidOut, AreListings, listings_in, sizes_sum}
-use Rattle.ix_file.specs.LongLists.{IsLongIn}
+use Rattle.ix_file.specs.LongLists.{IsLongIn, place_count}
 use Rattle.ix_file.specs.OpenedGrams.{IsGramRow, grams_in}
 use Rattle.ix_file.specs.OpenedRows.{AreRows, IsNameRow, rows_in}
 use Rattle.ix_file.specs.PlacedTerms.{terms_in}
@@ -37,6 +37,7 @@ pub record AreLongListsOf (texts : FileSectionTexts) (catalog : Catalog) (longs 
   pub lists : List (List Posting)
   pub listed : AreListsIn (rows_in texts.documents catalog.rows.items) texts.postings catalog.terms lists
   pub entered : All (IsLongIn texts.postings catalog.terms) longs
+  pub few : place_count longs ≤ length texts.postings
 
 -- GRAMS has the grams of the terms, where these rows say.
 pub record AreGramRowsOf (texts : FileSectionTexts) (catalog : Catalog) (rows : List GramRow) : Type 0 where

@@ -5,7 +5,7 @@ use Rattle.ix_text.specs.PartsLaws.{AreLawful}
 use Rattle.ix_vbyte.specs.Walking.{IsCodedList, postings_told}
 use Rattle.ix_file.specs.Frames.{FileSectionTexts, version_in}
 use Rattle.ix_index_text.specs.Grams.{AreGramsOfTerms}
-use Rattle.ix_file.specs.LongLists.{IsLongIn}
+use Rattle.ix_file.specs.LongLists.{IsLongIn, place_count}
 use Rattle.ix_file.specs.Opened.{Opened}
 use Rattle.ix_file.specs.OpenedGrams.{IsGramRow, grams_in}
 use Rattle.ix_file.specs.OpenedRows.{IsNameRow, rows_in}
@@ -48,6 +48,7 @@ pub record AreTablesOf (texts : FileSectionTexts) (tables : Tables) : Type 0 whe
   pub names : All (IsNameRow texts.documents) tables.rows.items
   pub lists : All (IsListRow texts.postings) tables.terms
   pub longs : All (IsLongIn texts.postings tables.terms) tables.longs.items
+  pub few_places : place_count tables.longs.items ≤ length texts.postings
   pub gaps : All (IsGramRow texts.grams) tables.grams.items
 
 -- the tables that are held or lent

@@ -3,14 +3,16 @@ ghost use Rattle.ix_text.specs.Parts.{terms_of};
 ghost use Rattle.ix_text.specs.PartsLaws.{AreLawful};
 ghost use Rattle.ix_index_text.specs.Grams.{AreGramsOfTerms};
 ghost use Rattle.ix_file.specs.OpenedLaws.{EntriesHavePostings, GramsHaveNumbers, NumbersTellEntries, OthersAreNoGram, OthersHaveNoPosting};
-ghost use Rattle.ix_file.specs.SizeLaws.{HasBytesForEntries};
+ghost use Rattle.ix_file.specs.SizeLaws.{HasBytesForEntries, HasBytesForPlaces};
 
 use crate::Index;
 
 /// An index text has, besides its marks and its trailer, two bytes for each stop term and each document of its opened
-/// index, seven for each term and three for each gram.
+/// index, seven for each term and three for each gram. POSTINGS has at least one for each list of which an opened index
+/// keeps places at which it may be entered, and one for each such place.
 pub fn index_text_has_bytes_for_entries()
-    ensures { HasBytesForEntries }
+    ensures entries { HasBytesForEntries }
+    ensures places { HasBytesForPlaces }
 {}
 
 /// The postings that an opened index has under a term are exactly those of the term in its collection, and a term that

@@ -12,10 +12,10 @@ mod volume;
 
 pub use index::Index;
 pub use ix_index_text::{
-    DocRow, IndexWriter, PutError, WriterSections, grams_of_the_vocabulary,
-    index_text_has_one_version, index_text_has_sixty_four_bytes, index_text_tells_collection,
-    index_text_tells_version_and_collection, settled_front_begins_index_text,
-    terms_have_one_gram_list,
+    DocRow, IndexWriter, PutError, WriterSections, collection_has_one_index_text,
+    grams_of_the_vocabulary, index_text_has_one_version, index_text_has_sixty_four_bytes,
+    index_text_tells_collection, index_text_tells_version_and_collection,
+    settled_front_begins_index_text, terms_have_one_gram_list,
 };
 pub use ix_vbyte::VbError;
 pub use ix_vbyte::cursor::{Positions, Posting, Postings};

@@ -1,5 +1,5 @@
 //! The numbers of the terms that have a gram.
-ghost use Rattle.std.specs.Prelude.{◌≡◌, ◌^◌, ◌-◌, length};
+ghost use Rattle.std.specs.Prelude.{◌≡◌, ◌-◌, length};
 ghost use Rattle.std.specs.Iterator.{YieldsFirst, item_count};
 ghost use Rattle.ix_vbyte.specs.Walking.{ArePositionsFrom, positions_told};
 

@@ -7,7 +7,8 @@ ghost use Rattle.ix_postings.specs.declared.list_fault.ListFault.TheVariants.{Me
 use ix_postings::ListFault;
 use ix_vbyte::VbError;
 use std::alloc::{AllocError, AllocFailed};
-use std::{error, fmt};
+use std::fmt;
+use thiserror::Error;
 
 /// The sections of an index text, in their order.
 #[derive(Clone, Copy, Debug, PartialEq, Eq)]
@@ -42,7 +43,7 @@ impl fmt::Display for Section {
 }
 
 /// Why bytes are no index text of a lawful collection, or `Memory`.
-#[derive(Clone, Copy, Debug, PartialEq, Eq)]
+#[derive(Clone, Copy, Debug, PartialEq, Eq, Error)]
 pub enum OpenError {
     /// There are fewer than 64 bytes.
     Short,
@@ -151,8 +152,6 @@ impl fmt::Display for OpenError {
         }
     }
 }
-
-impl error::Error for OpenError {}
 
 impl From<AllocError> for OpenError {
     ghost from_gives = { λ _ e. e ≡ Memory };

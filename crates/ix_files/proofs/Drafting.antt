@@ -1,6 +1,6 @@
 -- Drafts of a file come and go.
-use Rattle.std.proofs.Common.{◌≡◌, ⊎_elim, refl, sym, subst, ◌∙◌, arith}
-use Rattle.ix_files.specs.Drafts.{ChangesDrafts, IsDraftPlace, StopsAt}
+use Rattle.std.proofs.Common.{◌≡◌, ⊎_elim, inr, refl, sym, subst, ◌∙◌, arith}
+use Rattle.ix_files.specs.Drafts.{ChangesDrafts, IsDraftPlace, IsOld, StopsAt}
 use Rattle.ix_files.specs.Slots.{IsSameBut, Nothing, Place, Slots, Stops}
 use Rattle.ix_files.specs.Steps.{Overwrites}
 use Rattle.ix_files.specs.Views.{Calls, GoesOn, View}
@@ -32,6 +32,23 @@ pub changed : {target : Place} {step : Slots → Slots → Type 0} {old mid new 
     → ((slots : Slots) → step mid.slots slots → (place : Place) → ¬ (IsDraftPlace target place) → slots place ≡ mid.slots place) → ChangesDrafts target old new
 changed changes calls same = changed_if changes calls (λ honest. same)
 
+-- changes, and changes after them
+pub changed_again : {target : Place} {old mid new : View} → ChangesDrafts target old mid → ChangesDrafts target mid new → (new.honest → mid.honest)
+    → ChangesDrafts target old new
+changed_again {target = target} {old = old} {mid} {new} first next honest_before = record {
+  others = λ honest place other. next.others honest place other ∙ first.others (honest_before honest) place other;
+  any_moment = λ honest.
+      let early = first.any_moment (honest_before honest) in
+      let late = next.any_moment honest in
+      let was_old : (left : Slots) → IsOld (IsDraftPlace target) mid.slots left → IsOld (IsDraftPlace target) old.slots left
+      = λ left is_old place other. subst (λ slot. StopsAt slot (left place).now) (first.others (honest_before honest) place other) (is_old place other) in
+      record {
+        later = omega (arith, early.later, late.later);
+        each = λ left was. ⊎_elim (early.each left) (was_old left) (late.before _ left early.later was);
+        before = λ t left le was. ⊎_elim (early.before t left le) (λ is_old. inr (was_old left is_old)) (late.before t left (omega (arith, le, early.later)) was);
+      };
+}
+
 -- what is written over where there is no file changes no name
 pub overwrites_none : (place : Place) (old new : Slots) → (old place).now ≡ Nothing → Overwrites place old new → (other : Place) → new other ≡ old other
 overwrites_none place old new nothing did other = ⊎_elim (λ at. subst (λ p. new p ≡ old p) (sym at) (did.none nothing)) (did.elsewhere other) (place_decided other place)
@@ -56,4 +73,13 @@ went_on before calls = record {
   folders = λ honest path. (calls.passes honest).folders path ∙ before.folders (calls.honest honest) path;
   later = λ honest. omega (arith, before.later (calls.honest honest), (calls.passes honest).later);
   counted = λ honest. omega (arith, before.counted (calls.honest honest), (calls.passes honest).counted);
+}
+
+pub went_on_again : {old mid new : View} → GoesOn old mid → GoesOn mid new → GoesOn old new
+went_on_again before next = record {
+  honest = λ honest. before.honest (next.honest honest);
+  places = λ honest path. next.places honest path ∙ before.places (next.honest honest) path;
+  folders = λ honest path. next.folders honest path ∙ before.folders (next.honest honest) path;
+  later = λ honest. omega (arith, before.later (next.honest honest), next.later honest);
+  counted = λ honest. omega (arith, before.counted (next.honest honest), next.counted honest);
 }

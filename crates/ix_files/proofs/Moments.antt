@@ -49,17 +49,6 @@ module _ {Q : Place → Entry → Type 0} where
     now = ⊎_elim (λ same place entry stop. run.now place entry (subst (λ slot. StopsAt slot entry) (same place) stop)) (allows new.slots) passes.within;
   }
 
-  -- two runs, one after the other
-  pub joined : {old mid new : View} → Run Q old mid → Run Q mid new → Run Q old new
-  joined before after = record {
-    moments = record {
-      later = omega (arith, before.moments.later, after.moments.later);
-      each = λ left was. ⊎_elim (before.moments.each left) (λ now. now) (after.moments.before _ left before.moments.later was);
-      before = λ t left le was. ⊎_elim (before.moments.before t left le) inr (after.moments.before t left (omega (arith, le, before.moments.later)) was);
-    };
-    now = after.now;
-  }
-
 -- what is at a name stays
 pub stays : {step : Slots → Slots → Type 0} {old new : View} → Passes step old new → (place : Place)
     → (step old.slots new.slots → (new.slots place).now ≡ (old.slots place).now) → (new.slots place).now ≡ (old.slots place).now

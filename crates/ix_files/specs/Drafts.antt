@@ -1,8 +1,8 @@
 -- A new file beside the one that it will replace, and what a stop leaves of the one.
-use Rattle.std.specs.Prelude.{◌≡◌, ◌≢◌, ◌≤◌, ◌<◌, ◌+◌, ◌⊎◌, ℕ, List, [], ◌∷◌, ◌++◌, codes, decimal, Some, length}
+use Rattle.std.specs.Prelude.{◌≡◌, ◌≢◌, ◌≤◌, ◌<◌, ◌+◌, ◌⊎◌, ℕ, List, ◌++◌, codes, decimal, length}
 use Rattle.std.specs.Io.{StartsWith}
 use Rattle.ix_files.specs.Locations.{place_of}
-use Rattle.ix_files.specs.Slots.{Entry, Growing, Kept, MayLeave, Nothing, Place, Slot, Slots, at_rest}
+use Rattle.ix_files.specs.Slots.{Entry, Kept, MayLeave, Nothing, Place, Slot, Slots, at_rest}
 use Rattle.ix_files.specs.Views.{LeavesOnly, View}
 use Rattle.ix_files.specs.declared.draft.Draft.{Draft}
 
@@ -21,6 +21,12 @@ pub record IsDraftPlace (target place : Place) : Type 0 where
   pub folder : place.folder ≡ target.folder
   pub name : IsDraftName target.name place.name
   pub another : place ≢ target
+
+-- One of them is there.
+pub record HasDraft (target : Place) (view : View) : Type 0 where
+  pub place : Place
+  pub named : IsDraftPlace target place
+  pub there : (view.slots place).now ≢ Nothing
 
 -- what the draft will replace
 abbrev pub target_of : {W : Type 0} → Draft W → Place

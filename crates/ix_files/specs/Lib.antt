@@ -1,5 +1,8 @@
 pub mod Drafts
 pub mod Locations
+pub mod MemoryChanges
+pub mod MemoryLaws
+pub mod MemoryViews
 pub mod Opened
 pub mod Outputs
 pub mod Slots

@@ -1,5 +1,4 @@
 -- Names in folders, as values of the program.
-use Rattle.std.specs.Prelude.{List, ℕ}
 use Rattle.std.specs.String.{string_bytes}
 use Rattle.ix_files.specs.Slots.{Place}
 use Rattle.ix_files.specs.declared.location.Location.{Location}

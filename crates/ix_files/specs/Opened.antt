@@ -1,6 +1,6 @@
 -- What a call answers of files, if its answer is as the files were.
-use Rattle.std.specs.Prelude.{◌≡◌, ◌≢◌, List, ℕ, [], Option, Some}
-use Rattle.ix_files.specs.Slots.{Nothing, Place, bytes_of}
+use Rattle.std.specs.Prelude.{◌≡◌, ◌≢◌, List, ℕ, Option, Some}
+use Rattle.ix_files.specs.Slots.{Nothing, bytes_of}
 use Rattle.ix_files.specs.Views.{View}
 use Rattle.ix_files.specs.declared.file_error.FileError.{FileError}
 use Rattle.ix_files.specs.declared.file_error.FileError.TheVariants as file_error

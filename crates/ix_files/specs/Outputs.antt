@@ -5,7 +5,6 @@ use Rattle.ix_files.specs.Locations.{place_of}
 use Rattle.ix_files.specs.Slots.{Growing, Kept, Nothing, Place, at_rest}
 use Rattle.ix_files.specs.Views.{View}
 use Rattle.ix_files.specs.declared.output.DraftNames.{DraftNames}
-use Rattle.ix_files.specs.declared.output.Output.{Output}
 
 -- the new file has one of the names that drafts of what it will replace may have
 abbrev pub AreReady : Option DraftNames → Type 0

@@ -1,6 +1,6 @@
 -- What a call does to the files: each step says what is new at which name, and that the others stay.
 use Rattle.std.specs.Prelude.{◌≡◌, ◌≢◌, List, ℕ, Option, Some}
-use Rattle.ix_files.specs.Slots.{Entry, Place, Slot, Slots, Growing, Kept, Nothing, IsSame, IsSameBut, at_rest, entered}
+use Rattle.ix_files.specs.Slots.{Place, Slots, Growing, Kept, Nothing, IsSame, IsSameBut, at_rest, entered}
 
 -- A new file is there, which is being written.
 pub record Creates (place : Place) (old new : Slots) : Type 0 where

@@ -1,11 +1,12 @@
 //! Replacing a file: the new one is written beside the old one, and takes its place once it is on the disk.
 
-ghost use Rattle.std.specs.Prelude.{◌≡◌, ◌≢◌, ◌<◌, ◌≤◌, ◌⊎◌, ℕ, List, [], Some, IfOk, OnErr, OnOk, length, string_bytes};
+ghost use Rattle.std.specs.Prelude.{◌≡◌, ◌≢◌, ◌<◌, ◌≤◌, ◌⊎◌, ℕ, List, [], Some, IfOk, IsErrOf, OnErr, OnOk, length, string_bytes};
 ghost use Rattle.std.specs.Io.{StartsWith};
-ghost use Rattle.ix_files.specs.Drafts.{ChangesDrafts, IsDraftName, IsDraftPlace, IsFinished, IsOld, IsOldOrNew, IsUnfinished, own_of, target_of};
+ghost use Rattle.ix_files.specs.Drafts.{ChangesDrafts, HasDraft, IsDraftName, IsDraftPlace, IsFinished, IsOld, IsOldOrNew, IsUnfinished, own_of, target_of};
 ghost use Rattle.ix_files.specs.Locations.{place_of};
 ghost use Rattle.ix_files.specs.Slots.{Growing, Nothing, Place};
 ghost use Rattle.ix_files.specs.Views.{GoesOn, HasCause, LeavesOnly};
+ghost use Rattle.ix_files.specs.declared.file_error.FileError.TheVariants.{Exists};
 
 use crate::file_error::FileError;
 use crate::files::Files;
@@ -14,6 +15,9 @@ use std::alloc::{AllocError, Global};
 
 /// How many bytes a file's name has, at most.
 const NAME_BYTES: usize = 255;
+
+/// How many bytes of a name its draft's name has, at most, if the whole is too long for it. So no name is its draft's.
+const FRONT_BYTES: usize = 200;
 
 /// A new file that is to take the place of another. It is called `.NAME.ix-N`, in the same folder.
 #[derive(Drop)]
@@ -45,15 +49,14 @@ pub fn begin<F: Files>(
     ensures changes { ChangesDrafts (place_of target) (F.view files.old) (F.view files.new) }
     ensures goes_on { GoesOn (F.view files.old) (F.view files.new) }
     ensures cause { HasCause (F.view files.old) (F.view files.new) result }
+    ensures taken { (F.view files.new).honest → IsErrOf result Exists
+        → HasDraft (place_of target) (F.view files.new) }
 {
     for number in 1..u32::MAX {
-        let name = draft_name(alloc, target.name(), number)?;
-        if name.as_str() == target.name() {
-            continue;
-        }
-        let own = target.beside(alloc, name)?;
+        let own = draft_of(alloc, &target, number)?;
         // What a killed program left there is not locked.
         let _removed = files.remove_unlocked(&own);
+        remove_left(alloc, files, &target, number + 1)?;
         match files.create(&own) {
             Ok(writer) => {
                 files.dress(&own, &target);
@@ -71,6 +74,26 @@ pub fn begin<F: Files>(
     Err(FileError::Exists)
 }
 
+/// Removes the drafts that killed programs left, from this number to one of which there is none or that is locked.
+fn remove_left<F: Files>(
+    alloc: Global,
+    files: &mut F,
+    target: &Location,
+    first: u32,
+) -> Result<(), AllocError>
+    requires { 0 < first }
+    ensures changes { ChangesDrafts (place_of target.now) (F.view files.old) (F.view files.new) }
+    ensures goes_on { GoesOn (F.view files.old) (F.view files.new) }
+{
+    for number in first..u32::MAX {
+        let left = draft_of(alloc, target, number)?;
+        if !files.remove_unlocked(&left) {
+            break;
+        }
+    }
+    Ok(())
+}
+
 /// Puts the new file on the disk and in the place of the old one. A stop at any moment leaves the old one, or the new one whole.
 ///
 /// # Errors
@@ -84,12 +107,15 @@ pub fn finish<F: Files>(files: &mut F, draft: Draft<F::Writer>) -> Result<(), Fi
     ensures undone { OnErr result ((F.view files.new).honest
         → ((F.view files.old).slots (own_of draft)).now ≡ Growing
         → (text : List ℕ) → F.Writer.contents draft.writer ≡ Some text
-        → IsUnfinished (target_of draft) (own_of draft) text (F.view files.old) (F.view files.new)) }
-    ensures others { (F.view files.new).honest → (place : Place) → place ≢ target_of draft → place ≢ own_of draft
+        → IsUnfinished (target_of draft) (own_of draft) text (F.view files.old)
+        (F.view files.new)) }
+    ensures others { (F.view files.new).honest → (place : Place)
+        → place ≢ target_of draft → place ≢ own_of draft
         → ((F.view files.new).slots place).now ≡ ((F.view files.old).slots place).now }
     ensures any_moment { (F.view files.new).honest → (text : List ℕ)
         → F.Writer.contents draft.writer ≡ Some text
-        → LeavesOnly (IsOldOrNew (λ place. place ≡ own_of draft) (target_of draft) text (F.view files.old).slots)
+        → LeavesOnly
+        (IsOldOrNew (λ place. place ≡ own_of draft) (target_of draft) text (F.view files.old).slots)
         (F.view files.old) (F.view files.new) }
     ensures goes_on { GoesOn (F.view files.old) (F.view files.new) }
     ensures cause { OnErr result ((F.view files.new).honest
@@ -133,10 +159,20 @@ pub fn discard<F: Files>(files: &mut F, draft: Draft<F::Writer>)
     let _removed = files.remove(&draft.own);
 }
 
+/// The draft of a file, by its number.
+fn draft_of(alloc: Global, target: &Location, number: u32) -> Result<Location, AllocError>
+    requires { 0 < number }
+    ensures { IfOk result (λ draft. IsDraftPlace (place_of target.now) (place_of draft)) }
+{
+    let name = draft_name(alloc, target.name(), number)?;
+    target.beside(alloc, name)
+}
+
 /// The name of a draft of a file, by its number.
 fn draft_name(alloc: Global, name: &str, number: u32) -> Result<String, AllocError>
     requires { 0 < number }
-    ensures { IfOk result (λ draft. IsDraftName name.now (string_bytes draft)) }
+    ensures spelled { IfOk result (λ draft. IsDraftName name.now (string_bytes draft)) }
+    ensures another { IfOk result (λ draft. string_bytes draft ≢ name.now) }
 {
     let end = format!(in alloc; ".ix-{number}")?;
     let mut draft = String::from_str(alloc, ".")?;
@@ -145,11 +181,17 @@ fn draft_name(alloc: Global, name: &str, number: u32) -> Result<String, AllocErr
     Ok(draft)
 }
 
-/// The characters of a text that its first `room` bytes hold whole.
+/// A text, if it has at most `room` bytes; else the characters that its first `FRONT_BYTES` bytes hold whole.
 fn front_of(text: &str, room: usize) -> &str
+    requires { FRONT_BYTES ≤ room }
     ensures begins { StartsWith text.now result.now }
     ensures short { length result.now ≤ room }
     ensures whole { length text.now ≤ room → result.now ≡ text.now }
+    ensures cut { room < length text.now → length result.now ≤ FRONT_BYTES }
 {
-    &text[..text.floor_char_boundary(room)]
+    if text.len() <= room {
+        text
+    } else {
+        &text[..text.floor_char_boundary(FRONT_BYTES)]
+    }
 }

@@ -1,11 +1,12 @@
 //! Files by their paths.
 
-ghost use Rattle.std.specs.Prelude.{◌≡◌, ◌≢◌, ◌≤◌, ◌<◌, ◌⊎◌, ℕ, List, [], Some, false, IfErr, IfOk, IfSome, OnErr, OnOk};
+ghost use Rattle.std.specs.Prelude.{◌≡◌, ◌≢◌, ◌≤◌, ◌<◌, ℕ, List, [], Some, false, IfErr, IfOk, IfSome, IsErrOf, OnErr, OnOk};
 ghost use Rattle.ix_files.specs.Locations.{place_of};
 ghost use Rattle.ix_files.specs.Opened.{IsKindOf, IsOpened, IsReadError};
 ghost use Rattle.ix_files.specs.Slots.{Nothing, Slots, Stops};
 ghost use Rattle.ix_files.specs.Steps.{Creates, Overwrites, Removes, Renames, Settles, Stays, Syncs};
 ghost use Rattle.ix_files.specs.Views.{Calls, HasCause, View};
+ghost use Rattle.ix_files.specs.declared.file_error.FileError.TheVariants.{Exists};
 
 use crate::file_error::FileError;
 use crate::kind::Kind;
@@ -91,7 +92,9 @@ pub trait Files {
             → Creates (place_of at.now) (view self.old).slots (view self.new).slots
             × (Self.Writer.contents writer ≡ Some [])) }
         ensures call { Calls (Creates (place_of at.now)) (view self.old) (view self.new) }
-        ensures cause { HasCause (view self.old) (view self.new) result };
+        ensures cause { HasCause (view self.old) (view self.new) result }
+        ensures taken { (view self.new).honest → IsErrOf result Exists
+            → ((view self.new).slots (place_of at.now)).now ≢ Nothing };
 
     /// Gives a new file the owner, if the system allows it, and the mode of another, if there is one.
     fn dress(&mut self, at: &Location, like: &Location)
@@ -103,9 +106,12 @@ pub trait Files {
     /// `Failed`. Nothing is known of the file's bytes then.
     fn sync(&mut self, at: &Location, writer: Self::Writer) -> Result<Self::Held, FileError>
         ensures synced { OnOk result ((view self.new).honest
-            → Syncs (place_of at.now) (Self.Writer.contents writer) (view self.old).slots (view self.new).slots) }
-        ensures call { Calls (Syncs (place_of at.now) (Self.Writer.contents writer)) (view self.old) (view self.new) }
-        ensures cause { OnErr result ((view self.new).honest → (view self.old).faults < (view self.new).faults) };
+            → Syncs (place_of at.now) (Self.Writer.contents writer) (view self.old).slots
+            (view self.new).slots) }
+        ensures call { Calls (Syncs (place_of at.now) (Self.Writer.contents writer))
+            (view self.old) (view self.new) }
+        ensures cause { OnErr result ((view self.new).honest
+            → (view self.old).faults < (view self.new).faults) };
 
     /// Gives a file another name in the same folder, in place of what has it.
     ///
@@ -114,9 +120,12 @@ pub trait Files {
     fn rename(&mut self, from: &Location, to: &Location) -> Result<(), FileError>
         requires { (view self.old).honest → place_of from.now ≢ place_of to.now }
         ensures renamed { OnOk result ((view self.new).honest
-            → Renames (place_of from.now) (place_of to.now) (view self.old).slots (view self.new).slots) }
-        ensures call { Calls (Renames (place_of from.now) (place_of to.now)) (view self.old) (view self.new) }
-        ensures cause { OnErr result ((view self.new).honest → (view self.old).faults < (view self.new).faults) };
+            → Renames (place_of from.now) (place_of to.now) (view self.old).slots
+            (view self.new).slots) }
+        ensures call { Calls (Renames (place_of from.now) (place_of to.now))
+            (view self.old) (view self.new) }
+        ensures cause { OnErr result ((view self.new).honest
+            → (view self.old).faults < (view self.new).faults) };
 
     /// Removes a file.
     ///
@@ -142,7 +151,8 @@ pub trait Files {
         ensures settled { OnOk result ((view self.new).honest
             → Settles folder.now (view self.old).slots (view self.new).slots) }
         ensures call { Calls (Settles folder.now) (view self.old) (view self.new) }
-        ensures cause { OnErr result ((view self.new).honest → (view self.old).faults < (view self.new).faults) };
+        ensures cause { OnErr result ((view self.new).honest
+            → (view self.old).faults < (view self.new).faults) };
 
     /// A writer into the device or the pipe that a path leads to; `-` is the standard output.
     ///
@@ -153,7 +163,8 @@ pub trait Files {
             → Self.Writer.contents writer ≡ Some []) }
         ensures call { Calls (Overwrites ((view self.old).place path.now)) (view self.old)
             (view self.new) }
-        ensures cause { HasCause (view self.old) (view self.new) result };
+        ensures cause { HasCause (view self.old) (view self.new) result }
+        ensures not_taken { ¬ (IsErrOf result Exists) };
 
     /// Ends a device or a pipe with what was written into it.
     ///
@@ -167,9 +178,9 @@ pub trait Files {
     ghost counts_now: { (files : Self) (t : ℕ) (left : Slots) → t ≤ (view files).moment
         → Stops (view files).slots left → (view files).left_since t left };
 
-    ghost only_now: { (files : Self) (left : Slots) → (view files).left_since (view files).moment left
-        → Stops (view files).slots left };
+    ghost only_now: { (files : Self) (left : Slots)
+        → (view files).left_since (view files).moment left → Stops (view files).slots left };
 
-    ghost stops_again: { (files : Self) (t : ℕ) (left after : Slots) → (view files).left_since t left
-        → Stops left after → (view files).left_since t after };
+    ghost stops_again: { (files : Self) (t : ℕ) (left after : Slots)
+        → (view files).left_since t left → Stops left after → (view files).left_since t after };
 }

@@ -2,10 +2,12 @@
 //!
 //! [`Files`] is what the layers above are generic in. Its clauses say what each call does to which name and that nothing else
 //! changes, also at each moment between: what a stop of the program or of the machine leaves. They hold if each answer of the
-//! system so far was as the files were ([`Files`], `honest`), which no program can find out. Of [`SystemFiles`] nothing is
-//! claimed but that their calls are safe and end.
+//! system so far was as the files were ([`Files`], `honest`), which no program can find out. [`MemoryFiles`] are always so, and all
+//! of it is proved of them; of [`SystemFiles`] nothing is claimed but that their calls are safe and end.
 //!
-//! [`begin`], [`finish`] and [`discard`] replace a file: until the new one is on the disk the old one is untouched.
+//! A command opens what it reads by [`Files`], calls [`begin_output`] once all of it was read, writes into the output's writer, and
+//! ends with [`finish_output`], or with [`discard_output`] after an error. Until then what has the output's name is untouched, and
+//! a stop at any moment leaves it, or the new file whole. [`begin`], [`finish`] and [`discard`] do so for a file whose name is known.
 #![tactic(auto)]
 
 mod draft;
@@ -13,6 +15,9 @@ mod file_error;
 mod files;
 mod kind;
 mod location;
+mod memory_changes;
+mod memory_files;
+mod memory_writer;
 mod output;
 mod system_files;
 
@@ -21,5 +26,7 @@ pub use file_error::FileError;
 pub use files::Files;
 pub use kind::Kind;
 pub use location::Location;
+pub use memory_files::MemoryFiles;
+pub use memory_writer::MemoryWriter;
 pub use output::{DraftNames, Output, begin_output, discard_output, finish_output};
 pub use system_files::{SystemFiles, SystemReader, SystemWriter};

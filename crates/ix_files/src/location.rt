@@ -1,8 +1,8 @@
 //! A name in a folder.
 
 ghost use Rattle.std.specs.Prelude.{◌≡◌, IfOk};
+ghost use Rattle.std.specs.Path.{path_join};
 ghost use Rattle.std.specs.String.{string_bytes};
-ghost use Rattle.ix_files.specs.Locations.{place_of};
 
 use std::alloc::{AllocError, Global};
 use std::path::Path;
@@ -14,12 +14,16 @@ pub struct Location {
     name: String,
     // made at once, so that a file can be removed when there is no memory
     path: String,
+    ghost joined: { string_bytes path ≡ path_join (string_bytes folder) (string_bytes name) },
 }
 
 impl Location {
+    ghost use Rattle.ix_files.specs.Locations.{place_of};
+
     /// The name in the folder of this path, which leads through no links and dots, and is the same for each name in it.
     pub fn new(alloc: Global, folder: String, name: String) -> Result<Location, AllocError>
-        ensures folder { IfOk result (λ location. (place_of location).folder ≡ string_bytes folder) }
+        ensures folder { IfOk result (λ location.
+            (place_of location).folder ≡ string_bytes folder) }
         ensures name { IfOk result (λ location. (place_of location).name ≡ string_bytes name) }
     {
         let path = Path::new(folder.as_str())
@@ -43,13 +47,16 @@ impl Location {
     }
 
     /// The path: that of the folder, and the name.
-    pub fn path(&self) -> &str {
+    pub fn path(&self) -> &str
+        ensures { result.now ≡ path_join (place_of self.now).folder (place_of self.now).name }
+    {
         self.path.as_str()
     }
 
     /// Another name in the same folder.
     pub fn beside(&self, alloc: Global, name: String) -> Result<Location, AllocError>
-        ensures folder { IfOk result (λ beside. (place_of beside).folder ≡ (place_of self.now).folder) }
+        ensures folder { IfOk result (λ beside.
+            (place_of beside).folder ≡ (place_of self.now).folder) }
         ensures name { IfOk result (λ beside. (place_of beside).name ≡ string_bytes name) }
     {
         let folder = String::from_str(alloc, self.folder.as_str())?;

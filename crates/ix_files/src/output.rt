@@ -1,10 +1,11 @@
 //! Where the output of a command goes.
 
-ghost use Rattle.std.specs.Prelude.{◌≡◌, ◌⊎◌, ℕ, List, [], Some, IfOk, OnErr, OnOk};
-ghost use Rattle.ix_files.specs.Drafts.{ChangesDrafts};
+ghost use Rattle.std.specs.Prelude.{◌≡◌, ◌⊎◌, ℕ, List, [], Some, IfOk, IsErrOf, OnErr, OnOk};
+ghost use Rattle.ix_files.specs.Drafts.{ChangesDrafts, HasDraft};
 ghost use Rattle.ix_files.specs.Outputs.{AreReady, IsBegunFor, LeavesOthers, LeavesTarget, saved_in};
 ghost use Rattle.ix_files.specs.Slots.{Kept};
 ghost use Rattle.ix_files.specs.Views.{GoesOn};
+ghost use Rattle.ix_files.specs.declared.file_error.FileError.TheVariants.{Exists};
 
 use crate::draft::{self, Draft};
 use crate::file_error::FileError;
@@ -49,6 +50,8 @@ pub fn begin_output<F: Files>(
     ensures changes { ChangesDrafts ((F.view files.old).place path.now) (F.view files.old)
         (F.view files.new) }
     ensures goes_on { GoesOn (F.view files.old) (F.view files.new) }
+    ensures taken { (F.view files.new).honest → IsErrOf result Exists
+        → HasDraft ((F.view files.old).place path.now) (F.view files.new) }
 {
     match files.kind(path)? {
         Kind::Missing | Kind::File => {

@@ -1,58 +1,21 @@
 -- A list of grams with numbers is told by which gram lists which number.
-use Rattle.std.proofs.Common.{◌≡◌, ℕ, ◌↔◌, List, [], ◌∷◌, map, get_or, slice_get, Some, All, Contains, Ordering, Less, refl, sym, ap, ap₂, subst, ◌∙◌, inl, inr}
+use Rattle.std.proofs.Common.{◌≡◌, ℕ, ◌↔◌, List, map, get_or, slice_get, Some, All, Contains, sym, ap₂, subst}
 use Rattle.std.proofs.lemmas.Cmp.{nat_cmp_total, nat_list_cmp_total}
 use Rattle.std.proofs.lemmas.List.Elements.{All-contains, Contains-get_or}
 use Rattle.std.proofs.lemmas.Map.Keys.{sorted_from_strictly_increasing}
-use Rattle.std.specs.Cmp.Lexicographic.{slice_cmp}
-use Rattle.std.specs.List.{AllByRecursion}
-use Rattle.std.specs.List.Sorted.{IsStrictlySortedBy}
-use Rattle.std.specs.Ordering.{nat_cmp}
-use Rattle.ix_text.proofs.AscendingLists.{contains_first, contains_later, contains_cases, contains_none, contains_map, contained_from_map, all_below, not_below_itself, one_ascending}
+use Rattle.ix_text.proofs.AscendingLists.{contains_map, contained_from_map, one_ascending}
 use Rattle.ix_text.specs.ByteOrder.{IsAscending}
 use Rattle.ix_text.specs.Collections.{Collection, IsVocabulary}
 use Rattle.ix_text.specs.Parts.{Parts, ArePartsOf, AreGramsOf, GramEntry, HasNumber, IsGramEntry, terms_of}
 use Rattle.ix_index_text.specs.Grams.{AreGramsOfTerms}
+use Rattle.ix_index_text.proofs.OneByKey.{one_by_keys, one_of_key}
 
 abbrev pub gram_of : GramEntry → List ℕ
 gram_of entry = entry.gram
 
-abbrev cmp : List ℕ → List ℕ → Ordering
-cmp = slice_cmp nat_cmp
-
--- an entry above another has another gram
-not_above : (x y : GramEntry) (grams : List GramEntry) → AllByRecursion (λ z. cmp x.gram z ≡ Less) (map gram_of grams) → Contains grams y → ¬ (x.gram ≡ y.gram)
-not_above x y grams up has same =
-    let less = all_below cmp x.gram (map gram_of grams) y.gram up (contains_map gram_of grams y has) in
-    not_below_itself nat_list_cmp_total x.gram (subst (λ (g : List ℕ). cmp x.gram g ≡ Less) (sym same) less)
-
 -- under ascending grams an entry is told by its gram
 pub one_entry : (grams : List GramEntry) → IsAscending (map gram_of grams) → (e f : GramEntry) → Contains grams e → Contains grams f → e.gram ≡ f.gram → e ≡ f
-unfolding IsStrictlySortedBy
-one_entry [] up e f has also same = absurd (contains_none e has)
-one_entry (x ∷ grams) up e f has also same =
-    elim (contains_cases x grams e has) [
-      | inl first ↦
-          elim (contains_cases x grams f also) [
-            | inl second ↦ sym first ∙ second
-            | inr later ↦ absurd (not_above x f grams up.0 later (ap gram_of first ∙ same))
-          ]
-      | inr before ↦
-          elim (contains_cases x grams f also) [
-            | inl second ↦ absurd (not_above x e grams up.0 before (ap gram_of second ∙ sym same))
-            | inr later ↦ one_entry grams up.1 e f before later same
-          ]
-    ]
-
--- two lists with the same image in which equal images have equal origins are one
-one_by_map : (xs ys : List GramEntry) → map gram_of xs ≡ map gram_of ys → ((x y : GramEntry) → Contains xs x → Contains ys y → x.gram ≡ y.gram → x ≡ y) → xs ≡ ys
-one_by_map [] [] same alike = refl
-one_by_map [] (y ∷ ys) same alike = absurd cc
-one_by_map (x ∷ xs) [] same alike = absurd cc
-one_by_map (x ∷ xs) (y ∷ ys) same alike =
-    let heads : x.gram ≡ y.gram = cc in
-    let tails : map gram_of xs ≡ map gram_of ys = cc in
-    ap₂ ◌∷◌ (alike x y (contains_first x xs) (contains_first y ys) heads)
-    (one_by_map xs ys tails (λ v w has also. alike v w (contains_later x xs v has) (contains_later y ys w also)))
+one_entry = one_of_key gram_of nat_list_cmp_total
 
 -- each gram of the one list is a gram of the other
 grams_there : (one other : List GramEntry) → All IsGramEntry one → ((gram : List ℕ) (number : ℕ) → HasNumber one gram number → HasNumber other gram number) → (gram : List ℕ) → Contains (map gram_of one) gram → Contains (map gram_of other) gram
@@ -79,7 +42,7 @@ one_gram_list one other up_one up_other each_one each_other same =
     let there = λ (g : List ℕ) (n : ℕ). (same g n).0 in
     let back = λ (g : List ℕ) (n : ℕ). (same g n).1 in
     let grams = one_ascending nat_list_cmp_total (map gram_of one) (map gram_of other) up_one up_other (λ g. (grams_there one other each_one there g, grams_there other one each_other back g)) in
-    one_by_map one other grams (λ e f has also alike.
+    one_by_keys gram_of one other grams (λ e f has also alike.
     let sorted = λ (xs : List GramEntry) (x : GramEntry) (all : All IsGramEntry xs) (in_xs : Contains xs x). sorted_from_strictly_increasing x.numbers (All-contains IsGramEntry xs x all in_xs).1 in
     let numbers = one_ascending nat_cmp_total e.numbers f.numbers (sorted one e each_one has) (sorted other f each_other also)
     (λ n. (numbers_there one other up_other there e f has also alike n, numbers_there other one up_one back f e also has (sym alike) n)) in

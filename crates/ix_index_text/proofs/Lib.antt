@@ -5,11 +5,16 @@ pub mod EndingLemmas
 pub mod GramLists
 pub mod GramNotes
 pub mod GramOrder
+pub mod GramsExist
 pub mod HeldLemmas
 pub mod IndexTold
 pub mod ListTold
 pub mod ListingsTold
+pub mod OneByKey
+pub mod OneText
 pub mod PairGrams
+pub mod PartsExist
+pub mod Passing
 pub mod SectionLemmas
 pub mod SectionSizes
 pub mod SpellLemmas
@@ -17,4 +22,5 @@ pub mod TellingLemmas
 pub mod TermPairs
 pub mod TermTexts
 pub mod TextLaws
+pub mod TextOrder
 pub mod WindowSteps

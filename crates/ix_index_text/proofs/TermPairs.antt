@@ -1,7 +1,6 @@
 -- The pairs of a term, as a walk over its windows gathers them.
-use Rattle.std.proofs.Common.{◌≡◌, ℕ, List, [], ◌∷◌, ◌++◌, map, length, take, refl, sym, ap, ◌∙◌, append_assoc, append-nil}
+use Rattle.std.proofs.Common.{◌≡◌, ℕ, List, [], ◌∷◌, ◌++◌, map, refl, sym, ap, ◌∙◌, append_assoc, append-nil}
 use Rattle.std.specs.Str.{chars}
-use Rattle.std.proofs.lemmas.List.{take_at}
 use Rattle.ix_index_text.specs.declared.windows.GramPair.{GramPair}
 use Rattle.ix_index_text.specs.declared.windows.Gram.{Gram}
 use Rattle.ix_index_text.specs.TermWindows.{grams_in_row, windows_of_term}
@@ -50,8 +49,3 @@ under_way-end before number term now left so_far none =
     let all : so_far.more ≡ pairs_of_term number term =
     sym (append-nil so_far.more) ∙ ap (λ (gs : List Gram). so_far.more ++ map (paired number) gs) (sym none) ∙ so_far.whole in
     so_far.grown ∙ ap (λ (ps : List GramPair). before ++ ps) all
-
--- what stood before still stands at the front
-pub under_way-kept : (before : List GramPair) (number : ℕ) (term : List ℕ) (now : List GramPair) (left : List Gram)
-    → IsUnderWay before number term now left → take (length before) now ≡ before
-under_way-kept before number term now left so_far = ap (take (length before)) so_far.grown ∙ take_at before so_far.more (length before) refl

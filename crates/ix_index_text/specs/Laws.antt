@@ -1,6 +1,6 @@
 -- What every index text shows of itself.
 use Rattle.std.specs.Prelude.{◌≡◌, ℕ, ◌≤◌, List, length}
-use Rattle.ix_text.specs.Collections.{Collection}
+use Rattle.ix_text.specs.Collections.{Collection, IsLawful}
 use Rattle.ix_index_text.specs.IndexText.{IsIndexText}
 use Rattle.ix_index_text.specs.Sections.{Version, Plain, FrontCoded}
 
@@ -19,3 +19,11 @@ IndexTextTellsCollection = (version : Version) (one other : Collection) (bytes :
 -- and where the version is not known, the text tells it too
 abbrev pub IndexTextTellsVersionAndCollection : Type 0
 IndexTextTellsVersionAndCollection = (version another : Version) (one other : Collection) (bytes : List ℕ) → IsIndexText version one bytes → IsIndexText another other bytes → (version ≡ another) × (one ≡ other)
+
+-- a lawful collection has an index text of each version
+abbrev pub CollectionHasIndexText : Type 0
+CollectionHasIndexText = (version : Version) (collection : Collection) → IsLawful collection → (bytes : List ℕ) × IsIndexText version collection bytes
+
+-- and only one
+abbrev pub CollectionHasOneIndexText : Type 0
+CollectionHasOneIndexText = (version : Version) (collection : Collection) (one other : List ℕ) → IsIndexText version collection one → IsIndexText version collection other → one ≡ other

@@ -1,7 +1,5 @@
 -- The windows of a term as pairs of a gram and of the number of the term.
 use Rattle.std.specs.Prelude.{◌≡◌, ℕ, List, [], ◌∷◌, ◌++◌, chars, encode_utf8_all, Contains}
-use Rattle.std.specs.Ordering.{ordering_then, nat_cmp}
-use Rattle.std.specs.declared.cmp.Ordering.{Ordering}
 use Rattle.ix_index_text.specs.declared.windows.GramPair.{GramPair}
 
 -- the gram of a pair: the bytes of its three characters
@@ -25,7 +23,3 @@ pairs_of number (a ∷ b ∷ c ∷ rest) = record { first = a; second = b; third
 -- the pairs of a term, between two marks
 abbrev pub pairs_of_term : ℕ → List ℕ → List GramPair
 pairs_of_term number term = pairs_of number (36 ∷ (chars term ++ 36 ∷ []))
-
--- the order of pairs: by their characters, and then by their numbers
-abbrev pub pair_cmp : GramPair → GramPair → Ordering
-pair_cmp p q = ordering_then (nat_cmp p.first q.first) (ordering_then (nat_cmp p.second q.second) (ordering_then (nat_cmp p.third q.third) (nat_cmp p.number q.number)))

@@ -1,6 +1,7 @@
 //! Laws of the index text. The functions change nothing and answer nothing: what they ensure is a fact.
 ghost use Rattle.ix_index_text.specs.GramLaws.{GramsOfVocabularyAreOfCollection, TermsHaveOneGramList};
-ghost use Rattle.ix_index_text.specs.Laws.{HasOneVersion, HasSixtyFourBytes, IndexTextTellsCollection, IndexTextTellsVersionAndCollection};
+ghost use Rattle.ix_index_text.specs.Laws.{CollectionHasIndexText, CollectionHasOneIndexText, HasOneVersion, HasSixtyFourBytes};
+ghost use Rattle.ix_index_text.specs.Laws.{IndexTextTellsCollection, IndexTextTellsVersionAndCollection};
 ghost use Rattle.ix_index_text.specs.TellingLaws.{SettledFrontBeginsIndexText};
 
 /// An index text has at least 64 bytes.
@@ -21,6 +22,12 @@ pub fn index_text_tells_collection()
 /// An index text tells its version with its collection.
 pub fn index_text_tells_version_and_collection()
     ensures { IndexTextTellsVersionAndCollection }
+{}
+
+/// A lawful collection has an index text of each version, and only one.
+pub fn collection_has_one_index_text()
+    ensures some { CollectionHasIndexText }
+    ensures one { CollectionHasOneIndexText }
 {}
 
 /// The grams of the terms of a collection's dictionary, each term under its place, are those of the collection.

@@ -12,9 +12,10 @@ mod windows;
 mod writer;
 
 pub use laws::{
-    grams_of_the_vocabulary, index_text_has_one_version, index_text_has_sixty_four_bytes,
-    index_text_tells_collection, index_text_tells_version_and_collection,
-    settled_front_begins_index_text, terms_have_one_gram_list,
+    collection_has_one_index_text, grams_of_the_vocabulary, index_text_has_one_version,
+    index_text_has_sixty_four_bytes, index_text_tells_collection,
+    index_text_tells_version_and_collection, settled_front_begins_index_text,
+    terms_have_one_gram_list,
 };
 pub use layout::{
     COUNT_BYTES, COUNTS_BYTES, END_MARK_FRONT_CODED, END_MARK_PLAIN, FRAME_BYTES, GROUP,

@@ -1,5 +1,5 @@
 //! What a writer of an index text keeps until its end.
-ghost use Rattle.std.specs.Prelude.{◌≡◌, ◌≤◌, ◌<◌, ◌+◌, ◌-◌, ◌*◌, ◌^◌, ◌++◌, ℕ, List, [], ◌∷◌, length, None, Some, OnOk, OnErr, IfOk, IfErr, All, map, string_bytes};
+ghost use Rattle.std.specs.Prelude.{◌≡◌, ◌≤◌, ◌<◌, ◌+◌, ◌-◌, ◌*◌, ◌^◌, ◌++◌, ℕ, List, length, None, Some, OnOk, IfOk, IfErr, All, map, string_bytes};
 ghost use Rattle.ix_vbyte.specs.Gaps.{Ascends};
 ghost use Rattle.ix_vbyte.specs.Postings.{posting_bytes};
 ghost use Rattle.ix_text.specs.Terms.{IsTerm};

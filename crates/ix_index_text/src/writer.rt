@@ -1,6 +1,6 @@
 //! A writer of the index text that is told its parts in order.
-ghost use Rattle.std.specs.Prelude.{◌≡◌, ◌↔◌, ◌≤◌, ◌<◌, ◌-◌, ◌^◌, ℕ, List, [], ◌∷◌, ◌++◌, ◌⊎◌, Option, None, Some, length, OnOk, OnErr, IfErr, IsTrue, All, map};
-ghost use Rattle.std.specs.Io.KnownBytes.{Appends, Keeps};
+ghost use Rattle.std.specs.Prelude.{◌≡◌, ◌↔◌, ◌≤◌, ◌<◌, ◌-◌, ◌^◌, ℕ, List, ◌⊎◌, Option, None, Some, length, OnOk, OnErr, IfErr, IsTrue, All, map};
+ghost use Rattle.std.specs.Io.KnownBytes.{Keeps};
 ghost use Rattle.ix_vbyte.specs.Gaps.{Ascends};
 ghost use Rattle.ix_vbyte.specs.Postings.{Posting};
 ghost use Rattle.ix_text.specs.Collections.{Collection, IsLawful};

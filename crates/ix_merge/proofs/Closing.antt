@@ -13,12 +13,12 @@ use Rattle.ix_file.specs.Grams.{AreGramsOfTerms}
 use Rattle.ix_file.specs.IndexText.{layout, magic, tail}
 use Rattle.ix_file.specs.Sections.{FrontCoded, postings_section}
 use Rattle.ix_file.proofs.GramLists.{of_collection}
+use Rattle.ix_file.proofs.GramsExist.{has_grams}
 use Rattle.ix_run.specs.Heads.{Heading, parts_with}
 use Rattle.ix_run.specs.Sources.{Yielding}
 use Rattle.ix_merge.specs.Merged.{AreShares, HasMergedAll, HasMergedSome, IsMergeOf, Share}
 use Rattle.ix_merge.specs.Pieces.{ArePiecesOf, IsConcatenation, MayYieldPiece, Piece, WritesConcatenation, WritesFront}
 use Rattle.ix_merge.specs.Rows.{AreRowsOf, tokens_under}
-use Rattle.ix_merge.proofs.GramsExist.{has_grams}
 use Rattle.ix_merge.proofs.Parting.{concatenated, own_heading, own_lawful, parts_of_own, piece_of, pieces_headed}
 use Rattle.ix_merge.proofs.Shares.{heading_of_share}
 use Rattle.ix_merge.proofs.Uniting.{AreUnited, united_lawful}

@@ -4,7 +4,6 @@ pub mod Covering
 pub mod Enclosed
 pub mod Faulting
 pub mod GatheredLists
-pub mod GramsExist
 pub mod IndexSources
 pub mod KeyOrder
 pub mod Laying

@@ -11,8 +11,7 @@ mod token_marks;
 mod token_table;
 
 pub use list_fault::ListFault;
-pub use lists::{check_list, check_posting, document_behind};
-pub use numbers::some_number;
+pub use lists::{check_list, check_posting};
 pub use seen_tokens::SeenTokens;
 pub use token_marks::TokenMarks;
 pub use token_table::TokenTable;

@@ -162,7 +162,7 @@ fn check_single<S: SeenTokens>(
 /// Returns the document behind a gap, and the number of its first token with how many tokens it has; or `None` if there is no such
 /// document.
 #[inline]
-pub fn document_behind(tokens: &TokenTable, next: u32, gap: u32) -> Option<(u32, (u32, u32))>
+fn document_behind(tokens: &TokenTable, next: u32, gap: u32) -> Option<(u32, (u32, u32))>
     requires { 0 < gap }
     ensures { (rows : List DocumentRow) → HasTokens tokens.now rows
         → MatchOption result (length rows < 2 ^ 32 → length rows ≤ next + (gap - 1)) (λ found.

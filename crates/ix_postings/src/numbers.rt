@@ -13,7 +13,7 @@ use ix_vbyte::{decode, short_number};
 /// # Errors
 /// `Zero` if it is 0; `Number` if the code is faulty, or the bytes do not end it.
 #[inline(always)]
-pub fn some_number(bytes: &[u8]) -> Result<(u32, usize), ListFault>
+pub(crate) fn some_number(bytes: &[u8]) -> Result<(u32, usize), ListFault>
     ensures found { IfOk result (λ found. BeginsWithShort bytes.now found.0 found.1) }
     ensures accepted { (number : ℕ) (missing rest : List ℕ) → 0 < number → number < 2 ^ 32
         → bytes.now ++ missing ≡ code_of number ++ rest

@@ -1,10 +1,15 @@
 -- A list that was checked, before any posting is taken, and when none is left.
-use Rattle.std.proofs.Common.{◌≡◌, ℕ, List, [], ◌∷◌, ◌++◌, drop, refl, sym, ap, subst, ◌∙◌, arith, append-nil, take-append-drop}
+use Rattle.std.proofs.Common.{◌≡◌, ◌≤◌, ◌↔◌, ℕ, List, [], ◌∷◌, ◌++◌, drop, refl, sym, ap, subst, ◌∙◌, arith, append-nil, take-append-drop}
 use Rattle.ix_text.specs.Parts.{DocumentRow, Posting}
 use Rattle.ix_postings.specs.TokenMarks.{HoldsNumbers}
 use Rattle.ix_postings.specs.declared.token_marks.TokenMarks.{TokenMarks}
 use Rattle.ix_text.specs.TokenNumbers.{AreDistinct, numbers_of_postings}
-use Rattle.ix_run_text.specs.MarkedLists.{IsChecked, ListLies, MarksList}
+use Rattle.ix_postings.specs.CheckedLists.{SeesList}
+use Rattle.ix_run_text.specs.CheckedLists.{IsChecked, ListLies}
+
+-- marks with room for the same numbers
+pub same_room : {old new : ℕ} → ((top : ℕ) → (top ≤ old) ↔ (top ≤ new)) → new ≡ old
+same_room {old} {new} same = (let up = (same old).0 (omega arith) in let down = (same new).1 (omega arith) in omega (arith, up, down))
 
 -- of a list of which nothing is left, exactly what was told before is marked
 pub none_checked : (rows : List DocumentRow) (marks : TokenMarks) (next documents size : ℕ) (held numbers : List ℕ) → documents ≡ 0 → IsChecked rows marks next documents size held numbers → HoldsNumbers marks numbers × AreDistinct numbers
@@ -38,10 +43,10 @@ checked_none rows marks next held numbers holds distinct = record {
 }
 
 -- a list that was gone over
-pub list_checked : (rows : List DocumentRow) (old marks : TokenMarks) (held : List ℕ) (size documents after : ℕ) (numbers : List ℕ) → MarksList rows held size documents after old marks → HoldsNumbers old numbers → AreDistinct numbers
+pub list_checked : (rows : List DocumentRow) (old marks : TokenMarks) (held : List ℕ) (size documents after : ℕ) (numbers : List ℕ) → SeesList AreDistinct (HoldsNumbers old) (HoldsNumbers marks) rows held size documents after → HoldsNumbers old numbers → AreDistinct numbers
     → IsChecked rows marks 0 documents size held numbers
 list_checked rows old marks held size documents after numbers list holds distinct =
-    let all = list.marked numbers holds distinct in
+    let all = list.seen numbers holds distinct in
     record {
       postings = list.postings;
       behind = drop size held;

@@ -8,7 +8,7 @@ use Rattle.ix_vbyte.specs.Gaps.{next_after}
 use Rattle.ix_vbyte.specs.Postings.{documents_of}
 use Rattle.ix_vbyte.proofs.Gaps.{next_after-push}
 use Rattle.ix_run_text.specs.Heads.{Heading, parts_with}
-use Rattle.ix_run_text.specs.MarkedLists.{PostingsFit}
+use Rattle.ix_postings.specs.NextPostings.{PostingsFit}
 use Rattle.ix_run_text.specs.Reading.{HasRead}
 use Rattle.ix_run_text.specs.Sources.{AreWhole, closed, extended}
 use Rattle.ix_run_text.specs.declared.run_reader.RunReader.{RunReader}

@@ -19,7 +19,7 @@ use Rattle.ix_vbyte.specs.Gaps.{next_after}
 use Rattle.ix_vbyte.specs.Postings.{documents_of}
 use Rattle.ix_run_text.specs.Heads.{Heading, parts_with}
 use Rattle.ix_run_text.specs.Orders.{StandsAbove}
-use Rattle.ix_run_text.specs.ReadPostings.{IsFree, PostingFits}
+use Rattle.ix_postings.specs.NextPostings.{PostingFits}
 use Rattle.ix_run_text.specs.ReadTerms.{TermFits}
 use Rattle.ix_run_text.specs.Reading.{last_text}
 use Rattle.ix_run_text.specs.Sources.{AreWhole, IsBegun, IsLawfulFront, closed, entry_with, extended}
@@ -139,7 +139,7 @@ in_order heading finished entry whole term no_stop ascending some are = record {
 
 -- a posting that fits is given
 pub front_more : (heading : Heading) (finished : List DictionaryEntry) (entry : DictionaryEntry) (posting : Posting) → IsLawfulFront heading finished (Some entry)
-    → PostingFits heading.rows (next_after 0 (documents_of entry.postings)) posting → IsFree heading.rows (numbers_of_entries heading.rows (closed finished (Some entry) [])) posting
+    → PostingFits heading.rows (next_after 0 (documents_of entry.postings)) posting → AreDistinct (numbers_of_entries heading.rows (closed finished (Some entry) []) ++ numbers_of_posting heading.rows posting)
     → IsLawfulFront heading finished (Some (extended entry (posting ∷ [])))
 front_more heading finished entry posting front fits free =
     let begun = front.begun in

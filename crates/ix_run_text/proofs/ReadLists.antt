@@ -8,8 +8,9 @@ use Rattle.ix_postings.specs.declared.token_marks.TokenMarks.{TokenMarks}
 use Rattle.ix_vbyte.specs.Postings.{list_bytes}
 use Rattle.ix_vbyte.proofs.Postings.{list_apart}
 use Rattle.ix_run_text.specs.Inputs.{BeginsWith}
-use Rattle.ix_run_text.specs.MarkedLists.{ListStands, MarksList, PostingsFit}
-use Rattle.ix_run_text.proofs.FitPostings.{fit_are}
+use Rattle.ix_postings.specs.CheckedLists.{ListStands, SeesList}
+use Rattle.ix_postings.specs.NextPostings.{PostingsFit}
+use Rattle.ix_postings.proofs.FitPostings.{fit_are}
 
 -- what came of it is a front of it
 pub came_front : (held more list rest : List ℕ) (came : ℕ) → list ++ rest ≡ held ++ more → came ≤ length held → came ≤ length list → take came held ++ drop came list ≡ list
@@ -24,7 +25,7 @@ if_failed (Err e) failed holds = holds
 
 module _ (rows : List DocumentRow) (marks : TokenMarks) (numbers : List ℕ) (postings : List Posting) (rest held : List ℕ) (came documents : ℕ) where
   abbrev pub front_stands : HoldsNumbers marks numbers → PostingsFit rows 0 postings → AreDistinct (numbers ++ numbers_of_postings rows postings) → length postings ≡ documents → came ≤ length held → came ≤ length (list_bytes postings)
-      → (known : Option (List ℕ)) → known ≡ Some (list_bytes postings ++ rest) → IfSome known (λ bytes. BeginsWith held bytes) → ListStands rows held came documents marks
+      → (known : Option (List ℕ)) → known ≡ Some (list_bytes postings ++ rest) → IfSome known (λ bytes. BeginsWith held bytes) → ListStands AreDistinct (HoldsNumbers marks) rows held came documents
   front_stands holds fit free counted within short known is begins =
       let front : BeginsWith held (list_bytes postings ++ rest) = subst (λ (k : Option (List ℕ)). IfSome k (λ bytes. BeginsWith held bytes)) is begins in
       record {
@@ -39,7 +40,7 @@ module _ (rows : List DocumentRow) (marks : TokenMarks) (numbers : List ℕ) (po
       }
 
   -- if it was found whole, all of it came
-  pub whole_came : (stands : ListStands rows held came documents marks) (after : ℕ) (new : TokenMarks) → MarksList rows held came documents after marks new → came ≡ length (list_bytes stands.postings)
+  pub whole_came : (stands : ListStands AreDistinct (HoldsNumbers marks) rows held came documents) (after : ℕ) (new : TokenMarks) → SeesList AreDistinct (HoldsNumbers marks) (HoldsNumbers new) rows held came documents after → came ≡ length (list_bytes stands.postings)
   whole_came stands after new list =
       let top : ℕ = length rows + sum_by (λ row. row.tokens) rows in
       let counted = list.counted in

@@ -8,7 +8,7 @@ use Rattle.ix_text.proofs.TokensApart.{numbers_of_entries-push}
 use Rattle.ix_vbyte.specs.Code.{code_of}
 use Rattle.ix_vbyte.specs.Postings.{list_bytes}
 use Rattle.ix_vbyte.specs.Texts.{counted}
-use Rattle.ix_run_text.specs.MarkedLists.{PostingsFit}
+use Rattle.ix_postings.specs.NextPostings.{PostingsFit}
 use Rattle.ix_run_text.specs.ReadTerms.{TermFits}
 use Rattle.ix_run_text.specs.Reading.{LieAhead, LieBehind, Checked, MayLieAhead, Standing, Told, bytes_ahead, last_text}
 use Rattle.ix_run_text.specs.Sources.{AreWhole, closed, entry_with}

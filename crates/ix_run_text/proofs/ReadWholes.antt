@@ -17,7 +17,7 @@ use Rattle.ix_vbyte.proofs.Gaps.{length-Ascends}
 use Rattle.ix_vbyte.proofs.Sizes.{list_short}
 use Rattle.ix_run_text.specs.Heads.{Heading, parts_with}
 use Rattle.ix_run_text.specs.Orders.{StandsAbove}
-use Rattle.ix_run_text.specs.ReadPostings.{PostingFits}
+use Rattle.ix_postings.specs.NextPostings.{PostingFits}
 use Rattle.ix_run_text.specs.ReadTerms.{TermFits}
 use Rattle.ix_run_text.specs.Reading.{last_text}
 use Rattle.ix_run_text.specs.Sources.{AreWhole, closed, entry_with, extended}

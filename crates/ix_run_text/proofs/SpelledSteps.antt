@@ -1,13 +1,12 @@
 -- The list that is left: none, and a whole one.
 use Rattle.std.proofs.Common.{◌≡◌, ◌∙◌, ◌^◌, ◌≤◌, ◌-◌, ℕ, List, [], length, take, sum_by, refl, sym, ap, subst, arith}
 use Rattle.ix_text.specs.Parts.{DocumentRow, Posting}
-use Rattle.ix_postings.specs.declared.token_marks.TokenMarks.{TokenMarks}
 use Rattle.ix_vbyte.specs.Gaps.{next_after}
 use Rattle.ix_vbyte.specs.Postings.{documents_of}
 use Rattle.ix_vbyte.proofs.Walks.{postings_from}
-use Rattle.ix_run_text.specs.MarkedLists.{MarksList}
+use Rattle.ix_postings.specs.CheckedLists.{SeesList}
 use Rattle.ix_run_text.specs.SpelledLists.{SpellsList}
-use Rattle.ix_run_text.proofs.FitPostings.{fit_are}
+use Rattle.ix_postings.proofs.FitPostings.{fit_are}
 
 -- of no bytes, whatever is buffered
 pub none_spelled : {next after documents bytes : ℕ} (held later : List ℕ) → SpellsList next after documents (take bytes held) → bytes ≡ 0 → SpellsList next after documents (take bytes later)
@@ -22,8 +21,9 @@ nothing_spelled next held =
     record { are = told.are; last = sym (ap (λ (ps : List Posting). next_after next (documents_of ps)) told.told) }
 
 -- a list that was checked
-pub list_spelled : (rows : List DocumentRow) → length rows ≤ 2 ^ 28 → sum_by (λ row. row.tokens) rows ≤ 2 ^ 28 → {held : List ℕ} {size documents after : ℕ} {old new : TokenMarks} → MarksList rows held size documents after old new
+pub list_spelled : (rows : List DocumentRow) → length rows ≤ 2 ^ 28 → sum_by (λ row. row.tokens) rows ≤ 2 ^ 28 → {admits old new : List ℕ → Type 0} {held : List ℕ} {size documents after : ℕ}
+    → SeesList admits old new rows held size documents after
     → SpellsList 0 after documents (take size held)
-list_spelled rows few short {held} {size} {documents} list =
+list_spelled rows few short {held = held} {size = size} {documents = documents} list =
     let told = postings_from 0 documents (take size held) list.postings (fit_are rows (2 ^ 32 - 1) (omega (arith, few)) (omega (arith, short)) 0 list.postings list.fit) list.coded list.counted in
     record { are = told.are; last = list.next_is ∙ sym (ap (λ (ps : List Posting). next_after 0 (documents_of ps)) told.told) }

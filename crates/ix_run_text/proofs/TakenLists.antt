@@ -15,14 +15,14 @@ use Rattle.ix_vbyte.specs.Postings.{ArePostings, IsPosting, documents_of, list_b
 use Rattle.ix_vbyte.proofs.Postings.{posting_apart}
 use Rattle.ix_run_text.specs.Heads.{Heading, heading_of}
 use Rattle.ix_run_text.specs.Inputs.{bytes_held, known_left}
-use Rattle.ix_run_text.specs.MarkedLists.{PostingsFit}
+use Rattle.ix_postings.specs.NextPostings.{PostingsFit}
 use Rattle.ix_run_text.specs.Reading.{LieAhead, LieBehind, MayLieAhead, Standing, Told, bytes_ahead, postings_ahead, standing}
 use Rattle.ix_run_text.specs.RunText.{term_bytes}
 use Rattle.ix_run_text.specs.Sources.{AreWhole, IsLawfulFront, closed, entry_with, extended}
 use Rattle.ix_run_text.specs.declared.input.Input.{Input}
 use Rattle.ix_run_text.specs.declared.run_reader.Place.TheVariants.{AtTerm}
 use Rattle.ix_run_text.specs.declared.run_reader.RunReader.{RunReader}
-use Rattle.ix_run_text.proofs.FitPostings.{fit_are}
+use Rattle.ix_postings.proofs.FitPostings.{fit_are}
 use Rattle.ix_run_text.proofs.ReadFronts.{closed-none, extended-nil, front_more, numbers_more}
 use Rattle.ix_run_text.proofs.ReadSteps.{last_stays, no_entry, not_ended, spelled_before, term_at_hand}
 use Rattle.ix_run_text.proofs.ReadWholes.{closed-given}

@@ -1,12 +1,12 @@
+pub mod Calls
+pub mod CheckedLists
 pub mod CodeFaults
 pub mod Faults
 pub mod Heads
 pub mod Inputs
 pub mod Laws
-pub mod MarkedLists
 pub mod Orders
 pub mod Pieces
-pub mod ReadPostings
 pub mod ReadTables
 pub mod ReadTerms
 pub mod Reading

@@ -8,7 +8,7 @@ use Rattle.ix_vbyte.specs.Postings.{documents_of, list_bytes_from, shifted}
 use Rattle.ix_vbyte.specs.Walking.{postings_told}
 use Rattle.ix_run_text.specs.Heads.{Heading, heading_of}
 use Rattle.ix_run_text.specs.Inputs.{bytes_held, known_left}
-use Rattle.ix_run_text.specs.MarkedLists.{IsChecked}
+use Rattle.ix_run_text.specs.CheckedLists.{IsChecked}
 use Rattle.ix_run_text.specs.RunText.{term_bytes}
 use Rattle.ix_run_text.specs.Sources.{AreWhole, IsLawfulFront, closed, extended}
 use Rattle.ix_run_text.specs.declared.run_reader.Place.{Place}

@@ -9,7 +9,6 @@ mod input;
 mod laws;
 mod list;
 mod listed;
-mod marking;
 mod rows;
 mod run_reader;
 mod run_text_error;
@@ -21,7 +20,8 @@ mod token_counts;
 pub use head::{RunDoc, RunHead};
 pub use ix_vbyte::VbError;
 pub use laws::{
-    no_run_text_begins_another, run_text_has_eighteen_bytes, run_text_tells_collection,
+    no_run_text_begins_another, run_text_has_eighteen_bytes, run_text_is_read,
+    run_text_tells_collection, what_is_read_is_run_text,
 };
 pub use listed::{ListError, Listed};
 pub use run_reader::RunReader;

@@ -1,21 +1,20 @@
 //! Reading the list of a term.
-ghost use Rattle.std.specs.Prelude.{◌≡◌, ◌≤◌, ◌++◌, List, ℕ, Some, IfOk, IfErr, OnOk, length};
+ghost use Rattle.std.specs.Prelude.{◌≡◌, ◌≤◌, ◌++◌, ◌↔◌, List, ℕ, Some, IfOk, IfErr, OnOk, length};
 ghost use Rattle.std.specs.Io.KnownBytes.{Keeps};
 ghost use Rattle.ix_text.specs.Parts.{DocumentRow, Posting};
-ghost use Rattle.ix_postings.specs.TokenMarks.{HoldsNumbers, room};
 ghost use Rattle.ix_text.specs.TokenNumbers.{AreDistinct, numbers_of_postings};
+ghost use Rattle.ix_postings.specs.CheckedLists.{SeesList};
+ghost use Rattle.ix_postings.specs.NextPostings.{HaveRoom, PostingsFit};
+ghost use Rattle.ix_postings.specs.TokenMarks.{HoldsNumbers, room};
 ghost use Rattle.ix_postings.specs.TokenTables.{HasTokens};
 ghost use Rattle.ix_vbyte.specs.Postings.{list_bytes};
 ghost use Rattle.ix_run_text.specs.Inputs.{bytes_held, known_left};
-ghost use Rattle.ix_run_text.specs.MarkedLists.{MarksList, PostingsFit};
-ghost use Rattle.ix_run_text.specs.ReadPostings.{HaveRoom};
 ghost use Rattle.ix_run_text.specs.RunTextErrors.{IsRefusal};
 
 use crate::RunTextError;
 use crate::input::Input;
-use crate::marking::check_list;
 use crate::term::TermCounts;
-use ix_postings::{TokenMarks, TokenTable};
+use ix_postings::{ListFault, TokenMarks, TokenTable, check_list};
 use ix_vbyte::VbError;
 use std::io::Read;
 
@@ -31,14 +30,14 @@ pub(crate) fn read_list<R: Read>(
     tokens: &TokenTable,
     marks: &mut TokenMarks,
 ) -> Result<u32, RunTextError>
-    requires { HaveRoom tokens.now marks.old }
+    requires { HaveRoom tokens.now (λ top. top ≤ room marks.old) }
     ensures kept { OnOk result (Keeps (known_left R.remaining input.old)
         (known_left R.remaining input.new)) }
     ensures held { OnOk result (counts.bytes ≤ length (bytes_held input.new)) }
-    ensures marked { IfOk result (λ after. (rows : List DocumentRow) → HasTokens tokens.now rows
-        → MarksList rows (bytes_held input.new) counts.bytes counts.documents after
-        marks.old marks.new) }
-    ensures room { room marks.new ≡ room marks.old }
+    ensures read { IfOk result (λ after. (rows : List DocumentRow) → HasTokens tokens.now rows
+        → SeesList AreDistinct (HoldsNumbers marks.old) (HoldsNumbers marks.new) rows
+        (bytes_held input.new) counts.bytes counts.documents after) }
+    ensures room { (top : ℕ) → (top ≤ room marks.old) ↔ (top ≤ room marks.new) }
     ensures accepted { (rows : List DocumentRow) (numbers : List ℕ) (postings : List Posting)
         (rest : List ℕ) → HasTokens tokens.now rows → HoldsNumbers marks.old numbers
         → PostingsFit rows 0 postings → AreDistinct (numbers ++ numbers_of_postings rows postings)
@@ -59,14 +58,14 @@ pub(crate) fn read_list<R: Read>(
         Ok(after) if filled.is_ok() => Ok(after),
         Ok(_) => Err(RunTextError::ListLength),
         Err(fault) => match fault {
-            RunTextError::Number(number) => match number {
+            ListFault::Number(number) => match number {
                 VbError::Cut => {
                     filled?;
                     Err(RunTextError::ListLength)
                 }
-                _ => Err(fault),
+                _ => Err(RunTextError::Number(number)),
             },
-            _ => Err(fault),
+            _ => Err(RunTextError::from(fault)),
         },
     }
 }

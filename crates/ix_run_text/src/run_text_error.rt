@@ -1,6 +1,9 @@
 //! Why a run text could not be read.
 ghost use Rattle.std.specs.Prelude.{◌≡◌};
+ghost use Rattle.ix_postings.specs.declared.list_fault.ListFault.TheVariants.{Memory as NoMemory};
+ghost use Rattle.ix_run_text.specs.declared.run_text_error.RunTextError.TheVariants.{Memory};
 
+use ix_postings::ListFault;
 use ix_vbyte::VbError;
 use std::alloc::{AllocError, AllocFailed};
 use std::{error, fmt};
@@ -109,9 +112,6 @@ impl fmt::Display for RunTextError {
 impl error::Error for RunTextError {}
 
 impl<T: Drop> From<AllocFailed<T>> for RunTextError {
-    ghost use Rattle.std.specs.Prelude.{◌≡◌};
-    ghost use Rattle.ix_run_text.specs.declared.run_text_error.RunTextError.TheVariants.{Memory};
-
     ghost from_gives = { λ _ e. e ≡ Memory };
 
     fn from(_error: AllocFailed<T>) -> RunTextError {
@@ -120,12 +120,25 @@ impl<T: Drop> From<AllocFailed<T>> for RunTextError {
 }
 
 impl From<AllocError> for RunTextError {
-    ghost use Rattle.std.specs.Prelude.{◌≡◌};
-    ghost use Rattle.ix_run_text.specs.declared.run_text_error.RunTextError.TheVariants.{Memory};
-
     ghost from_gives = { λ _ e. e ≡ Memory };
 
     fn from(_error: AllocError) -> RunTextError {
         RunTextError::Memory
+    }
+}
+
+impl From<ListFault> for RunTextError {
+    ghost from_gives = { λ fault error. fault ≡ NoMemory → error ≡ Memory };
+
+    fn from(fault: ListFault) -> RunTextError {
+        match fault {
+            ListFault::Number(fault) => RunTextError::Number(fault),
+            ListFault::Zero => RunTextError::Zero,
+            ListFault::DocRange => RunTextError::DocRange,
+            ListFault::PositionRange => RunTextError::PositionRange,
+            ListFault::Doubled => RunTextError::Doubled,
+            ListFault::ListLength => RunTextError::ListLength,
+            ListFault::Memory => RunTextError::Memory,
+        }
     }
 }

@@ -95,8 +95,10 @@ fn drafts_that_are_left_and_drafts_that_are_locked(rt: HostRuntime) -> Result<()
     let third = format!(in rt.alloc(); "{folder}/.out.ix-3")?;
     fs::write(&rt, path.as_str(), b"old")?;
     fs::write(&rt, first.as_str(), b"left")?;
+    fs::write(&rt, second.as_str(), b"left")?;
     // What was left is removed, and its number is taken again.
     let one = begin_output(rt.alloc(), &mut files, path.as_str())?;
+    assert!(rt; !is_there(&rt, second.as_str()));
     let other = begin_output(rt.alloc(), &mut files, path.as_str())?;
     assert!(rt; !is_there(&rt, first.as_str()) || !holds(&rt, first.as_str(), b"left")?);
     assert!(rt; is_there(&rt, second.as_str()));

@@ -1,5 +1,5 @@
 //! The documents of an index text.
-ghost use Rattle.std.specs.Prelude.{◌≡◌, ◌≢◌, ◌⊎◌, ◌↔◌, ℕ, ◌+◌, ◌^◌, ◌<◌, ◌≤◌, ◌++◌, List, length, IsTrue, All, IfOk, IfErr, OnErr};
+ghost use Rattle.std.specs.Prelude.{◌≡◌, ◌≢◌, ◌⊎◌, ◌↔◌, ℕ, ◌+◌, ◌^◌, ◌<◌, ◌++◌, List, length, IsTrue, All, IfOk, IfErr, OnErr};
 ghost use Rattle.ix_vbyte.specs.Code.{code_of};
 ghost use Rattle.ix_vbyte.specs.Texts.{counted};
 ghost use Rattle.ix_text.specs.Collections.{IsName, IsNameByte};

@@ -1,5 +1,5 @@
 //! The frame of an index text: its marks, and the trailer that says how long the sections are.
-ghost use Rattle.std.specs.Prelude.{◌≡◌, ◌≢◌, ◌↔◌, ℕ, ◌+◌, ◌^◌, ◌<◌, ◌≤◌, ◌++◌, List, length, IsTrue, MatchOption, IfOk, IfErr, OnErr};
+ghost use Rattle.std.specs.Prelude.{◌≡◌, ◌≢◌, ◌↔◌, ℕ, ◌+◌, ◌^◌, ◌<◌, ◌≤◌, ◌++◌, List, length, IsTrue, MatchOption, IfOk, OnErr};
 ghost use Rattle.ix_file.specs.Frames.{IsCutInto, FileSectionTexts, counts, eight, framed, joined_sections, lengths, texts_in, version_in};
 ghost use Rattle.ix_index_text.specs.IndexText.{end_mark, magic};
 ghost use Rattle.ix_index_text.specs.Sections.{Version as FormatVersion};

@@ -3,7 +3,7 @@
 ghost use Rattle.std.specs.Prelude.{◌≡◌, ◌⊎◌, ◌↔◌, ℕ, ◌-◌, ◌^◌, ◌<◌, ◌≤◌, List, [], map, IfNone, All, IsUtf8, IfOk, IfErr, IfSome, IsTrue, length};
 ghost use Rattle.ix_text.specs.ByteOrder.{IsAscending};
 ghost use Rattle.ix_file.specs.GramSides.{IsKeyOf};
-ghost use Rattle.ix_file.specs.GramWalks.{AreRowsOn, Finds, HasRead, HaveRead, IsAtEnd, IsNoGram, IsRowKey, IsRowOn, IsRowOfTerms, Reads, Sees, Walks};
+ghost use Rattle.ix_file.specs.GramWalks.{AreRowsOn, Finds, HasRead, HaveRead, IsAtEnd, IsNoGram, IsRowKey, IsRowOn, Reads, Sees, Walks};
 ghost use Rattle.ix_file.specs.OpenedGrams.{AreCutRows, IsRightRow, LiesIn, gram_in};
 ghost use Rattle.ix_file.specs.PlacedTerms.{terms_in};
 ghost use Rattle.ix_file.specs.declared.open.sides.Side.{Side as SeenSide};

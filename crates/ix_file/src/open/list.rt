@@ -1,11 +1,12 @@
 //! One list of an index text.
-ghost use Rattle.std.specs.Prelude.{◌≡◌, ◌⊎◌, ℕ, ◌<◌, [], ◌∷◌, ◌++◌, List, IfOk, IfErr, OnOk};
+ghost use Rattle.std.specs.Prelude.{◌≡◌, ◌⊎◌, ℕ, ◌*◌, ◌<◌, ◌≤◌, [], ◌∷◌, ◌++◌, List, length, IfOk, IfErr, OnOk};
 ghost use Rattle.ix_vbyte.specs.Skips.{AreSkipsIn};
 ghost use Rattle.ix_text.specs.Parts.{DocumentRow, Posting};
 ghost use Rattle.ix_text.specs.TokenNumbers.{numbers_of_postings};
 ghost use Rattle.ix_postings.specs.NextPostings.{HaveRoom};
 ghost use Rattle.ix_postings.specs.TokenTables.{HasTokens};
 ghost use Rattle.ix_file.specs.Claimed.{HasClaimed, HasRoom, HaveClaimed};
+ghost use Rattle.ix_file.specs.LongLists.{HasRoomFor};
 ghost use Rattle.ix_file.specs.ReadLists.{AreListedIn};
 ghost use Rattle.ix_file.specs.declared.open_error.OpenError.TheVariants.{Memory};
 
@@ -42,6 +43,7 @@ pub(crate) fn check_list(
         (postings : List Posting) × AreListedIn rows documents bytes.now postings
         × HaveClaimed claims.old claims.new (numbers_of_postings rows postings)) }
     ensures entered { IfOk result (λ skips. AreSkipsIn documents bytes.now skips.items) }
+    ensures few { IfOk result (λ skips. 128 * length skips.items ≤ length bytes.now) }
     ensures room { (top : ℕ) → HasRoom claims.old top → HasRoom claims.new top }
     ensures refused { IfErr result (λ error. (error ≡ Memory)
         ⊎ ((rows : List DocumentRow) (postings : List Posting) → HasTokens tokens.now rows →
@@ -70,7 +72,9 @@ pub(crate) fn check_list(
 
 /// A place of a list is kept if fewer bytes than these are left: none of a list that is not long.
 #[inline]
-fn first_end(bytes: &[u8]) -> usize {
+fn first_end(bytes: &[u8]) -> usize
+    ensures { HasRoomFor (length bytes.now) 0 result }
+{
     if bytes.len() < LONG {
         0
     } else {
@@ -81,8 +85,11 @@ fn first_end(bytes: &[u8]) -> usize {
 /// Keeps a place of a list if fewer bytes are left from it on than `end`. Returns this bound for the next.
 #[inline(always)]
 fn keep_place(skips: &mut Vec<Skip>, place: Skip, end: usize) -> Result<usize, AllocError>
-    ensures { OnOk result ((skips.new.items ≡ skips.old.items)
+    ensures kept { OnOk result ((skips.new.items ≡ skips.old.items)
         ⊎ (skips.new.items ≡ skips.old.items ++ place ∷ [])) }
+    ensures few { IfOk result (λ rest. (bytes : ℕ) →
+        HasRoomFor bytes (length skips.old.items) end →
+        HasRoomFor bytes (length skips.new.items) rest) }
 {
     if place.size >= end {
         return Ok(end);

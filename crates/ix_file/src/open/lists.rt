@@ -5,7 +5,7 @@ ghost use Rattle.ix_postings.specs.NextPostings.{HaveRoom};
 ghost use Rattle.ix_postings.specs.TokenTables.{HasTokens};
 ghost use Rattle.ix_file.specs.Claimed.{HasClaimed, HasRoom, mark_count};
 ghost use Rattle.ix_file.specs.ReadListings.{AreLaidOut, HasListedCounts, listings_in, sizes_sum};
-ghost use Rattle.ix_file.specs.LongLists.{IsLongIn};
+ghost use Rattle.ix_file.specs.LongLists.{IsLongIn, bytes_before, place_count};
 ghost use Rattle.ix_file.specs.ReadLists.{AreClaimedLists, AreListsIn};
 ghost use Rattle.ix_file.specs.declared.open.claims.Claims.{Claims};
 ghost use Rattle.ix_file.specs.declared.open_error.OpenError.TheVariants.{Memory};
@@ -42,6 +42,7 @@ pub(crate) fn check_lists(
         (lists : List (List Posting)) × AreListsIn rows section.now terms.now lists) }
     ensures entered { IfOk result (λ longs.
         All (IsLongIn section.now terms.now) longs.items) }
+    ensures few { IfOk result (λ longs. place_count longs.items ≤ length section.now) }
     ensures refused { IfErr result (λ error. (error ≡ Memory)
         ⊎ ((rows : List DocumentRow) (lists : List (List Posting)) → HasTokens tokens.now rows →
         ¬ (AreListsIn rows section.now terms.now lists))) }
@@ -74,6 +75,7 @@ pub(crate) fn check_lists_beside<R: Threads>(
         (lists : List (List Posting)) × AreListsIn rows section.now terms.now lists) }
     ensures entered { IfOk result (λ longs.
         All (IsLongIn section.now terms.now) longs.items) }
+    ensures few { IfOk result (λ longs. place_count longs.items ≤ length section.now) }
     ensures refused { IfErr result (λ error. (error ≡ Memory)
         ⊎ ((rows : List DocumentRow) (lists : List (List Posting)) → HasTokens tokens.now rows →
         ¬ (AreListsIn rows section.now terms.now lists))) }
@@ -98,6 +100,9 @@ pub(crate) fn check_lists_beside<R: Threads>(
             (slice_range terms.entry.now front.0 front.1) read.1) }
         ensures entered { IfOk result (λ read.
             All (IsLongIn section.entry.now terms.entry.now) read.0.items) }
+        ensures few { IfOk result (λ read.
+            bytes_before terms.entry.now front.0 + place_count read.0.items
+            ≤ bytes_before terms.entry.now front.1) }
         ensures refused { IfErr result (λ error. (error ≡ Memory)
             ⊎ ((rows : List DocumentRow) (lists : List (List Posting)) →
             HasTokens tokens.entry.now rows →
@@ -116,6 +121,9 @@ pub(crate) fn check_lists_beside<R: Threads>(
             (slice_range terms.entry.now back.0 back.1) read.1) }
         ensures entered { IfOk result (λ read.
             All (IsLongIn section.entry.now terms.entry.now) read.0.items) }
+        ensures few { IfOk result (λ read.
+            bytes_before terms.entry.now back.0 + place_count read.0.items
+            ≤ bytes_before terms.entry.now back.1) }
         ensures refused { IfErr result (λ error. (error ≡ Memory)
             ⊎ ((rows : List DocumentRow) (lists : List (List Posting)) →
             HasTokens tokens.entry.now rows →
@@ -168,6 +176,7 @@ fn check_all(
         (lists : List (List Posting)) × AreListsIn rows section.now terms.now lists) }
     ensures entered { IfOk result (λ longs.
         All (IsLongIn section.now terms.now) longs.items) }
+    ensures few { IfOk result (λ longs. place_count longs.items ≤ length section.now) }
     ensures refused { IfErr result (λ error. (error ≡ Memory)
         ⊎ ((rows : List DocumentRow) (lists : List (List Posting)) → HasTokens tokens.now rows →
         ¬ (AreListsIn rows section.now terms.now lists))) }
@@ -195,6 +204,9 @@ fn check_part(
     ensures found { IfOk result (λ read. (rows : List DocumentRow) → HasTokens tokens.now rows →
         AreClaimedLists rows section.now (slice_range terms.now range.0 range.1) read.1) }
     ensures entered { IfOk result (λ read. All (IsLongIn section.now terms.now) read.0.items) }
+    ensures few { IfOk result (λ read.
+        bytes_before terms.now range.0 + place_count read.0.items
+        ≤ bytes_before terms.now range.1) }
     ensures refused { IfErr result (λ error. (error ≡ Memory)
         ⊎ ((rows : List DocumentRow) (lists : List (List Posting)) → HasTokens tokens.now rows →
         ¬ (AreListsIn rows section.now terms.now lists))) }
@@ -225,6 +237,9 @@ fn check_range(
     ensures found { IfOk result (λ read. (rows : List DocumentRow) → HasTokens tokens.now rows →
         AreClaimedLists rows section.now (slice_range terms.now range.0 range.1) read.1) }
     ensures entered { IfOk result (λ read. All (IsLongIn section.now terms.now) read.0.items) }
+    ensures few { IfOk result (λ read.
+        bytes_before terms.now range.0 + place_count read.0.items
+        ≤ bytes_before terms.now range.1) }
     ensures refused { IfErr result (λ error. (error ≡ Memory)
         ⊎ ((rows : List DocumentRow) (lists : List (List Posting)) → HasTokens tokens.now rows →
         ¬ (AreListsIn rows section.now terms.now lists))) }
@@ -244,8 +259,10 @@ fn check_range(
 /// Keeps the places of the list of a term, if there are any.
 #[inline]
 fn keep_long(longs: &mut Vec<LongList>, number: usize, skips: Vec<Skip>) -> Result<(), AllocError>
-    ensures { OnOk result ((longs.new.items ≡ longs.old.items) ⊎ (longs.new.items
+    ensures kept { OnOk result ((longs.new.items ≡ longs.old.items) ⊎ (longs.new.items
         ≡ longs.old.items ++ record { number = number; skips = skips } ∷ [])) }
+    ensures few { OnOk result (place_count longs.new.items
+        ≤ place_count longs.old.items + 2 * length skips.items) }
 {
     if skips.is_empty() {
         return Ok(());

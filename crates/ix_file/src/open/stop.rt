@@ -1,5 +1,5 @@
 //! The stop terms of an index text.
-ghost use Rattle.std.specs.Prelude.{◌≡◌, ◌≢◌, ◌↔◌, ◌⊎◌, ℕ, ◌∷◌, [], ◌++◌, List, map, length, IsTrue, MatchOption, ⊤, IfOk, IfErr, OnOk, string_bytes};
+ghost use Rattle.std.specs.Prelude.{◌≡◌, ◌≢◌, ◌↔◌, ◌⊎◌, ℕ, ◌∷◌, [], ◌++◌, List, map, IsTrue, MatchOption, ⊤, IfOk, IfErr, OnOk, string_bytes};
 ghost use Rattle.ix_vbyte.specs.Texts.{counted};
 ghost use Rattle.ix_text.specs.ByteOrder.{IsAscending};
 ghost use Rattle.ix_text.specs.StopSets.{IsStopSet};

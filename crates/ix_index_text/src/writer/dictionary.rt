@@ -1,7 +1,6 @@
 //! The dictionary as it grows: front coded in groups of four (Introduction to Information Retrieval, 5.2.2).
 ghost use Rattle.std.specs.Prelude.{◌≡◌, ◌≤◌, ◌<◌, ◌+◌, ◌-◌, ◌^◌, ◌++◌, [], length, nat_eq, OnOk};
 ghost use Rattle.std.specs.List.{common_prefix_len};
-ghost use Rattle.ix_vbyte.specs.Code.{code_of};
 ghost use Rattle.ix_index_text.specs.Sections.{grouped};
 
 use crate::layout::GROUP;

@@ -5,7 +5,6 @@ use Rattle.ix_file.specs.IndexText.{IsIndexText}
 use Rattle.ix_file.specs.Opened.{IsIndexOf}
 use Rattle.ix_file.specs.Sections.{FrontCoded, Version}
 use Rattle.ix_ask.proofs.HeadlineLemmas.{AreAlone, found_is_answered, the_answer}
-use Rattle.ix_ask.proofs.OneTextLemmas.{one_index_text}
 use Rattle.ix_ask.proofs.laws.what_is_built_opens_and_answers.Goals as goal
 
 pub returns-clause-built : goal.returns-clause-built
@@ -14,7 +13,7 @@ returns-clause-built c = λ text bytes stop documents read writes.
 
 pub returns-clause-one_text : goal.returns-clause-one_text
 returns-clause-one_text c = λ bytes others stop documents writes again.
-    let same = one_index_text FrontCoded (collection_of stop documents) writes.text again.text writes.of_collection again.of_collection in
+    let same = c.collection_has_one_index_text.ensures.one FrontCoded (collection_of stop documents) writes.text again.text writes.of_collection again.of_collection in
     writes.written ∙ same ∙ sym again.written
 
 pub returns-clause-opened : goal.returns-clause-opened

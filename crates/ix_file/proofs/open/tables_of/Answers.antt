@@ -27,6 +27,7 @@ returns c =
       lists = c.requires.longs.lists;
       listed = c.requires.longs.listed;
       longs = c.requires.longs.entered;
+      few_places = c.requires.longs.few;
       of_terms = c.requires.grams.of_terms;
       grams = c.requires.grams.spelled;
       gaps = c.requires.grams.gaps;

@@ -1,4 +1,4 @@
-use Rattle.std.proofs.Common.{◌≡◌, ℕ, List, Some, inl, inr, ap, sym, ◌∙◌}
+use Rattle.std.proofs.Common.{◌≡◌, ℕ, List, Some, inl, inr, ap, ◌∙◌}
 use Rattle.ix_files.specs.Drafts.{IsUnfinished, own_of, target_of}
 use Rattle.ix_files.specs.Slots.{Growing, at_rest}
 use Rattle.ix_files.proofs.Finishing.{after_folder, after_remove, after_rename, after_sync, of_any, synced_now}
@@ -58,7 +58,7 @@ returns-clause-done g c honest text known =
     let is_kept = synced_now text _ _ known (c.in-Ok.ensures.synced (c.rename.ensures.call.honest renamed)) in
     let renames = c.in_default.ensures.renamed renamed in
     record {
-      there = settles.inside (target_of c.args.draft) (sym c.folder.ensures) ∙ ap at_rest (ap (λ slot. slot.now) renames.there ∙ is_kept);
+      there = settles.inside (target_of c.args.draft) (cc) ∙ ap at_rest (ap (λ slot. slot.now) renames.there ∙ is_kept);
       gone = settled_now _ _ _ settles (own_of c.args.draft) ∙ ap (λ slot. slot.now) renames.gone;
     }
 

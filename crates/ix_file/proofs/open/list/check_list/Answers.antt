@@ -20,6 +20,7 @@ loop-document-init c = record {
   read = λ rows has. read_no_posting rows c.args.bytes.now c.args.claims.now;
   goes_on = λ rows postings has listed. list_goes_on rows c.args.documents c.args.bytes.now postings listed;
   entered = λ postings are counted coded. rw c.new-skips.ensures.items (no_skips postings);
+  few = rw c.new-skips.ensures.items c.first_end-end.ensures;
   near = omega arith;
   claimed = c.requires.claimed;
   room = λ top has. has;
@@ -81,8 +82,9 @@ loop-document-preserved c =
       entered = λ postings are counted coded.
           let few : AreFew ready.rows = record { documents = ready.few_documents; tokens = ready.few_tokens } in
           let before = loop.invariant.read ready.rows ready.has in
-          place_kept postings loop.skips.items c.keep_place.new.skips.items _ (loop.invariant.entered postings are counted coded) c.in_ok-end.ensures
+          place_kept postings loop.skips.items c.keep_place.new.skips.items _ (loop.invariant.entered postings are counted coded) c.in_ok-end.ensures.kept
           (place_stands ready.rows loop.next loop.document c.args.documents c.args.bytes.now left before.postings postings few before.have c.loop-document-test.true are counted coded);
+      few = c.in_ok-end.ensures.few (length c.args.bytes.now) loop.invariant.few;
       near = near_next ready.rows loop.next posting (read.fits ready.rows ready.has) ready.few_documents;
       claimed = (_, (read.seen ready.rows ready.has loop.invariant.claimed.0 loop.invariant.claimed.1 tt).1);
       room = λ top has. (c.check_posting.ensures.room top).0 (loop.invariant.room top has);
@@ -115,3 +117,6 @@ returns-clause-room c = c.loop-document.invariant.room
 
 pub returns-clause-entered : goal.returns-clause-entered
 returns-clause-entered c = c.loop-document.invariant.entered
+
+pub returns-clause-few : goal.returns-clause-few
+returns-clause-few c = c.loop-document.invariant.few.few

@@ -1,7 +1,9 @@
-use Rattle.std.proofs.Common.{◌++◌, inr, sym}
+use Rattle.std.proofs.Common.{◌+◌, ◌++◌, length, inr, sym, ap, arith}
 use Rattle.std.proofs.lemmas.List.Elements.{All-append}
-use Rattle.ix_file.specs.LongLists.{IsLongIn}
-use Rattle.ix_file.proofs.AllLists.{AreReadBeside, lists_are_beside, lists_are_not_beside, read_beside}
+use Rattle.std.proofs.lemmas.List.Sums.{sum_by-append}
+use Rattle.ix_file.specs.LongLists.{IsLongIn, place_count}
+use Rattle.ix_file.specs.declared.open.tables.LongList.{LongList}
+use Rattle.ix_file.proofs.AllLists.{AreReadBeside, bytes_all, lists_are_beside, lists_are_not_beside, read_beside}
 use Rattle.ix_file.proofs.open.lists.check_lists_beside.Goals as goal
 
 pub returns-in-Some-true-clause-refused : goal.returns-in-Some-true-clause-refused
@@ -31,3 +33,18 @@ returns-in_ok-append-in-Some-false-clause-entered g c =
     let second = rw c.in_ok-more.was at c.join-first.ensures.second.1.0 in
     rw c.in_ok-append-in-Some-false.ensures.items
     (All-append (IsLongIn c.args.section.now c.args.terms.now) c.in_ok-longs.longs.items c.in_ok-more.more.items first second)
+
+pub returns-in_ok-append-in-Some-false-clause-few : goal.returns-in_ok-append-in-Some-false-clause-few
+returns-in_ok-append-in-Some-false-clause-few g c =
+    let first = rw c.in_ok-longs.was at c.join-first.ensures.first.1.1.0 in
+    let second = rw c.in_ok-more.was at c.join-first.ensures.second.1.1.0 in
+    let entries = λ (long : LongList). 1 + length long.skips.items in
+    omega (
+      arith,
+      first,
+      second,
+      ap place_count c.in_ok-append-in-Some-false.ensures.items,
+      sum_by-append entries c.in_ok-longs.longs.items c.in_ok-more.more.items,
+      bytes_all c.args.terms.now c.len.result (sym c.len.ensures.count),
+      c.requires.whole,
+    )

@@ -1,11 +1,11 @@
-use Rattle.std.proofs.Common.{◌<◌, [], length, inl, inr, refl, ap, ⊎_elim, arith}
+use Rattle.std.proofs.Common.{◌≡◌, ℕ, ◌+◌, ◌<◌, ◌≤◌, [], length, inl, inr, refl, ap, subst, ⊎_elim, arith}
 use Rattle.std.proofs.lemmas.Result.{err_from_is_err_and}
 use Rattle.std.proofs.lemmas.List.Elements.{All-nil}
 use Rattle.ix_vbyte.specs.Skips.{AreSkipsIn}
-use Rattle.ix_file.specs.LongLists.{IsLongIn}
+use Rattle.ix_file.specs.LongLists.{IsLongIn, bytes_before, place_count}
 use Rattle.ix_file.specs.ReadLists.{AreListedIn}
 use Rattle.ix_file.specs.declared.open.tables.LongList.{LongList}
-use Rattle.ix_file.proofs.AllLists.{counts_at, list_within, claimed_lists, no_list, read_none_from, read_one_list}
+use Rattle.ix_file.proofs.AllLists.{bytes_more, counts_at, list_within, claimed_lists, no_list, range_size, read_none_from, read_one_list}
 use Rattle.ix_file.proofs.ListEntering.{long_in, long_kept}
 use Rattle.ix_file.proofs.PlacedLemmas.{from_term, term_at, to_term}
 use Rattle.ix_file.specs.declared.open.terms.ListPlace.{ListPlace}
@@ -15,6 +15,7 @@ pub loop-number-init : goal.loop-number-init
 loop-number-init c = record {
   read = λ rows has. read_none_from rows c.args.section.now c.args.terms.now c.args.range.0 c.args.claims;
   entered = rw c.new-longs.ensures.items (All-nil (IsLongIn c.args.section.now c.args.terms.now));
+  few = rw c.new-longs.ensures.items (omega arith);
   room = λ top has. has;
 }
 
@@ -72,8 +73,20 @@ loop-number-preserved c =
       entered =
           let long : LongList = record { number = c.loop-number.number; skips = c.in_ok-skips.skips } in
           let skips = to_term (λ documents bytes. AreSkipsIn documents bytes c.in_ok-skips.skips.items) section at.term c.list-place.result c.list_of-list.result.now at.is c.list_of-list.ensures c.in_ok-skips.ensures.entered in
-          long_kept section c.args.terms.now c.loop-number.longs.items c.keep_long.new.longs.items long c.loop-number.invariant.entered c.in_ok-keep_long.ensures
+          long_kept section c.args.terms.now c.loop-number.longs.items c.keep_long.new.longs.items long c.loop-number.invariant.entered c.in_ok-keep_long.ensures.kept
           (long_in section c.args.terms.now c.loop-number.number at.term long refl at.read skips);
+      few =
+          let place = c.list-place.result in
+          omega (
+            arith,
+            c.loop-number.invariant.few,
+            c.in_ok-keep_long.ensures.few,
+            c.in_ok-skips.ensures.few,
+            range_size section place.start place.size,
+            ap length c.list_of-list.ensures,
+            bytes_more c.args.terms.now c.loop-number.number at.term low at.read,
+            ap (λ (p : ListPlace). p.size) at.is,
+          );
       room = λ top has. c.check_list.ensures.room top (c.loop-number.invariant.room top has);
     }
 
@@ -83,3 +96,8 @@ returns-clause-found c rows has =
 
 pub returns-clause-entered : goal.returns-clause-entered
 returns-clause-entered c = c.loop-number.invariant.entered
+
+pub returns-clause-few : goal.returns-clause-few
+returns-clause-few c =
+    let last : c.loop-number.number ≡ c.args.range.1 = omega arith in
+    subst (λ (n : ℕ). bytes_before c.args.terms.now c.args.range.0 + place_count c.loop-number.longs.items ≤ bytes_before c.args.terms.now n) last c.loop-number.invariant.few

@@ -6,7 +6,8 @@ use Rattle.std.specs.Io.KnownBytes.{Consumes}
 use Rattle.ix_vbyte.specs.Reading.{IsCut, IsTooBig, StartsWithCode, StartsWithZero}
 use Rattle.ix_vbyte.specs.Code.{code_of}
 use Rattle.ix_run_text.specs.Inputs.{known_left}
-use Rattle.ix_run_text.proofs.CodeLemmas.{big_stays, ends_here, fault_of_front, six_too_many, zero_stays}
+use Rattle.ix_postings.proofs.CodeFaults.{big_stays, zero_stays}
+use Rattle.ix_run_text.proofs.CodeLemmas.{ends_here, fault_of_front, six_too_many}
 use Rattle.ix_vbyte.proofs.Fronts.{cut_at_once}
 use Rattle.ix_run_text.proofs.input.Input.code_by_bytes.Goals as goal
 

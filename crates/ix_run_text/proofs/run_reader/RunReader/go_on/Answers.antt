@@ -12,8 +12,8 @@ use Rattle.ix_run_text.specs.RunText.{term_bytes}
 use Rattle.ix_run_text.specs.Sources.{entry_with}
 use Rattle.ix_run_text.specs.declared.run_reader.Place.TheVariants.{Ended}
 use Rattle.ix_run_text.proofs.ReadNext.{TakesEnd, TakesTerm, ahead_begun, ahead_over, begun, begun_ahead, behind_begun, behind_over, end_lies_next, entry_lies_next, known_kept, list_lies_next, over}
-use Rattle.ix_run_text.proofs.CheckedLists.{drained_on, list_checked, none_checked}
-use Rattle.ix_run_text.proofs.FitPostings.{near_fit}
+use Rattle.ix_run_text.proofs.CheckedLists.{drained_on, list_checked, none_checked, same_room}
+use Rattle.ix_postings.proofs.FitPostings.{near_fit}
 use Rattle.ix_run_text.proofs.ReadSkips.{closed-skipped, none_left_of}
 use Rattle.ix_run_text.proofs.SpelledSteps.{list_spelled, none_spelled}
 use Rattle.ix_run_text.proofs.TakenLists.{none_ahead}
@@ -87,7 +87,7 @@ returns-in_err-after-clause-accepted g c (entry ∷ entries) postings faces =
 pub invariant_of-self-in-Break-branch-2 : goal.invariant_of-self-in-Break-branch-2
 invariant_of-self-in-Break-branch-2 g c =
     let mid = c.skip.new.self in
-    let same = c.read_list.ensures.room in
+    let same = same_room c.read_list.ensures.room in
     let empty = none_ahead mid c.skip.ensures.drained in
     record {
       table = mid.table;
@@ -120,8 +120,8 @@ pub invariant_of-self-2 : goal.invariant_of-self-2
 invariant_of-self-2 g c =
     let mid = c.skip.new.self in
     let rows = (heading_of mid.head).rows in
-    let list = c.in_ok-after.ensures.marked rows mid.table in
-    let same = c.in_ok-after.ensures.room in
+    let list = c.in_ok-after.ensures.read rows mid.table in
+    let same = same_room c.in_ok-after.ensures.room in
     record {
       table = mid.table;
       few_documents = mid.few_documents;
@@ -148,7 +148,7 @@ returns-clause-begun g c =
     let documents = c.in-Some.counts.documents in
     let bytes = c.in-Some.counts.bytes in
     let checked : Checked = record { marks = c.read_list.new.marks; held = held } in
-    let list = c.in_ok-after.ensures.marked rows mid.table in
+    let list = c.in_ok-after.ensures.read rows mid.table in
     let told : (numbers : List ℕ) → Told (standing mid) numbers → Told (begun (standing mid) term documents bytes checked) numbers = λ numbers known.
     let before = none_checked rows mid.marks mid.next mid.documents mid.bytes (bytes_held mid.input) numbers drained known in
     list_checked rows mid.marks c.read_list.new.marks held bytes documents c.in_ok-after.after numbers list before.0 before.1 in
@@ -193,7 +193,7 @@ returns-clause-accepted g c (entry ∷ entries) postings faces =
     let documents = c.in-Some.counts.documents in
     let bytes = c.in-Some.counts.bytes in
     let checked : Checked = record { marks = c.read_list.new.marks; held = held } in
-    let list = c.in_ok-after.ensures.marked rows mid.table in
+    let list = c.in_ok-after.ensures.read rows mid.table in
     let told : (numbers : List ℕ) → Told (standing mid) numbers → Told (begun (standing mid) term documents bytes checked) numbers = λ numbers known.
     let before = none_checked rows mid.marks mid.next mid.documents mid.bytes (bytes_held mid.input) numbers drained known in
     list_checked rows mid.marks c.read_list.new.marks held bytes documents c.in_ok-after.after numbers list before.0 before.1 in

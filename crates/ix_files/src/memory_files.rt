@@ -1,0 +1,359 @@
+//! Files in memory.
+
+ghost use Rattle.std.specs.Prelude.{◌≡◌, ◌≢◌, Some, IfErr, IfOk, IfSome, OnOk};
+ghost use Rattle.std.specs.Io.Cursor.{cursor_remaining};
+ghost use Rattle.ix_files.specs.Locations.{place_of};
+ghost use Rattle.ix_files.specs.Opened.{IsReadError};
+ghost use Rattle.ix_files.specs.Steps.{Removes, Renames, Settles, Syncs};
+
+use crate::file_error::FileError;
+use crate::files::Files;
+use crate::kind::Kind;
+use crate::location::Location;
+use crate::memory_changes::{Change, Found, again, found_at};
+use crate::memory_writer::MemoryWriter;
+use std::alloc::{AllocError, Global};
+use std::io::Cursor;
+use std::sync::atomic::{AtomicUsize, Ordering};
+
+/// Files in memory, of which all that [`Files`] promises is proved. Tests fill them, read them, and let a call fail. They are all
+/// in one folder: a path is a name in it. A file that is being written is locked until it is synced.
+#[derive(Drop)]
+pub struct MemoryFiles {
+    alloc: Global,
+    // the latest first
+    changes: Vec<Change>,
+    faults: u64,
+    streams: Vec<Stream>,
+    room: usize,
+    calls: AtomicUsize,
+    failing: usize,
+}
+
+/// A device or a pipe: its path, and what it gives or was given last.
+#[derive(Drop)]
+struct Stream {
+    path: String,
+    bytes: Vec<u8>,
+}
+
+impl MemoryFiles {
+    ghost use Rattle.ix_files.specs.MemoryChanges.{entry_of};
+    ghost use Rattle.ix_files.specs.MemoryViews.{IsFault, IsMade, IsStep, memory_view, place_at};
+    ghost use Rattle.ix_files.specs.Slots.{IsSame, Kept};
+    ghost use Rattle.ix_files.specs.SystemViews.{no_files};
+    ghost use Rattle.ix_files.specs.declared.file_error.FileError.TheVariants.{Failed};
+
+    /// No files.
+    pub fn new(alloc: Global) -> MemoryFiles
+        ensures honest { (memory_view result).honest }
+        ensures empty { IsSame no_files (memory_view result).slots }
+    {
+        MemoryFiles {
+            alloc,
+            changes: Vec::new(alloc),
+            faults: 0,
+            streams: Vec::new(alloc),
+            room: usize::MAX,
+            calls: AtomicUsize::new(0),
+            failing: 0,
+        }
+    }
+
+    /// Puts a file with these bytes at a path, on the disk.
+    pub fn put(&mut self, path: &str, bytes: &[u8]) -> Result<(), AllocError>
+        ensures { OnOk result (((memory_view self.new).slots (place_at path.now)).now
+            ≡ Kept bytes.now) }
+    {
+        let at = self.location(path)?;
+        let bytes = Vec::from_slice(self.alloc, bytes)?;
+        self.changes.insert(0, Change::Synced(at, bytes))?;
+        Ok(())
+    }
+
+    /// Puts a device or a pipe at a path, which gives these bytes.
+    pub fn put_stream(&mut self, path: &str, bytes: &[u8]) -> Result<(), AllocError>
+        ensures { IsSame (memory_view self.old).slots (memory_view self.new).slots }
+    {
+        let path = String::from_str(self.alloc, path)?;
+        let bytes = Vec::from_slice(self.alloc, bytes)?;
+        self.streams.push(Stream { path, bytes })?;
+        Ok(())
+    }
+
+    /// From now on each writer takes at most this many bytes.
+    pub fn set_room(&mut self, room: usize)
+        ensures { IsSame (memory_view self.old).slots (memory_view self.new).slots }
+    {
+        self.room = room;
+    }
+
+    /// Of the calls from now on, lets that of this number fail, counted from 1; none, if it is 0.
+    pub fn fail_at(&mut self, number: usize)
+        ensures { IsSame (memory_view self.old).slots (memory_view self.new).slots }
+    {
+        self.calls = AtomicUsize::new(0);
+        self.failing = number;
+    }
+
+    /// How many calls there were since it was said which is to fail.
+    pub fn calls(&self) -> usize {
+        self.calls.load(Ordering::SeqCst)
+    }
+
+    /// The bytes of the file at a path, if there is one that nobody writes.
+    pub fn bytes(&self, path: &str) -> Option<&[u8]>
+        ensures { IfSome result (λ bytes. ((memory_view self.now).slots (place_at path.now)).now
+            ≡ Kept bytes.now) }
+    {
+        match found_at(&self.changes, "", path) {
+            Found::Kept(bytes) => Some(bytes),
+            Found::Nothing | Found::Growing => None,
+        }
+    }
+
+    /// What the device or the pipe at a path gives, or was given last.
+    pub fn stream_bytes(&self, path: &str) -> Option<&[u8]> {
+        for stream in self.streams.iter() {
+            if stream.path.as_str() == path {
+                return Some(&stream.bytes);
+            }
+        }
+        None
+    }
+
+    /// Counts a call, and returns whether it is the one that is to fail.
+    fn is_failing(&self) -> bool {
+        let before = self.calls.fetch_add(1, Ordering::SeqCst);
+        before.wrapping_add(1) == self.failing
+    }
+
+    /// The name to which a path leads.
+    fn location(&self, path: &str) -> Result<Location, AllocError>
+        ensures { IfOk result (λ location. place_of location ≡ place_at path.now) }
+    {
+        let name = String::from_str(self.alloc, path)?;
+        let location = Location::new(self.alloc, String::new(self.alloc), name)?;
+        Ok(location)
+    }
+
+    /// What is at a name.
+    fn found(&self, at: &Location) -> Found<'_>
+        ensures { entry_of result ≡ ((memory_view self.now).slots (place_of at.now)).now }
+    {
+        found_at(&self.changes, at.folder(), at.name())
+    }
+
+    /// What a path leads to, unless the call is to fail.
+    fn look(&self, path: &str) -> Result<Found<'_>, FileError>
+        ensures found { IfOk result (λ found. entry_of found
+            ≡ ((memory_view self.now).slots (place_at path.now)).now) }
+        ensures cause { IfErr result (IsReadError (Unit {0})) }
+    {
+        if self.is_failing() {
+            return Err(FileError::Failed);
+        }
+        Ok(found_at(&self.changes, "", path))
+    }
+
+    /// A reader of these bytes.
+    fn reader(&self, bytes: &[u8]) -> Result<Cursor<Vec<u8>>, FileError>
+        ensures opened { IfOk result (λ reader.
+            cursor_remaining (λ bytes. Some bytes.items) reader ≡ Some bytes.now) }
+        ensures cause { IfErr result (IsReadError (Unit {0})) }
+    {
+        let bytes = Vec::from_slice(self.alloc, bytes)?;
+        Ok(Cursor::new(bytes))
+    }
+
+    /// Counts a fault.
+    fn fail(&mut self) -> FileError
+        ensures fault { IsFault self.old self.new }
+        ensures failed { result ≡ Failed }
+    {
+        self.faults = self.faults.saturating_add(1);
+        FileError::Failed
+    }
+
+    /// Makes a change, if there is one and the call is not to fail.
+    fn make(&mut self, change: Option<Change>) -> Result<(), FileError>
+        ensures made { IsMade change result self.old self.new }
+        ensures failed { IfErr result (λ error. error ≡ Failed) }
+    {
+        let Some(change) = change else {
+            return Err(self.fail());
+        };
+        if self.is_failing() || self.changes.insert(0, change).is_err() {
+            return Err(self.fail());
+        }
+        Ok(())
+    }
+
+    /// The sync of a file with these bytes, if there is memory.
+    fn sync_of(&self, at: &Location, bytes: Vec<u8>) -> Option<Change>
+        ensures { IsStep (Syncs (place_of at.now) (Some bytes.items)) self.now result }
+    {
+        let at = again(self.alloc, at).ok()?;
+        Some(Change::Synced(at, bytes))
+    }
+
+    /// The renaming of a file, if there is one that nobody writes, and memory.
+    fn renaming_of(&self, from: &Location, to: &Location) -> Option<Change>
+        requires { (memory_view self.now).honest → place_of from.now ≢ place_of to.now }
+        ensures { IsStep (Renames (place_of from.now) (place_of to.now)) self.now result }
+    {
+        let Found::Kept(bytes) = self.found(from) else {
+            return None;
+        };
+        let bytes = Vec::from_slice(self.alloc, bytes).ok()?;
+        let from = again(self.alloc, from).ok()?;
+        let to = again(self.alloc, to).ok()?;
+        Some(Change::Renamed(from, to, bytes))
+    }
+
+    /// The removal of a file, if there is one, and memory.
+    fn removal_of(&self, at: &Location) -> Option<Change>
+        ensures { IsStep (Removes (place_of at.now)) self.now result }
+    {
+        if matches!(self.found(at), Found::Nothing) {
+            return None;
+        }
+        let at = again(self.alloc, at).ok()?;
+        Some(Change::Removed(at))
+    }
+
+    /// The sync of a folder, if there is memory.
+    fn folder_sync_of(&self, folder: &str) -> Option<Change>
+        ensures { IsStep (Settles folder.now) self.now result }
+    {
+        let folder = String::from_str(self.alloc, folder).ok()?;
+        Some(Change::Settled(folder))
+    }
+}
+
+impl Files for MemoryFiles {
+    ghost use Rattle.ix_files.specs.MemoryLaws.{now_counts, now_only, stop_again};
+    ghost use Rattle.ix_files.specs.MemoryViews.{memory_view};
+    ghost use Rattle.ix_files.specs.SystemViews.{nothing_sent};
+
+    type Reader = Cursor<Vec<u8>>;
+
+    type Writer = MemoryWriter;
+
+    type Held = ();
+
+    type Lock = ();
+
+    ghost view = { memory_view };
+
+    ghost sent = { λ _. nothing_sent };
+
+    ghost failed = { λ _ path. Unit {0} };
+
+    fn kind(&self, path: &str) -> Result<Kind, FileError> {
+        match self.look(path)? {
+            Found::Growing | Found::Kept(_) => Ok(Kind::File),
+            Found::Nothing => match self.stream_bytes(path) {
+                Some(_) => Ok(Kind::Stream),
+                None => Ok(Kind::Missing),
+            },
+        }
+    }
+
+    fn locate(&self, path: &str) -> Result<Location, FileError> {
+        if self.is_failing() {
+            return Err(FileError::Failed);
+        }
+        Ok(self.location(path)?)
+    }
+
+    fn is_same(&self, one: &str, other: &str) -> Result<bool, FileError> {
+        match self.look(one)? {
+            Found::Nothing => Ok(false),
+            Found::Growing | Found::Kept(_) => Ok(one == other),
+        }
+    }
+
+    fn open(&self, path: &str) -> Result<Cursor<Vec<u8>>, FileError> {
+        match self.look(path)? {
+            Found::Kept(bytes) => self.reader(bytes),
+            Found::Growing => Err(FileError::Failed),
+            Found::Nothing => match self.stream_bytes(path) {
+                Some(bytes) => self.reader(bytes),
+                None => Err(FileError::Failed),
+            },
+        }
+    }
+
+    fn lock_folder(&self, _path: &str) -> Result<(), FileError> {
+        if self.is_failing() {
+            return Err(FileError::Failed);
+        }
+        Ok(())
+    }
+
+    fn create(&mut self, at: &Location) -> Result<MemoryWriter, FileError> {
+        if !matches!(self.found(at), Found::Nothing) {
+            return Err(FileError::Exists);
+        }
+        let at = again(self.alloc, at)?;
+        self.make(Some(Change::Created(at)))?;
+        Ok(MemoryWriter::new(self.alloc, self.room))
+    }
+
+    fn dress(&mut self, _at: &Location, _like: &Location) {}
+
+    fn sync(&mut self, at: &Location, writer: MemoryWriter) -> Result<(), FileError> {
+        let change = self.sync_of(at, writer.bytes);
+        self.make(change)
+    }
+
+    fn rename(&mut self, from: &Location, to: &Location) -> Result<(), FileError> {
+        let change = self.renaming_of(from, to);
+        self.make(change)
+    }
+
+    fn remove(&mut self, at: &Location) -> Result<(), FileError> {
+        let change = self.removal_of(at);
+        self.make(change)
+    }
+
+    fn remove_unlocked(&mut self, at: &Location) -> bool {
+        if !matches!(self.found(at), Found::Kept(_)) {
+            return false;
+        }
+        let change = self.removal_of(at);
+        self.make(change).is_ok()
+    }
+
+    fn sync_folder(&mut self, folder: &str) -> Result<(), FileError> {
+        let change = self.folder_sync_of(folder);
+        self.make(change)
+    }
+
+    fn open_stream(&mut self, path: &str) -> Result<MemoryWriter, FileError> {
+        if self.is_failing() || self.stream_bytes(path).is_none() {
+            return Err(self.fail());
+        }
+        Ok(MemoryWriter::new(self.alloc, self.room))
+    }
+
+    fn close_stream(&mut self, path: &str, writer: MemoryWriter) -> Result<(), FileError> {
+        if self.is_failing() {
+            return Err(self.fail());
+        }
+        for stream in self.streams.iter_mut() {
+            if stream.path.as_str() == path {
+                stream.bytes = writer.bytes;
+                return Ok(());
+            }
+        }
+        Err(self.fail())
+    }
+
+    ghost counts_now = { λ files t left early stops. now_counts files.changes.items t left stops };
+
+    ghost only_now = { λ files left stops. now_only files.changes.items left stops };
+
+    ghost stops_again = { λ files t left after stops again. stop_again files.changes.items t left after stops again };
+}

@@ -1,5 +1,0 @@
-use Rattle.ix_run_text.proofs.MarkLemmas.{number_is}
-use Rattle.ix_run_text.proofs.marking.some_number.Goals as goal
-
-pub returns-in-Some-clause-accepted : goal.returns-in-Some-clause-accepted
-returns-in-Some-clause-accepted c number missing rest some fits e = number_is c.args.bytes.now missing c.in-Some.found.0 c.in-Some.found.1 number rest c.in-Some.ensures.found.spelled e
