@@ -396,7 +396,7 @@ if __name__ == "__main__":
         os.chdir(folder)
         os.chmod(folder, 0o755)
         make_inputs()
-        for part in (replaced, refused, full_disk, large, in_place, left_over, killed, beside):
+        for part in (replaced, refused, full_disk, large, apart, left_over, killed, beside):
             part()
         os.chdir("/")
     print("all as expected" if not failed else f"{failed} FAILED")
