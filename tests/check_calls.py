@@ -102,7 +102,10 @@ inverting = where(build, "invert")
 check("ix_build inverts in the bodies of its makers' `make` alone",
       sorted(set(inverting)) == [("block_maker.rt", "make"), ("saving_maker.rt", "make")], inverting)
 made = [(file, own) for file, own, body in build for _ in re.findall(r"\.make\(", body)]
-check("ix_build asks a maker at one place alone, in the workers' loop", made == [("worker.rt", "work")], made)
+check("ix_build asks no maker itself", made == [], made)
+pool = functions_of("ix_pool")
+made = [(file, own) for file, own, body in pool for _ in re.findall(r"\.make\(", body)]
+check("ix_pool asks a maker at one place alone, in the workers' loop", made == [("worker.rt", "work")], made)
 
 program = functions_of("ix_command")
 inverting = inverting_files("ix_command")
@@ -113,7 +116,7 @@ for goal in ["invert_all", "merge_into", "build_with_files"]:
 
 asking = functions_of("ix_ask")
 inverting = inverting_files("ix_ask")
-check("ix_ask inverts without threads alone, a whole collection and a part", inverting == ["alone.rt", "inverting.rt"], inverting)
+check("ix_ask inverts without threads alone, a whole collection and a part", inverting == ["alone.rt", "invert_part.rt"], inverting)
 check("`ask` of ix_ask reaches no `invert` of its own", not reaches(asking, "ask", "invert"))
 check("`ask` of ix_ask reaches `build`", reaches(asking, "ask", "build"))
 
