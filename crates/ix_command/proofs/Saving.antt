@@ -1,6 +1,6 @@
 -- An output that was begun, written and ended is what was written, and no other file changed.
-use Rattle.std.proofs.Common.{◌≡◌, ◌≢◌, ◌∙◌, ◌⊎◌, ℕ, List, [], ◌++◌, Option, Some, None, Result, Ok, Err, inl, inr, refl, sym, ap, subst}
-use Rattle.std.specs.Prelude.{OnOk, OnErr}
+use Rattle.std.proofs.Common.{◌≡◌, ◌≢◌, ◌∙◌, ◌⊎◌, ℕ, List, [], ◌++◌, Option, Some, None, Result, Ok, Err, inl, inr, refl, sym, ap, subst, ◌∷◌, IfErr, IsErrAnd}
+use Rattle.std.specs.Prelude.{IsOk, OnOk, OnErr, ⊤}
 use Rattle.std.specs.Io.KnownBytes.{Appends}
 use Rattle.ix_text.specs.Collections.{Collection}
 use Rattle.ix_file.specs.Endings.{WritesIndexText}
@@ -11,7 +11,9 @@ use Rattle.ix_files.specs.Slots.{Entry, Kept, Place, Slot, at_rest}
 use Rattle.ix_files.specs.Views.{GoesOn, View}
 use Rattle.ix_files.specs.declared.output.DraftNames.{DraftNames}
 use Rattle.ix_command.specs.Files.{Holding}
+use Rattle.ix_command.specs.Refusals.{IsUnsaved}
 use Rattle.ix_command.specs.SavedIndexes.{SavesAlike, SavesIndex}
+use Rattle.ix_command.specs.declared.refusal.Refusal.{Refusal}
 
 -- what a writer holds that was empty is what was written
 pub written_whole : (begun ended : Option (List ℕ)) (text : List ℕ) → begun ≡ Some [] → Appends begun ended text → ended ≡ Some text
@@ -62,21 +64,111 @@ module _ (v0 v1 : View) (path : List ℕ) (changes : ChangesDrafts (v0.place pat
 pub others_same : (v : View) (path : List ℕ) → LeavesOthers path v v
 others_same v path place apart free = refl
 
--- what is saved of the text that a writer holds, which was empty
-abbrev pub SavedText : (Text : List ℕ → Type 0) → (Option (List ℕ)) → Type 0
-SavedText Saved contents = (text : List ℕ) → contents ≡ Some text → Saved text
+-- ---- what was written into an output, by what its end says
 
--- an index text that was written is saved, whatever that is
-module _ (honest : Type 0) (begun ended : Option (List ℕ)) (empty : honest → begun ≡ Some []) (collection : Collection) where
-  pub index_text : (writes : WritesIndexText begun ended collection) → honest → ended ≡ Some writes.text
-  index_text writes is_honest = written_whole begun ended writes.text (empty is_honest) writes.written
+-- v0 is before the output is begun, v1 behind that, v2 once it has ended; its writer held `before`, which is nothing, and holds
+-- `after`
+module _ (v0 v1 v2 : View) (path : List ℕ) (names : Option DraftNames) (changes : ChangesDrafts (v0.place path) v0 v1) (began : GoesOn v0 v1)
+    (begun : v1.honest → IsBegunFor v1 path names) (ended : GoesOn v1 v2) where
+  pub others_through : (v2.honest → IsBegunFor v1 path names → LeavesOthers path v1 v2) → v2.honest → LeavesOthers path v0 v2
+  others_through others honest = others_up v0 v1 v2 path changes began ended honest (others honest (begun (ended.honest honest)))
 
-pub saves_index : (saves : Holding) (path : List ℕ) (begun ended : Option (List ℕ)) (collection : Collection) (writes : WritesIndexText begun ended collection) → saves path writes.text → SavesIndex saves path collection
-saves_index saves path begun ended collection writes saved = record { text = writes.text; of_collection = writes.of_collection; saved = saved }
+module _ (v0 v1 v2 : View) (path : List ℕ) (names : Option DraftNames) (changes : ChangesDrafts (v0.place path) v0 v1) (began : GoesOn v0 v1)
+    (begun : v1.honest → IsBegunFor v1 path names) (ended : GoesOn v1 v2) (before after : Option (List ℕ)) (empty : v1.honest → before ≡ Some []) where
+  known : (text : List ℕ) → Appends before after text → v2.honest → after ≡ Some text
+  known text written honest = written_whole before after text (empty (ended.honest honest)) written
 
-pub saves_alike : (saves : Holding) (path : List ℕ) (begun ended : Option (List ℕ)) (collection : Collection) (writes : WritesAlike collection begun ended)
-    → SavesIndex saves path writes.whole → SavesAlike saves path collection
-saves_alike saves path begun ended collection writes saved = record { whole = writes.whole; alike = writes.alike; saved = saved }
+  pub text_saved : (sent : Holding) (text : List ℕ) → Appends before after text
+      → ((text : List ℕ) → (v2.honest → after ≡ Some text) → (v1.honest → IsBegunFor v1 path names) → saved_in sent v1 v2 path text) → saved_in sent v0 v2 path text
+  text_saved sent text written saved = saved_up v0 v1 v2 path changes began ended sent text (saved text (known text written) begun)
+
+  pub index_saved : (sent : Holding) (collection : Collection) → WritesIndexText before after collection
+      → ((text : List ℕ) → (v2.honest → after ≡ Some text) → (v1.honest → IsBegunFor v1 path names) → saved_in sent v1 v2 path text) → SavesIndex (saved_in sent v0 v2) path collection
+  index_saved sent collection writes saved = record { text = writes.text; of_collection = writes.of_collection; saved = text_saved sent writes.text writes.written saved }
+
+  -- if the folder could not be synced, what was written is there
+  abbrev pub Leaves : Type 0 → Type 0
+  Leaves Saved = (text : List ℕ) × (after ≡ Some text) × (now_in v0 v2 path text → Saved)
+
+  pub text_left : (text : List ℕ) → Appends before after text → v2.honest → Leaves (now_in v0 v2 path text)
+  text_left text written honest = (text, known text written honest, λ there. there)
+
+  pub index_left : (collection : Collection) → WritesIndexText before after collection → v2.honest → Leaves (SavesIndex (now_in v0 v2) path collection)
+  index_left collection writes honest = (writes.text, known writes.text writes.written honest, λ there. record { text = writes.text; of_collection = writes.of_collection; saved = there })
+
+  pub alike_saved : (sent : Holding) (collection : Collection) → WritesAlike collection before after
+      → ((text : List ℕ) → (v2.honest → after ≡ Some text) → (v1.honest → IsBegunFor v1 path names) → saved_in sent v1 v2 path text) → SavesAlike (saved_in sent v0 v2) path collection
+  alike_saved sent collection writes saved = record { whole = writes.whole; alike = writes.alike; saved = index_saved sent writes.whole writes.written saved }
+
+  -- the index text that was written is that of the collection, if the runs came back
+  pub both_left : (Come : Type 0) (collection : Collection) → (Come → WritesIndexText before after collection) → WritesAlike collection before after → v2.honest
+      → Leaves ((Come → SavesIndex (now_in v0 v2) path collection) × SavesAlike (now_in v0 v2) path collection)
+  both_left Come collection exact writes honest =
+      let text = writes.written.text in
+      let is : after ≡ Some text = known text writes.written.written honest in
+      (text, is, λ there. (
+        (λ come.
+          let whole = exact come in
+          let also : after ≡ Some whole.text = known whole.text whole.written honest in
+          let same : text ≡ whole.text = cc in
+          record { text = whole.text; of_collection = whole.of_collection; saved = subst (λ (t : List ℕ). now_in v0 v2 path t) same there }),
+        record { whole = writes.whole; alike = writes.alike; saved = record { text = text; of_collection = writes.written.of_collection; saved = there } }))
+
+  stays : v2.honest → LeavesTarget path v1 v2 → LeavesTarget path v0 v2
+  stays honest same = target_up v0 v1 v2 path changes began ended honest same
+
+  pub undone_through : {T U : Type 0} (Saved : Type 0) (result : Result T Refusal) (written : Result U Refusal) → OnOk written (v2.honest → Leaves Saved)
+      → OnErr result (v2.honest → IsBegunFor v1 path names → (text : List ℕ) → OnOk written (after ≡ Some text) → LeavesTarget path v1 v2 ⊎ ((v2.slots (v1.place path)).now ≡ Kept text))
+      → OnErr result (v2.honest → LeavesTarget path v0 v2 ⊎ Saved)
+  undone_through Saved (Ok x) written leaves undone = tt
+  undone_through Saved (Err told) (Ok y) leaves undone = λ honest.
+      let left = leaves honest in
+      elim (undone honest (begun (ended.honest honest)) left.0 left.1) [
+          inl same ↦ inl (stays honest same)
+        | inr there ↦ inr (left.2 (now_up v0 v1 v2 path changes began ended honest left.0 there)) ]
+  undone_through Saved (Err told) (Err why) leaves undone = λ honest.
+      let is = begun (ended.honest honest) in
+      elim (undone honest is [] tt) [
+          inl same ↦ inl (stays honest same)
+        | inr none ↦ elim (undone honest is (0 ∷ []) tt) [
+              inl same ↦ inl (stays honest same)
+            | inr one ↦ absurd (subst IsNone (sym none ∙ one) tt) ] ]
+    where
+      IsNone : Entry → Type 0
+      IsNone (Kept []) = ⊤
+      IsNone _ = ⊥
+
+-- ---- an end that is ok, or not, by what was written
+
+pub saved_by : {T U : Type 0} (A P Saved : Type 0) (result : Result T Refusal) (written : Result U Refusal) → OnOk result (IsOk written) → OnOk written A → OnOk result P → (A → P → Saved) → OnOk result Saved
+saved_by A P Saved (Ok x) (Ok y) ok wrote saved make = make wrote saved
+saved_by A P Saved (Ok x) (Err why) ok wrote saved make = cc
+saved_by A P Saved (Err told) written ok wrote saved make = tt
+
+pub refused_by : {T U : Type 0} (P : Refusal → Type 0) (path : List ℕ) (result : Result T Refusal) (written : Result U Refusal) → IfErr result (λ told. IsUnsaved path told ⊎ IsErrAnd written (λ refusal. refusal ≡ told))
+    → ((told : Refusal) → IsUnsaved path told → P told) → IfErr written P → IfErr result P
+refused_by P path (Ok x) written refused unsaved failed = tt
+refused_by P path (Err told) (Ok y) refused unsaved failed = elim refused [ inl is ↦ unsaved told is | inr other ↦ absurd other ]
+refused_by P path (Err told) (Err why) refused unsaved failed = elim refused [ inl is ↦ unsaved told is | inr same ↦ subst P same failed ]
+
+-- what was written, by the two ways in which it ended
+pub on_written : {U : Type 0} {A : Type 0} (written : Result U Refusal) → A → OnOk written A
+on_written (Ok y) holds = holds
+on_written (Err why) holds = tt
+
+pub on_unwritten : {U : Type 0} (A : Type 0) (written : Result U Refusal) (told : Refusal) → written ≡ Err told → OnOk written A
+on_unwritten {U} A written told is = subst (λ (r : Result U Refusal). OnOk r A) (sym is) tt
+
+pub if_written : {U : Type 0} (P : Refusal → Type 0) (written : Result U Refusal) (value : U) → written ≡ Ok value → IfErr written P
+if_written {U} P written value is = subst (λ (r : Result U Refusal). IfErr r P) (sym is) tt
+
+pub if_unwritten : {U : Type 0} (P : Refusal → Type 0) (written : Result U Refusal) (told : Refusal) → written ≡ Err told → P told → IfErr written P
+if_unwritten {U} P written told is holds = subst (λ (r : Result U Refusal). IfErr r P) (sym is) holds
+
+-- an output that could not be begun
+pub on_err : {T : Type 0} {A : Type 0} (result : Result T Refusal) → A → OnErr result A
+on_err (Ok x) holds = tt
+on_err (Err told) holds = holds
 
 -- an index of a collection is one of a collection like it
 pub saved_alike : (saves : Holding) (path : List ℕ) (collection : Collection) → SavesIndex saves path collection → SavesAlike saves path collection

@@ -10,7 +10,7 @@ ghost use Rattle.ix_files.specs.Views.{GoesOn};
 use crate::refusal::Refusal;
 use ix_ask::EngineRefusal;
 use ix_build::Plan;
-use ix_files::{FileError, Files, Output, begin_output, discard_output, finish_output};
+use ix_files::{FileError, Files, Kind, Output, begin_output, discard_output, finish_output};
 use std::alloc::{AllocError, Global};
 
 /// Begins the output to a path. What is there is untouched until the output ends.
@@ -69,6 +69,21 @@ pub fn end<'a, F: Files>(
             discard_output(files, path, output);
             Err(refusal)
         }
+    }
+}
+
+/// Returns an error if a path leads to what cannot be an output, or if there is no such folder, so that no work is done in vain.
+pub fn check_output<'a, F: Files>(files: &F, path: &'a str) -> Result<(), Refusal<'a>>
+    ensures refused { IfErr result (IsUnsaved path.entry.now) }
+{
+    match files.kind(path) {
+        Ok(Kind::Missing | Kind::File) => match files.locate(path) {
+            Ok(_) => Ok(()),
+            Err(error) => Err(Refusal::unsaved(path, error)),
+        },
+        Ok(Kind::Stream) => Ok(()),
+        Ok(Kind::Folder | Kind::Other) => Err(Refusal::Write(path)),
+        Err(error) => Err(Refusal::unsaved(path, error)),
     }
 }
 
@@ -140,6 +155,7 @@ pub fn lock_runs<'a, F: Files>(
             Ok(folder) => Err(Refusal::Locked(folder)),
             Err(AllocError) => Err(Refusal::Engine(EngineRefusal::Memory)),
         },
-        Err(_) => Ok(None),
+        Err(FileError::Memory) => Err(Refusal::Engine(EngineRefusal::Memory)),
+        Err(FileError::Failed | FileError::Exists) => Ok(None),
     }
 }

@@ -28,6 +28,7 @@ pub struct MemoryFiles {
     room: usize,
     calls: AtomicUsize,
     failing: usize,
+    starved: bool,
 }
 
 /// A device or a pipe: its path, and what it gives or was given last.
@@ -57,6 +58,7 @@ impl MemoryFiles {
             room: usize::MAX,
             calls: AtomicUsize::new(0),
             failing: 0,
+            starved: false,
         }
     }
 
@@ -88,12 +90,14 @@ impl MemoryFiles {
         self.room = room;
     }
 
-    /// Of the calls from now on, lets that of this number fail, counted from 1; none, if it is 0.
-    pub fn fail_at(&mut self, number: usize)
+    /// Of the calls from now on, lets that of this number fail, counted from 1; none, if it is 0. If it opens a file or looks at
+    /// one, and `starved`, it is out of memory.
+    pub fn fail_at(&mut self, number: usize, starved: bool)
         ensures { IsSame (memory_view self.old).slots (memory_view self.new).slots }
     {
         self.calls = AtomicUsize::new(0);
         self.failing = number;
+        self.starved = starved;
     }
 
     /// How many calls there were since it was said which is to fail.
@@ -151,7 +155,7 @@ impl MemoryFiles {
         ensures cause { IfErr result (IsReadError (Unit {0})) }
     {
         if self.is_failing() {
-            return Err(FileError::Failed);
+            return Err(if self.starved { FileError::Memory } else { FileError::Failed });
         }
         Ok(found_at(&self.changes, "", path))
     }

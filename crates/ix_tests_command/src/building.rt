@@ -58,10 +58,10 @@ $ ix build no-such other
 ! ix: file 1: Read(no-such)
 $ size other
 no such file
-$ fail 2 Failed
+$ fail 2
 $ ix build five none
 ! ix: file 2: Write(none)
-$ fail 3 Failed
+$ fail 3
 $ ix build five none
 ! ix: file 2: Write(none)
 $ room 9
@@ -76,9 +76,6 @@ $ ix build --stop stop five stop
 ! ix: file 4: Same(stop)
 $ ix build --stop - - other
 ! ix: arguments refused
-$ fail 3 Locked
-$ ix build --runs=runs five other
-! ix: file 5: Locked(runs)
 $ ix build --runs=no/such/folder five other
 ! ix: build 2: Spill(0)
 ";

@@ -1,6 +1,6 @@
 //! Files in memory, and what a session says of them.
 
-use ix_files::{FileError, MemoryFiles};
+use ix_files::MemoryFiles;
 use std::alloc::Global;
 use std::io;
 use std::io::{ErrorKind, Write};
@@ -25,13 +25,13 @@ impl Disk {
 
     /// Does what a command says of a path, or of a number, and what stands behind it: `put` gives the file spelled bytes, `cmp`
     /// tells whether it differs from another one, and `size` how many bytes it has; `fail` lets the call of files of this
-    /// number, from 1 and from now on, fail, and `room` lets a writer take so many bytes.
+    /// number, from 1 and from now on, fail, for want of memory if `Memory` stands behind it, and `room` lets a writer take so many bytes.
     pub(super) fn tell(&mut self, command: &str, rest: &str, told: &mut String) -> Result<(), Fail> {
         let (first, more) = rest.split_once(' ').unwrap_or((rest, ""));
         match command {
             "put" => Ok(self.files.put(first, &bytes_of(self.alloc, more)?)?),
             "fail" => {
-                self.files.fail_at(first.parse()?, error_of(more)?);
+                self.files.fail_at(first.parse()?, more == "Memory");
                 Ok(())
             }
             "room" => {
@@ -54,16 +54,6 @@ impl Disk {
             told.push_str("they differ\n")?;
         }
         Ok(())
-    }
-}
-
-/// The error of this name.
-fn error_of(name: &str) -> Result<FileError, Fail> {
-    match name {
-        "Failed" => Ok(FileError::Failed),
-        "Memory" => Ok(FileError::Memory),
-        "Locked" => Ok(FileError::Locked),
-        _ => Err("no such error")?,
     }
 }
 

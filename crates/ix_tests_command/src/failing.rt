@@ -3,7 +3,6 @@
 use super::disk::Disk;
 use super::session::{FILES, play, tell, words_of};
 use ix_build::{RunFiles, SystemFiles};
-use ix_files::FileError;
 use std::process::Abort;
 use std::sync::Wait;
 use std::test::Fail;
@@ -34,7 +33,7 @@ fn told_with<R: AllocGlobal + Abort + Threads + Wait + Sync, S: RunFiles>(
     let mut disk = Disk::new(rt.alloc());
     play(rt, &mut disk, runs, "", FILES)?;
     disk.files.put("out", b"old")?;
-    disk.files.fail_at(number, FileError::Failed);
+    disk.files.fail_at(number, false);
     disk.files.set_room(room);
     let words = words_of(rt.alloc(), line)?;
     tell(rt, &mut disk, runs, &words, told)?;

@@ -73,7 +73,7 @@ $ ix run --stop two-words no-tab new
 ! ix: stop 1: NotOneWord(1)
 $ size new
 no such file
-$ fail 2 Failed
+$ fail 2
 $ ix merge none 0.run
 ! ix: file 2: Write(none)
 $ room 9
@@ -116,7 +116,7 @@ $ ix upgrade no-such other
 ! ix: file 1: Read(no-such)
 $ size other
 no such file
-$ fail 2 Failed
+$ fail 2
 $ ix upgrade five.ix none
 ! ix: file 2: Write(none)
 $ room 9

@@ -23,7 +23,7 @@ fn four_files(alloc: Global) -> Result<MemoryFiles, Fail> {
 fn an_output_is_whole_or_not_there(rt: HostRuntime) -> Result<(), Fail> {
     for failing in 0..=CALLS {
         let mut files = four_files(rt.alloc())?;
-        files.fail_at(failing);
+        files.fail_at(failing, false);
         let result = write_to(rt.alloc(), &mut files, "out", b"new");
         // If a draft that was left is not removed, it is not the output's; and the folder is synced last.
         let is_whole = matches!(failing, 0 | 3 | 4);

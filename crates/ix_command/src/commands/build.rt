@@ -12,7 +12,7 @@ ghost use Rattle.ix_command.specs.SavedIndexes.{SavesAlike, SavesIndex};
 ghost use Rattle.ix_files.specs.Outputs.{LeavesOthers, LeavesTarget, now_in, saved_in};
 
 use crate::commands::ask::{read_file, read_stop_list};
-use crate::outputs::{begin, end, keep_apart, keep_from_runs, lock_runs};
+use crate::outputs::{begin, check_output, end, keep_apart, keep_from_runs, lock_runs};
 use crate::refusal::Refusal;
 use ix_ask::EngineRefusal;
 use ix_build::{InvertedBlocks, Plan, RunFiles, Watch, build_with_files, invert_all};
@@ -26,8 +26,8 @@ use std::thread::Threads;
 /// words of the stop file, where one is named, are left out. Where the plan names a folder, it is
 /// one of `runs`.
 ///
-/// The output is begun once the collection was read, and what is there is untouched until it ends. If the runs are kept in
-/// memory, the collection is let go before they are merged.
+/// What is at the output's path is untouched until the output ends. If the runs are kept in memory, the collection is let go
+/// before they are merged, and the output begins then.
 pub fn run<'a, R: Threads + Wait + Sync, F: Files, S: RunFiles, V: Watch>(
     rt: &R,
     alloc: Global,
@@ -64,6 +64,7 @@ pub fn run<'a, R: Threads + Wait + Sync, F: Files, S: RunFiles, V: Watch>(
     keep_apart(files, collection, output)?;
     keep_from_runs(alloc, files, plan, collection)?;
     keep_from_runs(alloc, files, plan, output)?;
+    check_output(files, output)?;
     build_text(rt, alloc, files, runs, watch, text, &stop_list, plan, output)
 }
 
@@ -196,17 +197,8 @@ fn save<'a, R: Threads + Wait + Sync, F: Files, S: RunFiles, V: Watch>(
 {
     let lock = lock_runs(alloc, files, plan)?;
     let mut output = begin(alloc, files, path)?;
-    let built = build_with_files(
-        rt,
-        alloc,
-        runs,
-        documents,
-        stop,
-        plan,
-        watch,
-        &mut output.writer,
-    );
-    let written = match built {
+    let out = &mut output.writer;
+    let written = match build_with_files(rt, alloc, runs, documents, stop, plan, watch, out) {
         Ok(()) => Ok(()),
         Err(error) => Err(Refusal::Engine(EngineRefusal::Build(error))),
     };

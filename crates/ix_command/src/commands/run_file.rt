@@ -13,13 +13,11 @@ use crate::outputs::{begin, end, keep_apart};
 use crate::refusal::Refusal;
 use ix_ask::EngineRefusal;
 use ix_files::{FileError, Files};
+use ix_output::put_all;
 use ix_run::{Run, invert};
 use ix_text::{Collection, StopList};
 use std::alloc::Global;
-use std::io::{BufWriter, Write};
-
-/// How many bytes of a run are written at once.
-const BUFFER_BYTES: usize = 1 << 16;
+use std::io::Write;
 
 /// Writes the run of a collection file into a run file, its documents counted from `first` on. The
 /// words of the stop file, where one is named, are left out.
@@ -54,6 +52,8 @@ pub fn run<'a, F: Files>(
     }
     keep_apart(files, collection, output)?;
     let run = run_of(alloc, &text, &stop_list, first)?;
+    // The text of the run takes no more.
+    drop(text);
     save(alloc, files, output, &run)
 }
 
@@ -102,14 +102,12 @@ fn put_run<W: Write>(alloc: Global, writer: &mut W, run: &Run) -> Result<(), Fil
     ensures { OnOk result
         (Appends (W.contents writer.old) (W.contents writer.new) (run_bytes run.now)) }
 {
-    let Ok(mut buffered) = BufWriter::with_capacity(alloc, BUFFER_BYTES, writer) else {
+    let mut text = Vec::new(alloc);
+    if run.write_to(&mut text).is_err() {
         return Err(FileError::Memory);
-    };
-    if run.write_to(&mut buffered).is_err() {
-        return Err(FileError::Failed);
     }
-    match buffered.into_inner() {
-        Ok(_) => Ok(()),
+    match put_all(writer, &text) {
+        Ok(()) => Ok(()),
         Err(_) => Err(FileError::Failed),
     }
 }

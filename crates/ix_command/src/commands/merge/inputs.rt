@@ -204,10 +204,20 @@ fn open_volume<'a, R: Threads + Sync, F: Files>(
 {
     match open_index(rt, alloc, files, path) {
         Ok(volume) => Ok(Input::Index(volume)),
-        Err(Refusal::Read(_)) => Err(refusal_at(place, RunTextError::Magic)),
-        Err(Refusal::Engine(EngineRefusal::Index(OpenError::Short | OpenError::Magic))) => {
-            Err(refusal_at(place, RunTextError::Magic))
+        Err(refusal) => {
+            if is_no_index(&refusal) {
+                Err(refusal_at(place, RunTextError::Magic))
+            } else {
+                Err(refusal)
+            }
         }
-        Err(refusal) => Err(refusal),
     }
+}
+
+/// Whether a file does not begin as an index text does, or could not be read.
+fn is_no_index(refusal: &Refusal<'_>) -> bool {
+    matches!(
+        refusal,
+        Refusal::Read(_) | Refusal::Engine(EngineRefusal::Index(OpenError::Short | OpenError::Magic))
+    )
 }
