@@ -46,6 +46,7 @@ check-program: all
 
 check-faults: all
 	@tests/check_faults.py build/ix
+	@tests/check_outputs.py build/ix --only beside --seconds 60
 
 check-people:
 	@if command -v mypy > /dev/null; then mypy --strict --cache-dir=/dev/null collect/ix_collect; \

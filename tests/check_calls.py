@@ -116,7 +116,7 @@ for goal in ["invert_all", "merge_into", "build_with_files"]:
 
 asking = functions_of("ix_ask")
 inverting = inverting_files("ix_ask")
-check("ix_ask inverts without threads alone, a whole collection and a part", inverting == ["alone.rt", "inverting.rt"], inverting)
+check("ix_ask inverts without threads alone, a whole collection and a part", inverting == ["alone.rt", "invert_part.rt"], inverting)
 check("`ask` of ix_ask reaches no `invert` of its own", not reaches(asking, "ask", "invert"))
 check("`ask` of ix_ask reaches `build`", reaches(asking, "ask", "build"))
 

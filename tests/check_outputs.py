@@ -1,12 +1,14 @@
 #!/usr/bin/env python3
 """Replaces files by the program, as a process, and looks at what is left: after success, errors, kills and beside readers.
 
-usage: check_outputs.py [IX]        default: build/ix beside this folder
+usage: check_outputs.py [IX] [--only PART,..] [--seconds N]
 
+IX is build/ix beside this folder. The parts are the functions below; a search stands beside builds for N seconds (5).
 An output is written whole or not at all: whatever ends the program, its path leads to the old bytes or to the new ones. The new
 bytes are those that the same command writes where nothing was. All files are made in a folder of the system's own choice, which is
 gone at the end. Status 0: all is as expected.
 """
+import argparse
 import fcntl
 import os
 import random
@@ -21,10 +23,14 @@ import tempfile
 import time
 from pathlib import Path
 
-IX = Path(sys.argv[1] if len(sys.argv) > 1 else Path(__file__).resolve().parent.parent / "build/ix").resolve()
+WORDS = argparse.ArgumentParser(description=__doc__.split("\n")[0])
+WORDS.add_argument("ix", nargs="?", default=Path(__file__).resolve().parent.parent / "build/ix", type=Path)
+WORDS.add_argument("--only", default="replaced,named,refused,full_disk,large,apart,left_over,killed,beside")
+WORDS.add_argument("--seconds", type=int, default=5)
+SAID = WORDS.parse_args()
+IX = SAID.ix.resolve()
 KILLS = 150
 PAIRS = 100
-SECONDS = 5
 ROOM = 256 << 10  # of a disk that gets full
 UMASK = 0o022
 OLD = b"what was there before, and is longer than the new text. " * 4000
@@ -77,6 +83,7 @@ def make_inputs():
     Path("big2.txt").write_bytes(collection(30000, 2))
     Path("x.txt").write_bytes(b"a\tx y\nb\ty\n")
     Path("y.txt").write_bytes(b"c\t\nd\ty x y\ne\tx\n")
+    os.mkdir("runs")
     for words in (
         ["build", "a.txt", "a.ix"], ["build", "b.txt", "b.ix"], ["run", "x.txt", "x.run"],
         ["run", "--first", "2", "y.txt", "y.run"], ["build", "big.txt", "big.ix"], ["build", "big2.txt", "big2.ix"],
@@ -94,9 +101,29 @@ COMMANDS = {
 }
 
 
+NAMES = ("-x", "x ", "n" * 255, "é" * 127, "d/" * 100 + "out")
+
+
+def make_folder_of(name):
+    if "/" in name:
+        os.makedirs(os.path.dirname(name), exist_ok=True)
+
+
+def named():
+    """Inputs are read whatever their names are. A name that no file has is an error, which says the name."""
+    for name in NAMES:
+        make_folder_of(name)
+        shutil.copy("a.txt", name)
+        succeeds(f"a collection {name[:20]!r}", ["build", "--", name, "named"])
+        check(f"the text of {name[:20]!r}", Path("named").read_bytes() == Path("a.ix").read_bytes())
+        os.remove(name)
+    for name in ("n" * 256, "x" * 5000, "d/" * 2500 + "in"):
+        fails(f"no collection: {name[:20]!r}", ["build", name, "named"], f"file 1: Read({name})".encode())
+    check("the output stays", Path("named").read_bytes() == Path("a.ix").read_bytes())
+
+
 def replaced():
     """Each command puts its text in the place of a longer one, with its mode, through links, and leaves nothing else."""
-    os.mkdir("runs")
     os.mkdir("there")
     for command, words in COMMANDS.items():
         succeeds(command, words("new"))
@@ -149,9 +176,8 @@ def replaced():
         os.remove("pipe")
         succeeds(f"{command} to a device", words("/dev/null"))
         check(f"{command}: the device is one still", stat.S_ISCHR(os.stat("/dev/null").st_mode))
-        for name in ("-x", "x ", "n" * 255, "é" * 127, "d/" * 100 + "out"):
-            if "/" in name:
-                os.makedirs(os.path.dirname(name), exist_ok=True)
+        for name in NAMES:
+            make_folder_of(name)
             Path(name).write_bytes(OLD)
             out = "./" + name if name.startswith("-") else name
             succeeds(f"{command} to {name[:20]!r}", words(out))
@@ -167,13 +193,17 @@ def refused():
         listening.bind("socket")
     Path("bad.run").write_bytes(Path("y.run").read_bytes()[:-3])
     Path("bad.txt").write_bytes(b"no tab\n")
+    os.mkdir("held")
 
     def few_bytes():
         signal.signal(signal.SIGXFSZ, signal.SIG_IGN)
         resource.setrlimit(resource.RLIMIT_FSIZE, (4096, 4096))
 
+    holder = os.open("held", os.O_RDONLY)
+    fcntl.flock(holder, fcntl.LOCK_EX)
     for name, words, line, options in [
         ("a folder of runs that is not there", ["build", "--runs", "none", "big.txt", "out"], b"build 2: Spill(0)", {}),
+        ("a folder of runs that is locked", ["build", "--runs", "held", "a.txt", "out"], b"file 5: Locked(held)", {}),
         ("a full disk", ["build", "big.txt", "out"], b"build 3: Write", {"prepare": few_bytes}),
         ("a full disk, of a run", ["run", "big.txt", "out"], b"file 2: Write(out)", {"prepare": few_bytes}),
         ("a full disk, of a merge", ["merge", "out", "big.ix"], b"merge 6: Write", {"prepare": few_bytes}),
@@ -183,16 +213,19 @@ def refused():
         ("a folder as collection", ["build", "folder", "out"], b"file 1: Read(folder)", {}),
         ("a folder as collection of a run", ["run", "folder", "out"], b"file 1: Read(folder)", {}),
         ("no collection", ["build", "bad.txt", "out"], b"collection 3: NoTab(1)", {}),
+        ("two standard inputs", ["build", "--stop", "-", "-", "out"], b"", {"stdin": b"a\tx\n"}),
+        ("two standard inputs of a merge", ["merge", "out", "-", "x.run", "-"], b"", {"stdin": b""}),
     ]:
         Path("out").write_bytes(OLD)
         before = set(os.listdir("."))
         done = run(*words, **options)
-        expected = b"ix: " + line + b"\n"
+        expected = b"ix: " + (line if line else b"arguments refused") + b"\n"
         if name == "a damaged run":
             expected = done.stderr if done.stderr.startswith(b"ix: merge 4: Source(1, ") else expected
         check(name, (done.returncode, done.stdout, done.stderr) == (2, b"", expected), done)
         check(f"{name}: the old file", Path("out").read_bytes() == OLD)
         check(f"{name}: nothing else", set(os.listdir(".")) == before, set(os.listdir(".")) ^ before)
+    os.close(holder)
 
     fails("a folder as output", ["build", "a.txt", "folder"], b"file 2: Write(folder)")
     fails("a socket as output", ["build", "a.txt", "socket"], b"file 2: Write(socket)")
@@ -205,16 +238,23 @@ def refused():
     fails("a full device", ["build", "a.txt", "/dev/full"], b"build 3: Write")
     fails("a full device, of a run", ["run", "a.txt", "/dev/full"], b"file 2: Write(/dev/full)")
 
-    if os.getuid() == 0:
-        os.mkdir("closed")
-        Path("closed/out").write_bytes(OLD)
-        os.chmod("closed/out", 0o666)
-        os.chmod("closed", 0o755)
-        shutil.copy(IX, "ix")
-        os.chmod("ix", 0o755)
-        done = run("build", "a.txt", "closed/out", program=Path("ix").resolve(), prepare=lambda: (os.setgid(65534), os.setuid(65534)))
-        check("a folder without permission", (done.returncode, done.stderr) == (2, b"ix: file 2: Write(closed/out)\n"), done)
-        check("a folder without permission: the old file", Path("closed/out").read_bytes() == OLD)
+    # A folder in which nothing may be made, for another user if this one is root, who may.
+    def as_nobody():
+        if os.getuid() == 0:
+            os.setgid(65534)
+            os.setuid(65534)
+
+    os.mkdir("closed")
+    Path("closed/out").write_bytes(OLD)
+    os.chmod("closed/out", 0o666)
+    os.chmod("closed", 0o555)
+    shutil.copy(IX, "ix")
+    os.chmod("ix", 0o755)
+    for command in ("build", "run", "merge", "upgrade"):
+        for out in ("closed/out", "closed/new"):
+            fails(f"{command} to {out}", COMMANDS[command](out), f"file 2: Write({out})".encode(), program=Path("ix").resolve(), prepare=as_nobody)
+        check(f"{command}: the old file", Path("closed/out").read_bytes() == OLD and os.listdir("closed") == ["out"], os.listdir("closed"))
+    os.chmod("closed", 0o755)
 
 
 def full_disk():
@@ -262,8 +302,37 @@ def large():
         os.remove(name)
 
 
-def in_place():
-    """The output of `merge` and `upgrade` may be what they read."""
+def apart():
+    """The output of `build` and `run` is not what they read; that of `merge` and `upgrade` may be. Neither is one of the runs."""
+    name = "runs/run-0000000000"
+    for words, kept in (
+        (["build", "--runs", "runs", name, "out"], Path("a.txt").read_bytes()),
+        (["build", "--runs", "runs", "--stop", name, "a.txt", "out"], b"y\n"),
+        (["build", "--runs", "runs", "a.txt", name], OLD),
+        (["build", "--runs", "./runs/../runs", "--block", "1", "a.txt", "runs/run-0000000004"], OLD),
+    ):
+        path = words[-1] if words[-1].startswith("runs") else name
+        Path(path).write_bytes(kept)
+        Path("out").write_bytes(OLD)
+        done = run(*words)
+        check(f"{words[2:]}", done.returncode == 2 and done.stderr.startswith(b"ix: file 4: Same("), done)
+        check(f"{words[2:]}: nothing is made", Path("out").read_bytes() == OLD)
+        check(f"{words[2:]}: nothing is gone", os.path.exists(path) and Path(path).read_bytes() == kept, os.listdir("runs"))
+        Path(path).unlink(missing_ok=True)
+    Path("runs/run-0000000005").write_bytes(OLD)
+    succeeds("no run of the plan", ["build", "--runs", "runs", "--block", "1", "a.txt", "runs/run-0000000005"])
+    os.remove("runs/run-0000000005")
+    text = Path("a.txt").read_bytes()
+    os.symlink("a.txt", "to_a")
+    os.link("a.txt", "also_a")
+    for out in ("a.txt", "./a.txt", "to_a", "also_a"):
+        for command in ("build", "run"):
+            fails(f"{command} over its collection by {out}", [command, "a.txt", out], f"file 4: Same({out})".encode())
+            check("the collection stays", Path("a.txt").read_bytes() == text)
+    for command in ("build", "run"):
+        fails(f"{command} over its stop file", [command, "--stop", "stop", "a.txt", "stop"], b"file 4: Same(stop)")
+    check("the stop file stays", Path("stop").read_bytes() == b"y\n")
+
     shutil.copy("a.ix", "all.ix")
     succeeds("merge into an input", ["merge", "all.ix", "all.ix", "b.ix"])
     succeeds("merge elsewhere", ["merge", "else.ix", "a.ix", "b.ix"])
@@ -278,6 +347,14 @@ def left_over():
     succeeds("beside a file that was left", ["build", "a.txt", "o"])
     check("it is removed", not drafts(), drafts())
     check("the text is there", Path("o").read_bytes() == Path("a.ix").read_bytes())
+
+    for numbers in ((1, 2, 3), (2,)):
+        for number in numbers:
+            Path(f".o.ix-{number}").write_bytes(b"left")
+        succeeds(f"beside files that were left, {numbers}", ["build", "a.txt", "o"])
+        check(f"they are removed, {numbers}", not drafts(), drafts())
+        for name in drafts():
+            os.remove(name)
 
     Path(".o.ix-1").write_bytes(b"held")
     with open(".o.ix-1", "rb") as held:
@@ -327,7 +404,7 @@ def killed():
 def beside():
     """A reader always finds a whole file, and of two builds to one output one is there whole."""
     shutil.copy("big.ix", "r")
-    ends, answers = time.monotonic() + SECONDS, 0
+    ends, answers = time.monotonic() + SAID.seconds, 0
     builder = None
     while time.monotonic() < ends:
         if builder is None or builder.poll() is not None:
@@ -352,8 +429,8 @@ if __name__ == "__main__":
         os.chdir(folder)
         os.chmod(folder, 0o755)
         make_inputs()
-        for part in (replaced, refused, full_disk, large, in_place, left_over, killed, beside):
-            part()
+        for part in SAID.only.split(","):
+            globals()[part]()
         os.chdir("/")
     print("all as expected" if not failed else f"{failed} FAILED")
     sys.exit(1 if failed else 0)

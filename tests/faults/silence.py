@@ -1,6 +1,7 @@
 """What no contract says: that an output is not made, nor an old one touched, where an input is refused, and that nothing is
 printed beside the one line."""
 import errno
+import fcntl
 import os
 
 # Commands of which an input is refused, with the file that each would write.
@@ -50,6 +51,30 @@ def no_output_at_a_failed_read(program):
     return "no output is made or touched where a first read fails", tried, wrong
 
 
+def no_output_over_inputs(program):
+    """An output that is read stays as it is, and so does one beside which the folder of runs is locked; no run is made."""
+    (program.folder / "runs").mkdir(exist_ok=True)
+    holder = os.open(program.folder / "runs", os.O_RDONLY)
+    fcntl.flock(holder, fcntl.LOCK_EX)
+    tried, wrong = 0, []
+    for words, line in (
+        (("build", "five.txt", "five.txt"), b"ix: file 4: Same(five.txt)\n"),
+        (("run", "five.txt", "./five.txt"), b"ix: file 4: Same(./five.txt)\n"),
+        (("build", "--stop", "to.stop", "five.txt", "to.stop"), b"ix: file 4: Same(to.stop)\n"),
+        (("run", "--stop", "to.stop", "five.txt", "to.stop"), b"ix: file 4: Same(to.stop)\n"),
+        (("build", "--runs", "runs", "five.txt", "names.txt"), b"ix: file 5: Locked(runs)\n"),
+    ):
+        before = {name: program.read(name) for name in ("five.txt", "to.stop", "names.txt")}
+        got = program.run(*words)
+        tried += 1
+        if got.told() != (2, b"", line) or any(program.read(name) != text for name, text in before.items()):
+            wrong.append(f"{words}: {got}")
+        if program.drafts() or os.listdir(program.folder / "runs"):
+            wrong.append(f"{words}: left {program.drafts()}, {os.listdir(program.folder / 'runs')}")
+    os.close(holder)
+    return "no output is made over an input, nor beside a folder of runs that is locked", tried, wrong
+
+
 def one_line(program):
     """A refusal is one line, whatever bytes the words have."""
     tried, wrong = 0, []
@@ -74,7 +99,7 @@ def nothing_beside(program):
     return "a command that writes a file prints nothing", tried, wrong
 
 
-PARTS = [no_output, no_output_at_a_failed_read, one_line, nothing_beside]
+PARTS = [no_output, no_output_at_a_failed_read, no_output_over_inputs, one_line, nothing_beside]
 
 
 def tasks():

@@ -5,14 +5,13 @@ mod meter;
 
 use ix_ask::EngineRefusal;
 use ix_build::{RunFiles, SystemFiles, Watch};
-use ix_command::{Refusal, command, refuse};
+use ix_command::{Refusal, command_over, refuse};
+use ix_files::Files;
 use meter::Meter;
 use std::alloc::AllocError;
 use std::env;
-use std::fs::File;
-use std::io::{ErrorKind, Input, IsTerminal, Write};
+use std::io::{ErrorKind, IsTerminal, Write};
 use std::process::ExitCode;
-use std::rt::Files;
 use std::sync::Wait;
 use std::thread::Threads;
 
@@ -24,7 +23,8 @@ fn main(rt: HostRuntime) -> ExitCode {
         Ok(args) => {
             let runs = SystemFiles { rt: &rt };
             let meter = Meter::new(&rt, rt.stderr().is_terminal());
-            match run(&rt, &runs, &meter, args, &mut rt.stdout(), &mut rt.stderr()) {
+            let mut files = ix_files::SystemFiles { rt: &rt };
+            match run(&rt, &mut files, &runs, &meter, args, &mut rt.stdout(), &mut rt.stderr()) {
                 Ok(status) => {
                     // The line of a refusal stands over that of the meter.
                     if status != REFUSED {
@@ -45,13 +45,15 @@ fn main(rt: HostRuntime) -> ExitCode {
 
 /// Does what the words after the program's name ask for.
 fn run<
-    R: Files<File = File> + Input + Print + AllocGlobal + Threads + Wait + Sync,
+    R: AllocGlobal + Threads + Wait + Sync,
+    F: Files,
     S: RunFiles,
     V: Watch,
     W: Write,
     E: Write,
 >(
     rt: &R,
+    files: &mut F,
     runs: &S,
     watch: &V,
     args: env::Args,
@@ -66,5 +68,14 @@ fn run<
     for text in &texts {
         words.push(text.as_str())?;
     }
-    Ok(command(rt, runs, watch, &words, out, err))
+    Ok(command_over(
+        rt,
+        rt.alloc(),
+        files,
+        runs,
+        watch,
+        &words,
+        out,
+        err,
+    ))
 }

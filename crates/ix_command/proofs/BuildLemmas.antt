@@ -1,5 +1,5 @@
 -- What was read of a collection file against all of it, for the index that is built of it.
-use Rattle.std.proofs.Common.{◌≡◌, ℕ, List, None, Some, Result, Ok, Err, OnOk, IfErr, IsErrAnd, take, subst}
+use Rattle.std.proofs.Common.{◌≡◌, ℕ, List, None, Some, Result, Ok, Err, OnOk, IfErr, IsErrAnd, take, IsSomeAnd, subst, sym}
 use Rattle.std.specs.Prelude.{Option}
 use Rattle.std.specs.Borrow.{Bor}
 use Rattle.ix_text.specs.Collections.{NamedText, collection_of}
@@ -13,7 +13,7 @@ use Rattle.ix_build.specs.declared.build_error.BuildError.{BuildError}
 use Rattle.ix_build.specs.declared.build_error.BuildError.TheVariants.{Thread, Spill, Write, Memory}
 use Rattle.ix_command.specs.BuiltIndexes.{AreOfFiles, BuildsText, ComeBack, IsBuilt, IsBuildRefused, IsRefusalBy, IsUnbuilt, RefusesDocuments, RefusesText, no_collection, no_documents, of_folder, of_memory, unbuilt, unbuilt_text}
 use Rattle.ix_command.specs.Files.{Holding, IsFront, Keeping}
-use Rattle.ix_command.specs.Refusals.{IsUnsaved}
+use Rattle.ix_command.specs.Refusals.{IsSameOrUnsaved, IsUnsaved}
 use Rattle.ix_ask.specs.declared.refusal.EngineRefusal.TheVariants as engine
 use Rattle.ix_command.specs.declared.refusal.Refusal.{Refusal}
 use Rattle.ix_command.specs.declared.refusal.Refusal.TheVariants as refusal
@@ -57,7 +57,17 @@ refused_of_files holds stop_file plan path output bytes stop front stop_held tol
 -- what is not saved is not built
 pub unbuilt_unsaved : (plan : PlanValue) (documents : List NamedText) (path : List ℕ) (told : Refusal) → IsUnsaved path told → IsUnbuilt plan documents path told
 unbuilt_unsaved plan documents path (refusal.Engine (engine.Build error)) is = absurd is
+unbuilt_unsaved plan documents path (refusal.Locked folder) is = absurd is
 unbuilt_unsaved plan documents path told is = is
+
+-- what cannot be an output is one that is read, or cannot be saved
+pub same_or_unsaved : (path : List ℕ) (told : Refusal) → IsUnsaved path told → IsSameOrUnsaved path told
+same_or_unsaved path (refusal.Same named) is = absurd is
+same_or_unsaved path told is = is
+
+-- a stop file that is read and written, or cannot be looked at, was named
+pub some_refused : (named : Option (Bor (List ℕ))) (path : Bor (List ℕ)) (told : Refusal) → named ≡ Some path → IsSameOrUnsaved path.now told → IsSomeAnd named (λ file. IsSameOrUnsaved file.now told)
+some_refused named path told is refused = subst (λ (o : Option (Bor (List ℕ))). IsSomeAnd o (λ file. IsSameOrUnsaved file.now told)) (sym is) refused
 
 -- what is so of runs in memory, and of runs in a folder that come back, is so of runs that come back
 pub come_back : (P : Type 0) (kept : Keeping) (plan : PlanValue) (stop : List (List ℕ)) (documents : List NamedText) → (plan.folder ≡ None → P)

@@ -17,14 +17,14 @@ use Rattle.ix_command.specs.MergedRuns.{LacksHead, RefusesHead}
 
 -- ---- one file
 
-module _ {R : Type 0} (Holds : List ℕ → Type 0) (remaining : R → Option (List ℕ)) (untold : (bytes : List ℕ) (file : R) → remaining file ≡ None → Holds bytes)
-    (file : R) (known : IfSome (remaining file) Holds) where
+module _ {R : Type 0} (Holds : List ℕ → Type 0) (remaining : R → Option (List ℕ)) (file : R)
+    (untold : (bytes : List ℕ) → remaining file ≡ None → Holds bytes) (known : IfSome (remaining file) Holds) where
   -- the bytes at the front of what is left are those of the file
   front_held : (left : Option (List ℕ)) (front : List ℕ) → Consumes (remaining file) left front → (rest : List ℕ) × Holds (front ++ rest)
   front_held left front taken = go (remaining file) refl known left taken
     where
       go : (a : Option (List ℕ)) → remaining file ≡ a → IfSome a Holds → (b : Option (List ℕ)) → Consumes a b front → (rest : List ℕ) × Holds (front ++ rest)
-      go None is held b consumes = ([], untold (front ++ []) file is)
+      go None is held b consumes = ([], untold (front ++ []) is)
       go (Some bytes) is held None consumes = absurd consumes
       go (Some bytes) is held (Some rest) consumes = (rest, subst Holds consumes held)
 
@@ -32,7 +32,7 @@ module _ {R : Type 0} (Holds : List ℕ → Type 0) (remaining : R → Option (L
   whole_held text same = go (remaining file) refl known
     where
       go : (a : Option (List ℕ)) → remaining file ≡ a → IfSome a Holds → Holds text
-      go None is held = untold text file is
+      go None is held = untold text is
       go (Some bytes) is held = subst Holds (same bytes is) held
 
   pub opened : (reader : RunReader R) (left : Option (List ℕ)) → IsUnread HasRead reader → IsLawfulHeading (heading_read reader) → Consumes (remaining file) left (heading_bytes (heading_read reader))
@@ -60,7 +60,7 @@ module _ {R : Type 0} (Holds : List ℕ → Type 0) (remaining : R → Option (L
       at heading rest (Err other) e matched = let same : other ≡ error = cc in subst IsRefusal same matched
 
       go : (a : Option (List ℕ)) → remaining file ≡ a → IfSome a Holds → LacksHead Holds
-      go None none held = record { text = []; held = untold [] file none; none = λ heading rest lawful. no_bytes heading rest }
+      go None none held = record { text = []; held = untold [] none; none = λ heading rest lawful. no_bytes heading rest }
         where
           no_bytes : (heading : Heading) (rest : List ℕ) → [] ≡ heading_bytes heading ++ rest → ⊥
           no_bytes heading rest e = cc

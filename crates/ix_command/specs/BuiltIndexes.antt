@@ -12,7 +12,7 @@ use Rattle.ix_build.specs.declared.build_error.BuildError.{BuildError}
 use Rattle.ix_command.specs.AskedFiles.{IsStopHeld, RefusesStop}
 use Rattle.ix_ask.specs.Asking.{RefusesCollection}
 use Rattle.ix_command.specs.Files.{Holding, Keeping}
-use Rattle.ix_command.specs.Refusals.{IsUnread, IsUnsaved}
+use Rattle.ix_command.specs.Refusals.{IsFolderLocked, IsSameOrUnsaved, IsUnread, IsUnsaved}
 use Rattle.ix_command.specs.SavedIndexes.{SavesAlike, SavesIndex}
 use Rattle.ix_ask.specs.declared.refusal.EngineRefusal.TheVariants as engine
 use Rattle.ix_command.specs.declared.refusal.Refusal.{Refusal}
@@ -55,6 +55,7 @@ pub record IsRefusalBy (plan : PlanValue) (documents : List NamedText) (error : 
 -- Why these documents were not built by this plan into what was to be saved under this path.
 abbrev pub IsUnbuilt : PlanValue → List NamedText → Text → Refusal → Type 0
 IsUnbuilt plan documents path (refusal.Engine (engine.Build error)) = IsRefusalBy plan documents error
+IsUnbuilt plan documents path (refusal.Locked folder) = IsFolderLocked plan (refusal.Locked folder)
 IsUnbuilt plan documents path told = IsUnsaved path told
 
 -- The index text of the collection of this text was saved so under this path.
@@ -72,6 +73,9 @@ pub data RefusesText (plan : PlanValue) (text output : Text) : Refusal → Type 
 -- Why `build` was refused, by this plan: the stop file is refused, the collection file cannot be read or holds no
 -- collection text, or the index text of what they hold cannot be built or saved.
 pub data IsBuildRefused (holds : Holding) (stop_file : Option (Bor Text)) (plan : PlanValue) (path output : Text) : Refusal → Type 0 where
+  no_output : {told : Refusal} → IsSameOrUnsaved output told → IsBuildRefused holds stop_file plan path output told
+  no_input : {told : Refusal} → IsSameOrUnsaved path told → IsBuildRefused holds stop_file plan path output told
+  no_stop_file : {told : Refusal} → IsSomeAnd stop_file (λ named. IsSameOrUnsaved named.now told) → IsBuildRefused holds stop_file plan path output told
   no_stop_list : {told : Refusal} → IsSomeAnd stop_file (λ named. RefusesStop holds named.now told) → IsBuildRefused holds stop_file plan path output told
   no_file : {told : Refusal} → IsUnread path told → IsBuildRefused holds stop_file plan path output told
   no_documents : {told : Refusal} (text : Text) (stop : List Text) → holds path text → IsStopHeld holds stop_file stop → RefusesDocuments text told → IsBuildRefused holds stop_file plan path output told

@@ -1,14 +1,16 @@
 -- The files that a command line names, what was read of them, and what they were saved with.
-use Rattle.std.specs.Prelude.{◌≡◌, ℕ, List, Option, take}
+use Rattle.std.specs.Prelude.{◌≡◌, ℕ, List, Option, Some, take}
+use Rattle.ix_files.specs.Slots.{bytes_of}
+use Rattle.ix_files.specs.Views.{View}
 use Rattle.ix_build.specs.ReadBack.{TellBytes}
 
 -- a path, and the bytes of the file there, as it was read or as it was saved
 abbrev pub Holding : Type 1
 Holding = List ℕ → List ℕ → Type 0
 
--- nothing is known of files
-abbrev pub AnyBytes : Holding
-AnyBytes path bytes = Unit {0}
+-- These bytes were read of the path: those of the file there, if all answers were as the files were.
+abbrev pub held_in : View → Holding
+held_in view path bytes = view.honest → (file : List ℕ) → bytes_of (view.slots (view.place path)).now ≡ Some file → bytes ≡ file
 
 -- What is known of the files in which runs are kept: whether those who read them tell their bytes, and which bytes may come
 -- back of a path.

@@ -7,6 +7,7 @@ pub mod MergeInputs
 pub mod MergedRuns
 pub mod Refusals
 pub mod SavedIndexes
+pub mod StandardInput
 pub mod Statuses
 pub mod Upgrades
 pub mod WrittenRuns

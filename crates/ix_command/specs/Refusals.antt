@@ -8,14 +8,15 @@ use Rattle.ix_ask.specs.declared.ask_error.AskError.{AskError}
 use Rattle.ix_ask.specs.declared.ask_error.AskError.TheVariants as asking
 use Rattle.ix_ask.specs.EngineRefusals.{error_text, line_of}
 use Rattle.ix_ask.specs.declared.refusal.EngineRefusal.TheVariants as engine
+use Rattle.ix_build.specs.Plans.{PlanValue}
 use Rattle.ix_live.specs.LiveErrors.{live_error_name, live_error_number}
 use Rattle.ix_live.specs.declared.live_error.LiveError.{LiveError}
 use Rattle.ix_live.specs.declared.live_error.LiveError.TheVariants as live
 use Rattle.ix_script.specs.ScriptErrors.{script_error_name, script_error_number}
 use Rattle.ix_script.specs.declared.run_error.RunError.{RunError}
 use Rattle.ix_script.specs.declared.run_error.RunError.TheVariants as running
-use Rattle.ix_command.specs.declared.files.WriteFault.{WriteFault}
-use Rattle.ix_command.specs.declared.files.WriteFault.TheVariants as write_fault
+use Rattle.ix_files.specs.declared.file_error.FileError.{FileError}
+use Rattle.ix_files.specs.declared.file_error.FileError.TheVariants as file_error
 use Rattle.ix_command.specs.declared.refusal.Refusal.{Refusal}
 use Rattle.ix_command.specs.declared.refusal.Refusal.TheVariants as refusal
 
@@ -59,11 +60,27 @@ IsUnsaved path (refusal.Write named) = named.now ≡ path
 IsUnsaved path (refusal.Engine engine.Memory) = Unit {0}
 IsUnsaved path _ = ⊥
 
--- the refusal tells which of both it was, as the fault says
-abbrev pub TellsFault : Text → WriteFault → Refusal → Type 0
-TellsFault path write_fault.Refused (refusal.Write named) = named.now ≡ path
-TellsFault path write_fault.Refused _ = ⊥
-TellsFault path write_fault.Memory told = told ≡ refusal.Engine engine.Memory
+-- the refusal tells that the file of this path is also read, or cannot be written
+abbrev pub IsSameOrUnsaved : Text → Refusal → Type 0
+IsSameOrUnsaved path (refusal.Same named) = named.now ≡ path
+IsSameOrUnsaved path told = IsUnsaved path told
+
+-- the refusal tells that the folder of the plan is locked, or that memory ran out
+abbrev pub IsFolderLocked : PlanValue → Refusal → Type 0
+IsFolderLocked plan (refusal.Locked folder) = plan.folder ≡ Some (string_bytes folder)
+IsFolderLocked plan (refusal.Engine engine.Memory) = Unit {0}
+IsFolderLocked plan _ = ⊥
+
+-- the refusal says which of both it was, as the error says
+abbrev pub TellsUnsaved : Text → FileError → Refusal → Type 0
+TellsUnsaved path file_error.Memory told = told ≡ refusal.Engine engine.Memory
+TellsUnsaved path error (refusal.Write named) = named.now ≡ path
+TellsUnsaved path error _ = ⊥
+
+abbrev pub TellsUnread : Text → FileError → Refusal → Type 0
+TellsUnread path file_error.Memory told = told ≡ refusal.Engine engine.Memory
+TellsUnread path error (refusal.Read named) = named.now ≡ path
+TellsUnread path error _ = ⊥
 
 -- ---- its line
 
@@ -75,6 +92,8 @@ text_of (refusal.Read path) = Some (codes "file 1: Read(" ++ path.now ++ codes "
 text_of (refusal.ReadAdded path) = Some (codes "file 1: Read(" ++ string_bytes path ++ codes ")")
 text_of (refusal.Write path) = Some (codes "file 2: Write(" ++ path.now ++ codes ")")
 text_of (refusal.NotUtf8 path) = Some (codes "file 3: NotUtf8(" ++ path.now ++ codes ")")
+text_of (refusal.Same path) = Some (codes "file 4: Same(" ++ path.now ++ codes ")")
+text_of (refusal.Locked path) = Some (codes "file 5: Locked(" ++ string_bytes path ++ codes ")")
 text_of (refusal.Script error) = Some (error_text (codes "script ") (script_error_number error) (script_error_name error))
 text_of (refusal.Live error) = Some (error_text (codes "live ") (live_error_number error) (live_error_name error))
 

@@ -13,12 +13,16 @@ use Rattle.ix_command.specs.AskedFiles.{IsAnsweredFromFiles, IsAskRefused}
 use Rattle.ix_command.specs.BuiltIndexes.{IsBuilt, IsBuildRefused}
 use Rattle.ix_line.specs.Commands.{ix_app}
 use Rattle.ix_command.specs.Files.{Holding, Keeping}
+use Rattle.ix_files.specs.Outputs.{LeavesOthers, LeavesTarget, now_in}
+use Rattle.ix_files.specs.Slots.{IsSame}
+use Rattle.ix_files.specs.Views.{View}
 use Rattle.ix_line.specs.Help.{AsksForHelp, as_flag, help_of}
 use Rattle.ix_command.specs.IndexFiles.{IsListingRefused, IsPrintedFromFile, IsSearchRefused, IsSearchedFromFile}
 use Rattle.ix_line.specs.Lines.{CutsTwice, Reads, texts_of}
 use Rattle.ix_command.specs.LiveScripts.{IsLiveRefused, IsLived}
 use Rattle.ix_command.specs.MergedRuns.{IsMerged, IsMergeRefused}
 use Rattle.ix_command.specs.Refusals.{IsTold}
+use Rattle.ix_command.specs.StandardInput.{ReadsInputTwice}
 use Rattle.ix_command.specs.Upgrades.{IsUpgradeRefused, IsUpgraded}
 use Rattle.ix_command.specs.WrittenRuns.{IsRunRefused, IsRunSaved}
 use Rattle.ix_line.specs.declared.line.Line.{Line}
@@ -51,6 +55,33 @@ IsDone holds saves kept (Merge index inputs) old new count =
 IsDone holds saves kept (Upgrade old_file new_file) old new count =
     IsUpgraded holds saves old_file.now new_file.now × Keeps old new × (count ≡ 1)
 
+-- The line changes the file that it asks for, and no other; if it asks for none, it changes none.
+abbrev pub LeavesFiles : Line → View → View → Type 0
+LeavesFiles (Build stop_file plan collection index) old new = LeavesOthers index.now old new
+LeavesFiles (Run stop_file first collection run) old new = LeavesOthers run.now old new
+LeavesFiles (Merge index inputs) old new = LeavesOthers index.now old new
+LeavesFiles (Upgrade old_file new_file) old new = LeavesOthers new_file.now old new
+LeavesFiles _ old new = IsSame old.slots new.slots
+
+-- The file that the line asks for is as it was; or it was saved, and a crash may bring back what was there.
+abbrev pub IsUndone : Holding → Keeping → Line → View → View → Type 0
+IsUndone holds kept (Build stop_file plan collection index) old new =
+    LeavesTarget index.now old new ⊎ IsBuilt holds (now_in old new) kept stop_file plan collection.now index.now
+IsUndone holds kept (Run stop_file first collection run) old new =
+    LeavesTarget run.now old new ⊎ IsRunSaved holds (now_in old new) stop_file first collection.now run.now
+IsUndone holds kept (Merge index inputs) old new =
+    LeavesTarget index.now old new ⊎ IsMerged holds (now_in old new) (texts_of inputs.items) index.now
+IsUndone holds kept (Upgrade old_file new_file) old new =
+    LeavesTarget new_file.now old new ⊎ IsUpgraded holds (now_in old new) old_file.now new_file.now
+IsUndone holds kept _ old new = ⊤
+
+-- No file changes, or the words are a line, and it alone does.
+abbrev pub LeavesFilesOf : List Text → View → View → Type 0
+LeavesFilesOf words old new = IsSame old.slots new.slots ⊎ ((line : Line) × Reads words line × LeavesFiles line old new)
+
+abbrev pub AreUndone : Holding → Keeping → List Text → View → View → Type 0
+AreUndone holds kept words old new = IsSame old.slots new.slots ⊎ ((line : Line) × Reads words line × IsUndone holds kept line old new)
+
 -- what the line asks for was refused for this reason, and leaves this of the standard output
 abbrev pub IsLineRefused : Holding → Line → Option Text → Option Text → Refusal → Type 0
 IsLineRefused holds (Ask stop_file plan collection query) old new told =
@@ -70,6 +101,7 @@ pub record FindsSome (holds saves : Holding) (kept : Keeping) (words : List Text
   pub line : Line
   pub count : ℕ
   pub read : Reads words line
+  pub once : ¬ (ReadsInputTwice line)
   pub some : 0 < count
   pub done : IsDone holds saves kept line old new count
 
@@ -77,6 +109,7 @@ pub record FindsSome (holds saves : Holding) (kept : Keeping) (words : List Text
 pub record FindsNone (holds saves : Holding) (kept : Keeping) (words : List Text) (old new : Option Text) : Type 0 where
   pub line : Line
   pub read : Reads words line
+  pub once : ¬ (ReadsInputTwice line)
   pub done : IsDone holds saves kept line old new 0
 
 -- the words have a fault, and not only that they ask for help, or they cut into blocks in two ways
@@ -95,10 +128,11 @@ IsLineless words old new refusal.Arguments = AreMistaken words × Keeps old new
 IsLineless words old new (refusal.Engine engine.Memory) = Keeps old new
 IsLineless words old new told = AsksForHelp words × IsUnwritten (help_of words) old new told
 
--- The words were refused for this reason, and this is left of the standard output: they are no line, or what their line
--- asks for was refused.
+-- The words were refused for this reason, and this is left of the standard output: they are no line, or one that
+-- reads the standard input twice, or what their line asks for was refused.
 pub data IsRefusedFor (holds : Holding) (words : List Text) (old new : Option Text) (told : Refusal) : Type 0 where
   lineless : IsLineless words old new told → IsRefusedFor holds words old new told
+  twice : (line : Line) → Reads words line → ReadsInputTwice line → told ≡ refusal.Arguments → Keeps old new → IsRefusedFor holds words old new told
   undone : (line : Line) → Reads words line → IsLineRefused holds line old new told → IsRefusedFor holds words old new told
 
 -- The words were refused for one reason, and the error output gained the line that tells it.

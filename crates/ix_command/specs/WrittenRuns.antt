@@ -11,7 +11,7 @@ use Rattle.ix_run.specs.declared.errors.RunError.TheVariants as run_error
 use Rattle.ix_command.specs.AskedFiles.{IsStopHeld, RefusesStop}
 use Rattle.ix_ask.specs.Asking.{RefusesCollection}
 use Rattle.ix_command.specs.Files.{Holding}
-use Rattle.ix_command.specs.Refusals.{IsUnread, IsUnsaved}
+use Rattle.ix_command.specs.Refusals.{IsSameOrUnsaved, IsUnread, IsUnsaved}
 use Rattle.ix_ask.specs.declared.refusal.EngineRefusal.TheVariants as engine
 use Rattle.ix_command.specs.declared.refusal.Refusal.{Refusal}
 use Rattle.ix_command.specs.declared.refusal.Refusal.TheVariants as refusal
@@ -53,6 +53,7 @@ RefusesRun text stop first _ = ⊥
 -- Why `run` was refused: the stop file is refused, the collection file cannot be read or gives no run, or the run text that
 -- it gives cannot be saved.
 pub data IsRunRefused (holds : Holding) (stop_file : Option (Bor Text)) (first : ℕ) (path output : Text) : Refusal → Type 0 where
+  no_output : {told : Refusal} → IsSameOrUnsaved output told → IsRunRefused holds stop_file first path output told
   no_stop_list : {told : Refusal} → IsSomeAnd stop_file (λ named. RefusesStop holds named.now told) → IsRunRefused holds stop_file first path output told
   no_file : {told : Refusal} → IsUnread path told → IsRunRefused holds stop_file first path output told
   no_run : {told : Refusal} (text : Text) (stop : List Text) → holds path text → IsStopHeld holds stop_file stop → RefusesRun text stop first told → IsRunRefused holds stop_file first path output told

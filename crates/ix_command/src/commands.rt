@@ -3,12 +3,14 @@
 //! A command is a file below, with its own contract; here is what all of them share: the words are
 //! read, help is printed, and a refusal is told.
 
-ghost use Rattle.std.specs.Prelude.{◌≡◌, ◌≢◌, ◌≤◌, ◌⊎◌, IfOk, IfErr, OnOk};
+ghost use Rattle.std.specs.Prelude.{◌≡◌, ◌≢◌, ◌≤◌, ◌⊎◌, IfOk, IfErr, OnErr, OnOk};
 ghost use Rattle.std.specs.Io.KnownBytes.{Appends, Keeps};
-ghost use Rattle.ix_command.specs.Files.{AnyBytes, keeping_of};
+ghost use Rattle.ix_command.specs.Files.{held_in, keeping_of};
 ghost use Rattle.ix_line.specs.Lines.{Refuses, texts_of};
-ghost use Rattle.ix_command.specs.Statuses.{FindsNone, FindsSome, IsDone, IsHelped, IsLineRefused};
-ghost use Rattle.ix_command.specs.Statuses.{IsLineless, IsUnwritten, IsRefused, IsRefusedFor, spelled};
+ghost use Rattle.ix_command.specs.Statuses.{AreUndone, FindsNone, FindsSome, IsDone, IsHelped, IsLineRefused};
+ghost use Rattle.ix_command.specs.Statuses.{LeavesFilesOf, spelled};
+ghost use Rattle.ix_files.specs.Outputs.{saved_in};
+ghost use Rattle.ix_command.specs.Statuses.{IsLineless, IsUndone, IsUnwritten, IsRefused, IsRefusedFor, LeavesFiles};
 
 mod ask;
 mod build;
@@ -16,20 +18,20 @@ mod live;
 mod merge;
 mod run_file;
 mod search;
+mod standard_input;
 mod terms;
 mod upgrade;
 
-use crate::files::{FileSource, FileTarget, HostFiles};
 use crate::refusal::Refusal;
 use crate::refusing::refuse;
 use ix_ask::EngineRefusal;
 use ix_build::{RunFiles, Watch};
+use ix_files::Files;
 use ix_line::{Line, LineError, help_on, read_line, with_help_as_flag};
 use ix_output::{flush, put_all};
+use standard_input::reads_input_twice;
 use std::alloc::{AllocError, Global};
-use std::fs::File;
-use std::io::{Input, Write};
-use std::rt::Files;
+use std::io::Write;
 use std::sync::Wait;
 use std::thread::Threads;
 
@@ -42,40 +44,6 @@ const NOTHING: u8 = 1;
 /// How much a command that writes a file has done.
 const ONE_FILE: usize = 1;
 
-/// [`command_over`] the files of the system, of whose bytes nothing is known. Those of the runs come
-/// from the caller, since files that are shared among threads are made at one runtime alone.
-pub fn command<
-    R: Files<File = File> + Input + Print + AllocGlobal + Threads + Wait + Sync,
-    S: RunFiles,
-    V: Watch,
-    W: Write,
-    E: Write,
->(rt: &R, runs: &S, watch: &V, words: &[&str], out: &mut W, err: &mut E) -> u8
-    ensures status { result ≤ 2 }
-    ensures found { result ≡ 0 →
-        IsHelped (spelled words.now) (W.contents out.old) (W.contents out.new)
-        ⊎ FindsSome AnyBytes AnyBytes (keeping_of S.Reader.remaining (S.back runs.now))
-        (spelled words.now) (W.contents out.old) (W.contents out.new) }
-    ensures nothing { result ≡ 1 →
-        FindsNone AnyBytes AnyBytes (keeping_of S.Reader.remaining (S.back runs.now))
-        (spelled words.now) (W.contents out.old) (W.contents out.new) }
-    ensures quiet { result ≢ 2 → Keeps (E.contents err.old) (E.contents err.new) }
-    ensures refused { result ≡ 2 →
-        IsRefused AnyBytes (spelled words.now) (W.contents out.old) (W.contents out.new)
-        (E.contents err.old) (E.contents err.new) }
-{
-    command_over(
-        rt,
-        rt.alloc(),
-        &HostFiles { rt },
-        runs,
-        watch,
-        words,
-        out,
-        err,
-    )
-}
-
 /// Does what the words after the program's name ask for, with the files that they name, and answers
 /// the exit status: 0 where something was found, a file was written or help was printed, 1 where
 /// nothing was found, 2 where it was refused. A folder in which runs are to be kept is one of `runs`, and
@@ -87,7 +55,7 @@ pub fn command<
 /// out then.
 pub fn command_over<
     R: Threads + Wait + Sync,
-    F: FileSource + FileTarget,
+    F: Files,
     S: RunFiles,
     V: Watch,
     W: Write,
@@ -95,7 +63,7 @@ pub fn command_over<
 >(
     rt: &R,
     alloc: Global,
-    files: &F,
+    files: &mut F,
     runs: &S,
     watch: &V,
     words: &[&str],
@@ -105,17 +73,24 @@ pub fn command_over<
     ensures status { result ≤ 2 }
     ensures found { result ≡ 0 →
         IsHelped (spelled words.now) (W.contents out.old) (W.contents out.new)
-        ⊎ FindsSome (F.holds files.now) (F.saved files.now)
+        ⊎ FindsSome (held_in (F.view files.old)) (saved_in (F.sent files.new) (F.view files.old) (F.view files.new))
         (keeping_of S.Reader.remaining (S.back runs.now)) (spelled words.now)
         (W.contents out.old) (W.contents out.new) }
     ensures nothing { result ≡ 1 →
-        FindsNone (F.holds files.now) (F.saved files.now)
+        FindsNone (held_in (F.view files.old)) (saved_in (F.sent files.new) (F.view files.old) (F.view files.new))
         (keeping_of S.Reader.remaining (S.back runs.now)) (spelled words.now)
         (W.contents out.old) (W.contents out.new) }
     ensures quiet { result ≢ 2 → Keeps (E.contents err.old) (E.contents err.new) }
     ensures refused { result ≡ 2 →
-        IsRefused (F.holds files.now) (spelled words.now)
+        IsRefused (held_in (F.view files.old)) (spelled words.now)
         (W.contents out.old) (W.contents out.new) (E.contents err.old) (E.contents err.new) }
+
+    // Only the file that the line asks for changes; if it was not saved, there is what was there.
+    ensures files { (F.view files.new).honest
+        → LeavesFilesOf (spelled words.now) (F.view files.old) (F.view files.new) }
+    ensures undone { result ≡ 2 → (F.view files.new).honest → AreUndone
+        (held_in (F.view files.old)) (keeping_of S.Reader.remaining (S.back runs.now))
+        (spelled words.now) (F.view files.old) (F.view files.new) }
 {
     let words = match with_help_as_flag(alloc, words) {
         Ok(words) => words,
@@ -128,10 +103,10 @@ pub fn command_over<
 }
 
 /// Does what the words ask for, but for telling a refusal.
-fn run<'a, R: Threads + Wait + Sync, F: FileSource + FileTarget, S: RunFiles, V: Watch, W: Write>(
+fn run<'a, R: Threads + Wait + Sync, F: Files, S: RunFiles, V: Watch, W: Write>(
     rt: &R,
     alloc: Global,
-    files: &F,
+    files: &mut F,
     runs: &S,
     watch: &V,
     words: &'a [&'a str],
@@ -140,18 +115,26 @@ fn run<'a, R: Threads + Wait + Sync, F: FileSource + FileTarget, S: RunFiles, V:
     ensures status { IfOk result (λ status. status ≤ 1) }
     ensures found { IfOk result (λ status. status ≡ 0 →
         IsHelped (texts_of words.entry.now) (W.contents out.old) (W.contents out.new)
-        ⊎ FindsSome (F.holds files.now) (F.saved files.now)
+        ⊎ FindsSome (held_in (F.view files.old)) (saved_in (F.sent files.new) (F.view files.old) (F.view files.new))
         (keeping_of S.Reader.remaining (S.back runs.now)) (texts_of words.entry.now)
         (W.contents out.old) (W.contents out.new)) }
     ensures nothing { IfOk result (λ status. status ≡ 1 →
-        FindsNone (F.holds files.now) (F.saved files.now)
+        FindsNone (held_in (F.view files.old)) (saved_in (F.sent files.new) (F.view files.old) (F.view files.new))
         (keeping_of S.Reader.remaining (S.back runs.now)) (texts_of words.entry.now)
         (W.contents out.old) (W.contents out.new)) }
-    ensures refused { IfErr result (IsRefusedFor (F.holds files.now) (texts_of words.entry.now)
+    ensures refused { IfErr result (IsRefusedFor (held_in (F.view files.old)) (texts_of words.entry.now)
         (W.contents out.old) (W.contents out.new)) }
+    ensures files { (F.view files.new).honest
+        → LeavesFilesOf (texts_of words.entry.now) (F.view files.old) (F.view files.new) }
+    ensures undone { OnErr result ((F.view files.new).honest → AreUndone
+        (held_in (F.view files.old)) (keeping_of S.Reader.remaining (S.back runs.now))
+        (texts_of words.entry.now) (F.view files.old) (F.view files.new)) }
 {
     match read_line(alloc, words) {
         Ok(line) => {
+            if reads_input_twice(&line) {
+                return Err(Refusal::Arguments);
+            }
             let count = do_line(rt, alloc, files, runs, watch, line, out)?;
             Ok(if count == 0 { NOTHING } else { FOUND })
         }
@@ -166,24 +149,29 @@ fn run<'a, R: Threads + Wait + Sync, F: FileSource + FileTarget, S: RunFiles, V:
 fn do_line<
     'a,
     R: Threads + Wait + Sync,
-    F: FileSource + FileTarget,
+    F: Files,
     S: RunFiles,
     V: Watch,
     W: Write,
 >(
     rt: &R,
     alloc: Global,
-    files: &F,
+    files: &mut F,
     runs: &S,
     watch: &V,
     line: Line<'a>,
     out: &mut W,
 ) -> Result<usize, Refusal<'a>>
-    ensures done { IfOk result (IsDone (F.holds files.now) (F.saved files.now)
+    ensures done { IfOk result (IsDone (held_in (F.view files.old)) (saved_in (F.sent files.new) (F.view files.old) (F.view files.new))
         (keeping_of S.Reader.remaining (S.back runs.now)) line.entry
         (W.contents out.old) (W.contents out.new)) }
-    ensures refused { IfErr result (IsLineRefused (F.holds files.now) line.entry
+    ensures refused { IfErr result (IsLineRefused (held_in (F.view files.old)) line.entry
         (W.contents out.old) (W.contents out.new)) }
+    ensures files { (F.view files.new).honest
+        → LeavesFiles line.entry (F.view files.old) (F.view files.new) }
+    ensures undone { OnErr result ((F.view files.new).honest → IsUndone
+        (held_in (F.view files.old)) (keeping_of S.Reader.remaining (S.back runs.now))
+        line.entry (F.view files.old) (F.view files.new)) }
 {
     match line {
         Line::Ask {

@@ -3,12 +3,12 @@
 #![tactic(auto)]
 
 mod commands;
-mod files;
 mod index_file;
+mod outputs;
+mod reading;
 mod refusal;
 mod refusing;
 
-pub use commands::{command, command_over};
-pub use files::{FileSource, FileTarget, HostFiles, ReadFault, WriteFault};
+pub use commands::command_over;
 pub use refusal::Refusal;
 pub use refusing::refuse;

@@ -1,7 +1,7 @@
 //! The one line by which the program says why it refused.
 
-use crate::files::WriteFault;
 use ix_ask::{AskError, EngineRefusal};
+use ix_files::FileError;
 use ix_live::LiveError;
 use ix_script::{RunError, ScriptError};
 use std::alloc::{AllocError, Global};
@@ -23,6 +23,10 @@ pub enum Refusal<'a> {
     Write(&'a str),
     /// The file of this path is not UTF-8.
     NotUtf8(&'a str),
+    /// The output of this path is a file that is read.
+    Same(&'a str),
+    /// Another program has locked the folder of this path, in which runs are to be kept.
+    Locked(String),
     /// The text is no script.
     Script(ScriptError),
     /// The live index refused what a script asks for.
@@ -30,16 +34,27 @@ pub enum Refusal<'a> {
 }
 
 impl<'a> Refusal<'a> {
-    ghost use Rattle.ix_command.specs.Refusals.{IsUnsaved, TellsFault, TellsLive, TellsStep};
+    ghost use Rattle.ix_command.specs.Refusals.{IsUnread, IsUnsaved, TellsLive, TellsStep, TellsUnread, TellsUnsaved};
 
-    /// The refusal of a file that was not written: `Write` of its path, or `Memory`, as the fault says.
-    pub fn unsaved(path: &'a str, fault: WriteFault) -> Refusal<'a>
+    /// The error of a file that was not written: `Memory`, or `Write` of its path.
+    pub fn unsaved(path: &'a str, error: FileError) -> Refusal<'a>
         ensures unsaved { IsUnsaved path.entry.now result }
-        ensures fault { TellsFault path.entry.now fault result }
+        ensures error { TellsUnsaved path.entry.now error result }
     {
-        match fault {
-            WriteFault::Refused => Refusal::Write(path),
-            WriteFault::Memory => Refusal::Engine(EngineRefusal::Memory),
+        match error {
+            FileError::Memory => Refusal::Engine(EngineRefusal::Memory),
+            FileError::Failed | FileError::Exists | FileError::Locked => Refusal::Write(path),
+        }
+    }
+
+    /// The error of a file that was not read: `Memory`, or `Read` of its path.
+    pub fn unread(path: &'a str, error: FileError) -> Refusal<'a>
+        ensures unread { IsUnread path.entry.now result }
+        ensures error { TellsUnread path.entry.now error result }
+    {
+        match error {
+            FileError::Memory => Refusal::Engine(EngineRefusal::Memory),
+            FileError::Failed | FileError::Exists | FileError::Locked => Refusal::Read(path),
         }
     }
 
@@ -84,6 +99,8 @@ impl fmt::Display for Refusal<'_> {
             Refusal::ReadAdded(path) => write!(f, "file 1: Read({path})"),
             Refusal::Write(path) => write!(f, "file 2: Write({path})"),
             Refusal::NotUtf8(path) => write!(f, "file 3: NotUtf8({path})"),
+            Refusal::Same(path) => write!(f, "file 4: Same({path})"),
+            Refusal::Locked(path) => write!(f, "file 5: Locked({path})"),
             Refusal::Script(error) => write!(f, "script {}: {error}", error.number()),
             Refusal::Live(error) => write!(f, "live {}: {error}", error.number()),
         }

@@ -58,10 +58,24 @@ $ ix build no-such other
 ! ix: file 1: Read(no-such)
 $ size other
 no such file
+$ fail 2
 $ ix build five none
 ! ix: file 2: Write(none)
+$ fail 3
+$ ix build five none
+! ix: file 2: Write(none)
+$ room 9
 $ ix build five full
 ! ix: build 3: Write
+$ size full
+no such file
+$ room 4096
+$ ix build five five
+! ix: file 4: Same(five)
+$ ix build --stop stop five stop
+! ix: file 4: Same(stop)
+$ ix build --stop - - other
+! ix: arguments refused
 $ ix build --runs=no/such/folder five other
 ! ix: build 2: Spill(0)
 ";

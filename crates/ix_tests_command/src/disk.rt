@@ -1,25 +1,17 @@
-//! Files in memory.
+//! Files in memory, and what a session says of them.
 
-use ix_command::{FileSource, FileTarget, ReadFault, WriteFault};
+use ix_files::MemoryFiles;
 use std::alloc::Global;
-use std::cell::RefCell;
 use std::io;
-use std::io::{Cursor, ErrorKind, Write};
+use std::io::{ErrorKind, Write};
 use std::test::Fail;
 
-/// A file in memory.
-#[derive(Drop)]
-struct Entry {
-    path: String,
-    bytes: Vec<u8>,
-}
-
-/// Files in memory that can be read and written. The file `none` cannot be created, the file `full` takes nine bytes, and
-/// there is no memory to read the file `large`.
+/// Files in memory.
 #[derive(Drop)]
 pub struct Disk {
     alloc: Global,
-    entries: RefCell<Vec<Entry>>,
+    /// These files.
+    pub(super) files: MemoryFiles,
 }
 
 impl Disk {
@@ -27,59 +19,38 @@ impl Disk {
     pub(super) fn new(alloc: Global) -> Disk {
         Disk {
             alloc,
-            entries: RefCell::new(Vec::new(alloc)),
+            files: MemoryFiles::new(alloc),
         }
     }
 
-    /// The file of this path has these bytes from now on.
-    fn save(&self, path: &str, bytes: &[u8]) -> Result<(), WriteFault> {
-        let Ok(mut entries) = self.entries.try_borrow_mut() else {
-            return Err(WriteFault::Refused);
-        };
-        let path = String::from_str(self.alloc, path)?;
-        let bytes = Vec::from_slice(self.alloc, bytes)?;
-        match entries.push(Entry { path, bytes }) {
-            Ok(()) => Ok(()),
-            Err(_) => Err(WriteFault::Memory),
-        }
-    }
-
-    /// The bytes of a file, as it was saved last.
-    fn get(&self, path: &str) -> Result<Vec<u8>, ReadFault> {
-        let Ok(entries) = self.entries.try_borrow() else {
-            return Err(ReadFault::Refused);
-        };
-        if path == "large" {
-            return Err(ReadFault::Memory);
-        }
-        for entry in entries.iter().rev() {
-            if entry.path.as_str() == path {
-                return match Vec::from_slice(self.alloc, &entry.bytes) {
-                    Ok(bytes) => Ok(bytes),
-                    Err(_) => Err(ReadFault::Memory),
-                };
+    /// Does what a command says of a path, or of a number, and what stands behind it: `put` gives the file spelled bytes, `cmp`
+    /// tells whether it differs from another one, and `size` how many bytes it has; `fail` lets the call of files of this
+    /// number, from 1 and from now on, fail, for want of memory if `Memory` stands behind it, and `room` lets a writer take so many bytes.
+    pub(super) fn tell(&mut self, command: &str, rest: &str, told: &mut String) -> Result<(), Fail> {
+        let (first, more) = rest.split_once(' ').unwrap_or((rest, ""));
+        match command {
+            "put" => Ok(self.files.put(first, &bytes_of(self.alloc, more)?)?),
+            "fail" => {
+                self.files.fail_at(first.parse()?, more == "Memory");
+                Ok(())
             }
+            "room" => {
+                self.files.set_room(first.parse()?);
+                Ok(())
+            }
+            _ => self.tell_file(command, first, more, told),
         }
-        Err(ReadFault::Refused)
     }
 
-    /// Does what a command says of a path and what stands behind it: `put` gives the file spelled bytes, `cmp` tells
-    /// whether it differs from another one, and `size` how many bytes it has.
-    pub(super) fn tell(&self, command: &str, rest: &str, told: &mut String) -> Result<(), Fail> {
-        let (path, more) = rest.split_once(' ').unwrap_or((rest, ""));
-        if command == "put" {
-            return match self.save(path, &bytes_of(self.alloc, more)?) {
-                Ok(()) => Ok(()),
-                Err(_) => Err("the disk is full")?,
-            };
-        }
-        let Ok(bytes) = self.get(path) else {
+    /// Tells how many bytes a file has, or whether it differs from another one.
+    fn tell_file(&self, command: &str, path: &str, other: &str, told: &mut String) -> Result<(), Fail> {
+        let Some(bytes) = self.files.bytes(path) else {
             told.push_str("no such file\n")?;
             return Ok(());
         };
         if command == "size" {
             told.push_str(&format!(in self.alloc; "{}\n", bytes.len())?)?;
-        } else if self.get(more).ok().as_deref() != Some(bytes.as_slice()) {
+        } else if self.files.bytes(other) != Some(bytes) {
             told.push_str("they differ\n")?;
         }
         Ok(())
@@ -124,26 +95,6 @@ fn digit(character: u8) -> Option<u8> {
     }
 }
 
-impl FileSource for Disk {
-    ghost use Rattle.ix_command.specs.Files.{AnyBytes};
-
-    type Reader = Cursor<Vec<u8>>;
-
-    ghost holds = { λ _. AnyBytes };
-
-    fn read(&self, path: &str, room: usize) -> Result<Vec<u8>, ReadFault> {
-        let mut bytes = self.get(path)?;
-        bytes.truncate(room);
-        Ok(bytes)
-    }
-
-    fn open(&self, path: &str) -> Result<Cursor<Vec<u8>>, ReadFault> {
-        Ok(Cursor::new(self.get(path)?))
-    }
-
-    ghost untold = { λ files path bytes reader none. tt };
-}
-
 /// A writer that takes so many bytes.
 #[derive(Drop)]
 pub struct Narrow {
@@ -174,27 +125,4 @@ impl Write for Narrow {
     fn flush(&mut self) -> io::Result<()> {
         Ok(())
     }
-}
-
-impl FileTarget for Disk {
-    ghost use Rattle.ix_command.specs.Files.{AnyBytes};
-
-    type Writer = Narrow;
-
-    ghost saved = { λ _. AnyBytes };
-
-    fn create(&self, path: &str) -> Result<Narrow, WriteFault> {
-        if path == "none" {
-            return Err(WriteFault::Refused);
-        }
-        self.save(path, b"")?;
-        let room = if path == "full" { 9 } else { usize::MAX };
-        Ok(Narrow::new(self.alloc, room))
-    }
-
-    fn close(&self, path: &str, writer: Narrow) -> Result<(), WriteFault> {
-        self.save(path, &writer.taken)
-    }
-
-    ghost untold = { λ files path bytes writer none. tt };
 }

@@ -8,6 +8,8 @@ mod building;
 #[cfg(test)]
 mod disk;
 #[cfg(test)]
+mod failing;
+#[cfg(test)]
 mod lines;
 #[cfg(test)]
 mod live;

@@ -56,7 +56,8 @@ $ ix live --stop=stop stopped
 $ put missing publish\nadd a\x1bb\n
 $ ix live missing
 ! ix: file 1: Read(a\x1bb)
-$ put room add large\n
+$ put room add five\n
+$ fail 2 Memory
 $ ix live room
 ! ix: memory 1: Memory
 $ put fault add no-tab\n

@@ -51,8 +51,10 @@ $ ix merge index later 0.run
 ! ix: merge 3: StopDiffers
 $ ix merge index cut.run
 ! ix: merge 4: Source(0, Number(Cut))
+$ room 9
 $ ix merge full 0.run
 ! ix: merge 6: Write
+$ room 4096
 $ ix merge new 0.run cut.ix
 ! ix: index 3: Trailer
 $ ix merge new five 0.run
@@ -71,10 +73,21 @@ $ ix run --stop two-words no-tab new
 ! ix: stop 1: NotOneWord(1)
 $ size new
 no such file
+$ fail 2
 $ ix merge none 0.run
 ! ix: file 2: Write(none)
+$ room 9
 $ ix run ab full
 ! ix: file 2: Write(full)
+$ size full
+no such file
+$ room 4096
+$ ix run ab ab
+! ix: file 4: Same(ab)
+$ ix merge new - -
+! ix: arguments refused
+$ ix merge 0.run 0.run 2.run 4.run
+$ cmp 0.run five2.ix
 ";
 
 /// Indexes of version 1 that become those of version 2. One of version 2 gives the same bytes.
@@ -103,8 +116,13 @@ $ ix upgrade no-such other
 ! ix: file 1: Read(no-such)
 $ size other
 no such file
+$ fail 2
 $ ix upgrade five.ix none
 ! ix: file 2: Write(none)
+$ room 9
 $ ix upgrade five.ix full
 ! ix: file 2: Write(full)
+$ room 4096
+$ ix upgrade five.ix five.ix
+$ cmp five.ix five2.ix
 ";

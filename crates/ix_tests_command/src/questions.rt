@@ -173,7 +173,8 @@ $ ix ask no-line-end y
 ! ix: collection 5: NoLineEnd(1)
 $ ix ask no/such/file y
 ! ix: file 1: Read(no/such/file)
-$ ix ask large y
+$ fail 1 Memory
+$ ix ask five y
 ! ix: memory 1: Memory
 $ ix ask --stop two-words no-tab x
 ! ix: stop 1: NotOneWord(1)
@@ -192,7 +193,8 @@ $ ix search doubled.ix 'x y'
 ! ix: index 16: Doubled
 $ ix terms without.ix y
 ! ix: index 17: Grams
-$ ix search large y
+$ fail 1 Memory
+$ ix search five.ix y
 ! ix: memory 1: Memory
 $ ix search no-such y
 ! ix: file 1: Read(no-such)

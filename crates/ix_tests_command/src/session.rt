@@ -3,7 +3,8 @@
 //! Behind `$ ix` stand the words of a command line, between spaces or in apostrophes; behind `? ` the last word alone,
 //! whatever is in it, if the others are those of the session. Then comes the standard output as it is, the error output
 //! behind `! `, which is one line, and the status in brackets, unless it is 0, or 2 behind an error line. `$ put A BYTES`
-//! makes a file of spelled bytes, `$ cmp A B` says whether two files differ, `$ size A` how many bytes a file has.
+//! makes a file of spelled bytes, `$ cmp A B` says whether two files differ, `$ size A` how many bytes a file has. `$ fail N`
+//! lets the call of files of number N fail, `$ fail N Memory` for want of memory, and `$ room N` lets a writer take N bytes.
 
 use super::building::BUILDING;
 use super::disk::{Disk, Narrow};
@@ -23,19 +24,28 @@ use std::thread::Threads;
 /// callers.
 fn status_of<R: AllocGlobal + Threads + Wait + Sync, S: RunFiles, W: Write, E: Write>(
     rt: &R,
-    disk: &Disk,
+    disk: &mut Disk,
     runs: &S,
     words: &[&str],
     out: &mut W,
     err: &mut E,
 ) -> u8 {
-    command_over(rt, rt.alloc(), disk, runs, &Unwatched, words, out, err)
+    command_over(
+        rt,
+        rt.alloc(),
+        &mut disk.files,
+        runs,
+        &Unwatched,
+        words,
+        out,
+        err,
+    )
 }
 
 /// Runs the program, and tells what it prints and its status.
 pub(super) fn tell<R: AllocGlobal + Threads + Wait + Sync, S: RunFiles>(
     rt: &R,
-    disk: &Disk,
+    disk: &mut Disk,
     runs: &S,
     words: &[&str],
     told: &mut String,
@@ -94,7 +104,7 @@ pub(super) fn words_of<'a>(alloc: Global, line: &'a str) -> Result<Vec<&'a str>,
 /// Does what one line says, and tells what comes of it. A line that says nothing is one that was printed.
 fn step<R: AllocGlobal + Threads + Wait + Sync, S: RunFiles>(
     rt: &R,
-    disk: &Disk,
+    disk: &mut Disk,
     runs: &S,
     before: &str,
     line: &str,
@@ -125,7 +135,7 @@ fn step<R: AllocGlobal + Threads + Wait + Sync, S: RunFiles>(
 /// Plays a session over a disk again, with these words before each that stands behind `? `, and with runs in these files.
 pub(super) fn play<R: AllocGlobal + Abort + Threads + Wait + Sync, S: RunFiles>(
     rt: &R,
-    disk: &Disk,
+    disk: &mut Disk,
     runs: &S,
     before: &str,
     session: &str,
@@ -169,19 +179,19 @@ $ put cut-head.run PIIXRUN1\0\0\0\0
 #[test]
 fn sessions(rt: HostRuntime) -> Result<(), Fail> {
     for session in [WORKED, TERMS, REFUSED, BUILDING, MERGING, UPGRADING, LIVE] {
-        let disk = Disk::new(rt.alloc());
-        play(&rt, &disk, &SystemFiles { rt: &rt }, "", FILES)?;
-        play(&rt, &disk, &SystemFiles { rt: &rt }, "", session)?;
+        let mut disk = Disk::new(rt.alloc());
+        play(&rt, &mut disk, &SystemFiles { rt: &rt }, "", FILES)?;
+        play(&rt, &mut disk, &SystemFiles { rt: &rt }, "", session)?;
     }
     Ok(())
 }
 
 #[test]
 fn queries_of_five_documents(rt: HostRuntime) -> Result<(), Fail> {
-    let disk = Disk::new(rt.alloc());
-    play(&rt, &disk, &SystemFiles { rt: &rt }, "", FILES)?;
+    let mut disk = Disk::new(rt.alloc());
+    play(&rt, &mut disk, &SystemFiles { rt: &rt }, "", FILES)?;
     for before in ["ask five", "search five.ix", "search five2.ix"] {
-        play(&rt, &disk, &SystemFiles { rt: &rt }, before, OF_FIVE)?;
+        play(&rt, &mut disk, &SystemFiles { rt: &rt }, before, OF_FIVE)?;
     }
     Ok(())
 }
@@ -190,7 +200,7 @@ fn queries_of_five_documents(rt: HostRuntime) -> Result<(), Fail> {
 /// error output of the first.
 fn tell_refused_writes<R: AllocGlobal + Threads + Wait + Sync, S: RunFiles>(
     rt: &R,
-    disk: &Disk,
+    disk: &mut Disk,
     runs: &S,
     line: &str,
     told: &mut String,
@@ -207,9 +217,9 @@ fn tell_refused_writes<R: AllocGlobal + Threads + Wait + Sync, S: RunFiles>(
 
 #[test]
 fn writes_that_are_refused(rt: HostRuntime) -> Result<(), Fail> {
-    let disk = Disk::new(rt.alloc());
+    let mut disk = Disk::new(rt.alloc());
     let runs = SystemFiles { rt: &rt };
-    play(&rt, &disk, &runs, "", FILES)?;
+    play(&rt, &mut disk, &runs, "", FILES)?;
     for line in [
         "ask five y",
         "search five.ix y",
@@ -217,7 +227,7 @@ fn writes_that_are_refused(rt: HostRuntime) -> Result<(), Fail> {
         "--help",
     ] {
         let mut told = String::new(rt.alloc());
-        tell_refused_writes(&rt, &disk, &runs, line, &mut told)?;
+        tell_refused_writes(&rt, &mut disk, &runs, line, &mut told)?;
         assert_eq!(rt; told.as_str(), "2 2 ix: file 2: Write(-)\n");
     }
     Ok(())

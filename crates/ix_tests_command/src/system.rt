@@ -3,7 +3,7 @@
 use super::disk::Disk;
 use super::session::{FILES, play};
 use ix_build::{RunFiles, SystemFiles, Unwatched};
-use ix_command::command;
+use ix_command::command_over;
 use std::fs::File;
 use std::io::{Input, Write};
 use std::process::Abort;
@@ -27,7 +27,16 @@ fn status_of<
     W: Write,
     E: Write,
 >(rt: &R, runs: &S, words: &[&str], out: &mut W, err: &mut E) -> u8 {
-    command(rt, runs, &Unwatched, words, out, err)
+    command_over(
+        rt,
+        rt.alloc(),
+        &mut ix_files::SystemFiles { rt },
+        runs,
+        &Unwatched,
+        words,
+        out,
+        err,
+    )
 }
 
 #[test]
@@ -57,12 +66,12 @@ $ cmp new stopped
 
 #[test]
 fn a_folder_of_runs_changes_no_byte(rt: HostRuntime) -> Result<(), Fail> {
-    let disk = Disk::new(rt.alloc());
+    let mut disk = Disk::new(rt.alloc());
     let folder = path_of(&rt, "runs")?;
     let session = PLANS.replace(rt.alloc(), '@', folder.as_str())?;
     fs::create_dir(&rt, folder.as_str())?;
-    play(&rt, &disk, &SystemFiles { rt: &rt }, "", FILES)?;
-    play(&rt, &disk, &SystemFiles { rt: &rt }, "", session.as_str())?;
+    play(&rt, &mut disk, &SystemFiles { rt: &rt }, "", FILES)?;
+    play(&rt, &mut disk, &SystemFiles { rt: &rt }, "", session.as_str())?;
     // Only an empty folder is removed.
     fs::remove_dir(&rt, folder.as_str())?;
     Ok(())

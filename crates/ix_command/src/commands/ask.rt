@@ -4,13 +4,14 @@ ghost use Rattle.std.specs.Prelude.{◌≡◌, ℕ, List, take, IfOk, IfErr, IsS
 ghost use Rattle.ix_text.specs.StopText.{IsStopText};
 ghost use Rattle.ix_command.specs.AskedFiles.{IsAnsweredFromFiles, IsAskRefused, IsNoStopText, IsStopHeld};
 ghost use Rattle.ix_command.specs.AskedFiles.{RefusesStop};
-ghost use Rattle.ix_command.specs.Files.{IsFront};
+ghost use Rattle.ix_command.specs.Files.{IsFront, held_in};
 ghost use Rattle.ix_command.specs.Refusals.{IsUnread};
 
-use crate::files::{FileSource, ReadFault};
+use crate::reading::read_front;
 use crate::refusal::Refusal;
 use ix_ask::{EngineRefusal, ask};
 use ix_build::Plan;
+use ix_files::Files;
 use ix_text::{MAX_TEXT_BYTES, StopError, StopList};
 use std::alloc::Global;
 use std::io::Write;
@@ -24,7 +25,7 @@ pub const ROOM: usize = MAX_TEXT_BYTES + 1;
 
 /// Writes the names of the documents in the collection file that answer the query, and answers how
 /// many there are, whatever the plan. The words of the stop file, where one is named, are left out.
-pub fn run<'a, R: Threads + Wait + Sync, F: FileSource, W: Write>(
+pub fn run<'a, R: Threads + Wait + Sync, F: Files, W: Write>(
     rt: &R,
     alloc: Global,
     files: &F,
@@ -35,29 +36,29 @@ pub fn run<'a, R: Threads + Wait + Sync, F: FileSource, W: Write>(
     out: &mut W,
 ) -> Result<usize, Refusal<'a>>
     ensures answered { IfOk result
-        (IsAnsweredFromFiles (F.holds files.now) stop.entry collection.entry.now
+        (IsAnsweredFromFiles (held_in (F.view files.now)) stop.entry collection.entry.now
         query.now (W.contents out.old) (W.contents out.new)) }
-    ensures refused { IfErr result (IsAskRefused (F.holds files.now) stop.entry plan.now.workers
+    ensures refused { IfErr result (IsAskRefused (held_in (F.view files.now)) stop.entry plan.now.workers
         collection.entry.now query.now (W.contents out.old) (W.contents out.new)) }
 {
     let stop = read_stop_list(alloc, files, stop)?;
-    let text = read_file(files, collection)?;
+    let text = read_file(alloc, files, collection)?;
     Ok(ask(rt, alloc, &text, &stop, plan, query, out)?)
 }
 
 /// The stop list of a file, or the empty one where no file is named.
-pub fn read_stop_list<'a, F: FileSource>(
+pub fn read_stop_list<'a, F: Files>(
     alloc: Global,
     files: &F,
     path: Option<&'a str>,
 ) -> Result<StopList, Refusal<'a>>
-    ensures held { IfOk result (IsStopHeld (F.holds files.now) path.entry) }
+    ensures held { IfOk result (IsStopHeld (held_in (F.view files.now)) path.entry) }
     ensures refused { IfErr result (λ told.
-        IsSomeAnd path.entry (λ named. RefusesStop (F.holds files.now) named.now told)) }
+        IsSomeAnd path.entry (λ named. RefusesStop (held_in (F.view files.now)) named.now told)) }
 {
     match path {
         Some(path) => {
-            let bytes = read_file(files, path)?;
+            let bytes = read_file(alloc, files, path)?;
             stop_list_of(alloc, path, &bytes)
         }
         None => Ok(StopList::empty(alloc)),
@@ -83,14 +84,17 @@ fn stop_list_of<'a>(alloc: Global, path: &'a str, bytes: &[u8]) -> Result<StopLi
 }
 
 /// The bytes of a file, or the first of them where it has more than any text may have.
-pub fn read_file<'a, F: FileSource>(files: &F, path: &'a str) -> Result<Vec<u8>, Refusal<'a>>
+pub fn read_file<'a, F: Files>(
+    alloc: Global,
+    files: &F,
+    path: &'a str,
+) -> Result<Vec<u8>, Refusal<'a>>
     ensures front { IfOk result
-        (λ bytes. IsFront (F.holds files.now path.entry.now) ROOM bytes.items) }
+        (λ bytes. IsFront (held_in (F.view files.now) path.entry.now) ROOM bytes.items) }
     ensures refused { IfErr result (IsUnread path.entry.now) }
 {
-    match files.read(path, ROOM) {
+    match read_front(alloc, files, path, ROOM) {
         Ok(bytes) => Ok(bytes),
-        Err(ReadFault::Refused) => Err(Refusal::Read(path)),
-        Err(ReadFault::Memory) => Err(Refusal::Engine(EngineRefusal::Memory)),
+        Err(error) => Err(Refusal::unread(path, error)),
     }
 }

@@ -1,22 +1,22 @@
 //! `ix build`: builds an index file of a collection file.
 
-ghost use Rattle.std.specs.Prelude.{ℕ, List, IfOk, IfErr, IfSome, OnOk};
-ghost use Rattle.std.specs.Io.KnownBytes.{IsAtEnd};
+ghost use Rattle.std.specs.Prelude.{◌⊎◌, ℕ, List, IfOk, IfErr, OnErr, OnOk};
 ghost use Rattle.ix_text.specs.Collections.{NamedText, collection_of};
 ghost use Rattle.ix_text.specs.CollectionText.{IsCollectionText};
 ghost use Rattle.ix_build.specs.Plans.{PlanValue};
 ghost use Rattle.ix_build.specs.RunPieces.{AreRunsOfTexts};
 ghost use Rattle.ix_command.specs.BuiltIndexes.{BuildsText, ComeBack, IsBuildRefused, IsBuilt};
 ghost use Rattle.ix_command.specs.BuiltIndexes.{IsUnbuilt, RefusesDocuments, RefusesText};
-ghost use Rattle.ix_command.specs.Files.{keeping_of};
-ghost use Rattle.ix_command.specs.Refusals.{IsUnsaved};
+ghost use Rattle.ix_command.specs.Files.{held_in, keeping_of};
 ghost use Rattle.ix_command.specs.SavedIndexes.{SavesAlike, SavesIndex};
+ghost use Rattle.ix_files.specs.Outputs.{LeavesOthers, LeavesTarget, now_in, saved_in};
 
 use crate::commands::ask::{read_file, read_stop_list};
-use crate::files::{FileSource, FileTarget};
+use crate::outputs::{begin, check_output, end, keep_apart, keep_from_runs, lock_runs};
 use crate::refusal::Refusal;
 use ix_ask::EngineRefusal;
 use ix_build::{InvertedBlocks, Plan, RunFiles, Watch, build_with_files, invert_all};
+use ix_files::Files;
 use ix_text::{Collection, StopList};
 use std::alloc::Global;
 use std::sync::Wait;
@@ -26,12 +26,12 @@ use std::thread::Threads;
 /// words of the stop file, where one is named, are left out. Where the plan names a folder, it is
 /// one of `runs`.
 ///
-/// The index file is created once the collection was read. Where the runs are kept in memory, the
-/// collection is let go before they are merged.
-pub fn run<'a, R: Threads + Wait + Sync, F: FileSource + FileTarget, S: RunFiles, V: Watch>(
+/// What is at the output's path is untouched until the output ends. If the runs are kept in memory, the collection is let go
+/// before they are merged, and the output begins then.
+pub fn run<'a, R: Threads + Wait + Sync, F: Files, S: RunFiles, V: Watch>(
     rt: &R,
     alloc: Global,
-    files: &F,
+    files: &mut F,
     runs: &S,
     watch: &V,
     stop: Option<&'a str>,
@@ -39,22 +39,40 @@ pub fn run<'a, R: Threads + Wait + Sync, F: FileSource + FileTarget, S: RunFiles
     collection: &'a str,
     output: &'a str,
 ) -> Result<(), Refusal<'a>>
-    ensures built { OnOk result (IsBuilt (F.holds files.now) (F.saved files.now)
+    ensures built { OnOk result (IsBuilt (held_in (F.view files.old))
+        (saved_in (F.sent files.new) (F.view files.old) (F.view files.new))
         (keeping_of S.Reader.remaining (S.back runs.now))
         stop.entry plan.now collection.entry.now output.entry.now) }
-    ensures refused { IfErr result (IsBuildRefused (F.holds files.now)
+    ensures refused { IfErr result (IsBuildRefused (held_in (F.view files.old))
+        stop.entry plan.now collection.entry.now output.entry.now) }
+
+    // No other file changes, and after an error there is what was there, or the folder could not be synced.
+    ensures others { (F.view files.new).honest
+        → LeavesOthers output.entry.now (F.view files.old) (F.view files.new) }
+    ensures undone { OnErr result ((F.view files.new).honest
+        → LeavesTarget output.entry.now (F.view files.old) (F.view files.new)
+        ⊎ IsBuilt (held_in (F.view files.old)) (now_in (F.view files.old) (F.view files.new))
+        (keeping_of S.Reader.remaining (S.back runs.now))
         stop.entry plan.now collection.entry.now output.entry.now) }
 {
-    let stop = read_stop_list(alloc, files, stop)?;
-    let text = read_file(files, collection)?;
-    build_text(rt, alloc, files, runs, watch, text, &stop, plan, output)
+    let stop_list = read_stop_list(alloc, files, stop)?;
+    let text = read_file(alloc, files, collection)?;
+    if let Some(path) = stop {
+        keep_apart(files, path, output)?;
+        keep_from_runs(alloc, files, plan, path)?;
+    }
+    keep_apart(files, collection, output)?;
+    keep_from_runs(alloc, files, plan, collection)?;
+    keep_from_runs(alloc, files, plan, output)?;
+    check_output(files, output)?;
+    build_text(rt, alloc, files, runs, watch, text, &stop_list, plan, output)
 }
 
-/// Builds an index file of the collection of a text, by runs in a folder where the plan says.
-fn build_text<'a, R: Threads + Wait + Sync, F: FileTarget, S: RunFiles, V: Watch>(
+/// Builds an index file of the collection of a text, by runs in a folder if the plan says so.
+fn build_text<'a, R: Threads + Wait + Sync, F: Files, S: RunFiles, V: Watch>(
     rt: &R,
     alloc: Global,
-    files: &F,
+    files: &mut F,
     runs: &S,
     watch: &V,
     text: Vec<u8>,
@@ -62,10 +80,18 @@ fn build_text<'a, R: Threads + Wait + Sync, F: FileTarget, S: RunFiles, V: Watch
     plan: &Plan,
     output: &'a str,
 ) -> Result<(), Refusal<'a>>
-    ensures built { OnOk result (BuildsText (F.saved files.now)
+    ensures built { OnOk result (BuildsText
+        (saved_in (F.sent files.new) (F.view files.old) (F.view files.new))
         (keeping_of S.Reader.remaining (S.back runs.now))
         stop.now plan.now text.items output.entry.now) }
     ensures refused { IfErr result (RefusesText plan.now text.items output.entry.now) }
+    ensures others { (F.view files.new).honest
+        → LeavesOthers output.entry.now (F.view files.old) (F.view files.new) }
+    ensures undone { OnErr result ((F.view files.new).honest
+        → LeavesTarget output.entry.now (F.view files.old) (F.view files.new)
+        ⊎ BuildsText (now_in (F.view files.old) (F.view files.new))
+        (keeping_of S.Reader.remaining (S.back runs.now))
+        stop.now plan.now text.items output.entry.now) }
 {
     let documents = documents_of(alloc, &text)?;
     if plan.folder().is_some() {
@@ -73,12 +99,11 @@ fn build_text<'a, R: Threads + Wait + Sync, F: FileTarget, S: RunFiles, V: Watch
             rt, alloc, files, runs, watch, &documents, stop, plan, output,
         );
     }
-    let writer = create(files, output)?;
     let blocks = invert(rt, alloc, watch, &documents, stop, plan)?;
     // The text is most of what is held, and the runs have nothing of it.
     drop(documents);
     drop(text);
-    save_merged(alloc, files, blocks, writer, output)
+    save_merged(alloc, files, blocks, output)
 }
 
 /// The documents of a collection text.
@@ -89,29 +114,6 @@ fn documents_of<'t, 'a>(alloc: Global, text: &'t [u8]) -> Result<Collection<'t>,
     match Collection::read(alloc, text) {
         Ok(documents) => Ok(documents),
         Err(error) => Err(Refusal::Engine(EngineRefusal::Collection(error))),
-    }
-}
-
-/// Creates the file of this path.
-fn create<'a, F: FileTarget>(files: &F, path: &'a str) -> Result<F::Writer, Refusal<'a>>
-    ensures created { IfOk result (λ writer. IsAtEnd (F.Writer.contents writer)) }
-    ensures refused { IfErr result (IsUnsaved path.entry.now) }
-{
-    match files.create(path) {
-        Ok(writer) => Ok(writer),
-        Err(fault) => Err(Refusal::unsaved(path, fault)),
-    }
-}
-
-/// Ends the file of this path with what the writer holds.
-fn close<'a, F: FileTarget>(files: &F, path: &'a str, writer: F::Writer) -> Result<(), Refusal<'a>>
-    ensures saved { OnOk result
-        (IfSome (F.Writer.contents writer) (F.saved files.now path.entry.now)) }
-    ensures refused { IfErr result (IsUnsaved path.entry.now) }
-{
-    match files.close(path, writer) {
-        Ok(()) => Ok(()),
-        Err(fault) => Err(Refusal::unsaved(path, fault)),
     }
 }
 
@@ -133,32 +135,40 @@ fn invert<'a, R: Threads + Wait + Sync, V: Watch>(
     }
 }
 
-/// Merges the runs of blocks into the file that was created under this path.
-fn save_merged<'a, F: FileTarget>(
+/// Saves the index text of the collection of which the blocks have the runs.
+fn save_merged<'a, F: Files>(
     alloc: Global,
-    files: &F,
+    files: &mut F,
     blocks: InvertedBlocks,
-    mut writer: F::Writer,
     path: &'a str,
 ) -> Result<(), Refusal<'a>>
-    requires { IsAtEnd (F.Writer.contents writer) }
     ensures saved { (stop : List (List ℕ)) (documents : List NamedText)
         → AreRunsOfTexts stop documents blocks → OnOk result
-        (SavesIndex (F.saved files.now) path.entry.now (collection_of stop documents)) }
+        (SavesIndex (saved_in (F.sent files.new) (F.view files.old) (F.view files.new))
+        path.entry.now (collection_of stop documents)) }
     ensures refused { (plan : PlanValue) (documents : List NamedText)
         → IfErr result (IsUnbuilt plan documents path.entry.now) }
+    ensures others { (F.view files.new).honest
+        → LeavesOthers path.entry.now (F.view files.old) (F.view files.new) }
+    ensures undone { (stop : List (List ℕ)) (documents : List NamedText)
+        → AreRunsOfTexts stop documents blocks → OnErr result ((F.view files.new).honest
+        → LeavesTarget path.entry.now (F.view files.old) (F.view files.new)
+        ⊎ SavesIndex (now_in (F.view files.old) (F.view files.new)) path.entry.now
+        (collection_of stop documents)) }
 {
-    if let Err(error) = blocks.merge_into(alloc, &mut writer) {
-        return Err(Refusal::Engine(EngineRefusal::Build(error)));
-    }
-    close(files, path, writer)
+    let mut output = begin(alloc, files, path)?;
+    let written = match blocks.merge_into(alloc, &mut output.writer) {
+        Ok(()) => Ok(()),
+        Err(error) => Err(Refusal::Engine(EngineRefusal::Build(error))),
+    };
+    end(files, path, output, written)
 }
 
-/// Saves the index text of the collection of these documents, by runs where the plan says.
-fn save<'a, R: Threads + Wait + Sync, F: FileTarget, S: RunFiles, V: Watch>(
+/// Saves the index text of the collection of these documents, by runs in a folder that the plan names.
+fn save<'a, R: Threads + Wait + Sync, F: Files, S: RunFiles, V: Watch>(
     rt: &R,
     alloc: Global,
-    files: &F,
+    files: &mut F,
     runs: &S,
     watch: &V,
     documents: &Collection<'_>,
@@ -168,24 +178,32 @@ fn save<'a, R: Threads + Wait + Sync, F: FileTarget, S: RunFiles, V: Watch>(
 ) -> Result<(), Refusal<'a>>
     ensures saved { OnOk result (ComeBack (keeping_of S.Reader.remaining (S.back runs.now))
         plan.now stop.now documents.now
-        → SavesIndex (F.saved files.now) path.entry.now
-        (collection_of stop.now documents.now)) }
-    ensures alike { OnOk result (SavesAlike (F.saved files.now) path.entry.now
+        → SavesIndex (saved_in (F.sent files.new) (F.view files.old) (F.view files.new))
+        path.entry.now (collection_of stop.now documents.now)) }
+    ensures alike { OnOk result (SavesAlike
+        (saved_in (F.sent files.new) (F.view files.old) (F.view files.new)) path.entry.now
         (collection_of stop.now documents.now)) }
     ensures refused { IfErr result (IsUnbuilt plan.now documents.now path.entry.now) }
+    ensures others { (F.view files.new).honest
+        → LeavesOthers path.entry.now (F.view files.old) (F.view files.new) }
+    ensures undone { OnErr result ((F.view files.new).honest
+        → LeavesTarget path.entry.now (F.view files.old) (F.view files.new)
+        ⊎ ((ComeBack (keeping_of S.Reader.remaining (S.back runs.now))
+        plan.now stop.now documents.now
+        → SavesIndex (now_in (F.view files.old) (F.view files.new))
+        path.entry.now (collection_of stop.now documents.now))
+        × SavesAlike (now_in (F.view files.old) (F.view files.new)) path.entry.now
+        (collection_of stop.now documents.now))) }
 {
-    let mut writer = create(files, path)?;
-    if let Err(error) = build_with_files(
-        rt,
-        alloc,
-        runs,
-        documents,
-        stop,
-        plan,
-        watch,
-        &mut writer,
-    ) {
-        return Err(Refusal::Engine(EngineRefusal::Build(error)));
-    }
-    close(files, path, writer)
+    let lock = lock_runs(alloc, files, plan)?;
+    let mut output = begin(alloc, files, path)?;
+    let out = &mut output.writer;
+    let written = match build_with_files(rt, alloc, runs, documents, stop, plan, watch, out) {
+        Ok(()) => Ok(()),
+        Err(error) => Err(Refusal::Engine(EngineRefusal::Build(error))),
+    };
+    let ended = end(files, path, output, written);
+    // Another build may have the folder now.
+    drop(lock);
+    ended
 }

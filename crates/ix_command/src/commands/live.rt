@@ -1,16 +1,18 @@
 //! `ix live`: carries out a script on a live index.
 
 ghost use Rattle.std.specs.Prelude.{◌≡◌, List, ℕ, IfOk, IfErr, map};
+ghost use Rattle.ix_command.specs.Files.{held_in};
 ghost use Rattle.ix_script.specs.Steps.{IsScript, step_of};
 ghost use Rattle.ix_command.specs.LiveScripts.{IsCarriedOutTold, IsLiveRefused, IsLived, IsNoScript};
 ghost use Rattle.ix_command.specs.LiveScripts.{IsStoppedTold};
 ghost use Rattle.ix_command.specs.Refusals.{IsUnread};
 
 use crate::commands::ask::{ROOM, read_file, read_stop_list};
-use crate::files::{FileSource, ReadFault};
+use crate::reading::read_up_to;
 use crate::refusal::Refusal;
 use ix_ask::EngineRefusal;
 use ix_build::Plan;
+use ix_files::{FileError, Files};
 use ix_line::Searchers;
 use ix_script::{CollectionFiles, FileFault, ScriptError, Step, read_script, run_steps};
 use ix_text::StopList;
@@ -32,7 +34,7 @@ const NOTHING: usize = 0;
 ///
 /// The script is read whole before a step is carried out. One of more than 2^28 bytes cannot be
 /// read.
-pub fn run<'a, R: Threads + Wait + Sync, F: FileSource, W: Write>(
+pub fn run<'a, R: Threads + Wait + Sync, F: Files, W: Write>(
     rt: &R,
     alloc: Global,
     files: &F,
@@ -42,23 +44,27 @@ pub fn run<'a, R: Threads + Wait + Sync, F: FileSource, W: Write>(
     script: &'a str,
     out: &mut W,
 ) -> Result<usize, Refusal<'a>>
-    ensures lived { IfOk result (IsLived (F.holds files.now) stop.entry script.entry.now
+    ensures lived { IfOk result (IsLived (held_in (F.view files.now)) stop.entry script.entry.now
         (W.contents out.old) (W.contents out.new)) }
-    ensures refused { IfErr result (IsLiveRefused (F.holds files.now) stop.entry plan.now.workers
+    ensures refused { IfErr result (IsLiveRefused (held_in (F.view files.now)) stop.entry plan.now.workers
         script.entry.now (W.contents out.old) (W.contents out.new)) }
 {
     let stop = read_stop_list(alloc, files, stop)?;
-    let text = read_script_file(files, script)?;
+    let text = read_script_file(alloc, files, script)?;
     let steps = steps_of(alloc, script, &text, &stop)?;
     carry_out(rt, alloc, files, plan, searchers, stop, &steps, out)
 }
 
 /// The bytes of a script file.
-fn read_script_file<'a, F: FileSource>(files: &F, path: &'a str) -> Result<Vec<u8>, Refusal<'a>>
-    ensures held { IfOk result (λ bytes. F.holds files.now path.entry.now bytes.items) }
+fn read_script_file<'a, F: Files>(
+    alloc: Global,
+    files: &F,
+    path: &'a str,
+) -> Result<Vec<u8>, Refusal<'a>>
+    ensures held { IfOk result (λ bytes. held_in (F.view files.now) path.entry.now bytes.items) }
     ensures refused { IfErr result (IsUnread path.entry.now) }
 {
-    let bytes = read_file(files, path)?;
+    let bytes = read_file(alloc, files, path)?;
     if bytes.len() == ROOM {
         return Err(Refusal::Read(path));
     }
@@ -87,7 +93,7 @@ fn steps_of<'t, 'a>(
 }
 
 /// Carries out steps on a new live index.
-fn carry_out<'a, R: Threads + Wait + Sync, F: FileSource, W: Write>(
+fn carry_out<'a, R: Threads + Wait + Sync, F: Files, W: Write>(
     rt: &R,
     alloc: Global,
     files: &F,
@@ -97,12 +103,12 @@ fn carry_out<'a, R: Threads + Wait + Sync, F: FileSource, W: Write>(
     steps: &[Step<'_>],
     out: &mut W,
 ) -> Result<usize, Refusal<'a>>
-    ensures done { IfOk result (IsCarriedOutTold (F.holds files.now) stop
+    ensures done { IfOk result (IsCarriedOutTold (held_in (F.view files.now)) stop
         (map step_of steps.now) (W.contents out.old) (W.contents out.new)) }
-    ensures refused { IfErr result (IsStoppedTold (F.holds files.now) plan.now.workers stop
+    ensures refused { IfErr result (IsStoppedTold (held_in (F.view files.now)) plan.now.workers stop
         (map step_of steps.now) (W.contents out.old) (W.contents out.new)) }
 {
-    let added = Added { files };
+    let added = Added { alloc, files };
     match run_steps(rt, alloc, &added, plan, stop, searchers.count(), steps, out) {
         Ok(found) => Ok(if found { FOUND } else { NOTHING }),
         Err(error) => Err(Refusal::stopped(alloc, error)),
@@ -112,22 +118,27 @@ fn carry_out<'a, R: Threads + Wait + Sync, F: FileSource, W: Write>(
 /// The files of a line, as the collection files that a script names.
 #[derive(Drop)]
 struct Added<'f, F> {
+    alloc: Global,
     files: &'f F,
 }
 
-impl<F: FileSource> CollectionFiles for Added<'_, F> {
-    ghost holds = { λ added. F.holds added.files.now };
+impl<F: Files> CollectionFiles for Added<'_, F> {
+    ghost holds = { λ added. held_in (F.view added.files.now) };
 
     fn read(&self, path: &str) -> Result<Vec<u8>, FileFault> {
-        match self.files.read(path, ROOM) {
+        let read = match self.files.open(path) {
+            Ok(reader) => read_up_to(self.alloc, reader, ROOM),
+            Err(error) => Err(error),
+        };
+        match read {
             Ok(bytes) => {
                 if bytes.len() == ROOM {
                     return Err(FileFault::TooLarge);
                 }
                 Ok(bytes)
             }
-            Err(ReadFault::Refused) => Err(FileFault::Refused),
-            Err(ReadFault::Memory) => Err(FileFault::Memory),
+            Err(FileError::Memory) => Err(FileFault::Memory),
+            Err(_) => Err(FileFault::Refused),
         }
     }
 }

@@ -1,19 +1,20 @@
 //! `ix terms`: lists terms of an index file.
 
 ghost use Rattle.std.specs.Prelude.{IfOk, IfErr};
+ghost use Rattle.ix_command.specs.Files.{held_in};
 ghost use Rattle.ix_command.specs.IndexFiles.{IsListingRefused, IsPrintedFromFile};
 
-use crate::files::FileSource;
 use crate::index_file::open_index;
 use crate::refusal::Refusal;
 use ix_ask::list_terms;
+use ix_files::Files;
 use std::alloc::Global;
 use std::io::Write;
 use std::thread::Threads;
 
 /// Writes the terms of the index file that match the pattern, each with in how many documents it
 /// is, and answers how many terms there are.
-pub fn run<'a, R: Threads + Sync, F: FileSource, W: Write>(
+pub fn run<'a, R: Threads + Sync, F: Files, W: Write>(
     rt: &R,
     alloc: Global,
     files: &F,
@@ -21,9 +22,9 @@ pub fn run<'a, R: Threads + Sync, F: FileSource, W: Write>(
     pattern: &str,
     out: &mut W,
 ) -> Result<usize, Refusal<'a>>
-    ensures printed { IfOk result (IsPrintedFromFile (F.holds files.now) index.entry.now
+    ensures printed { IfOk result (IsPrintedFromFile (held_in (F.view files.now)) index.entry.now
         pattern.now (W.contents out.old) (W.contents out.new)) }
-    ensures refused { IfErr result (IsListingRefused (F.holds files.now) index.entry.now
+    ensures refused { IfErr result (IsListingRefused (held_in (F.view files.now)) index.entry.now
         pattern.now (W.contents out.old) (W.contents out.new)) }
 {
     let volume = open_index(rt, alloc, files, index)?;

@@ -1,6 +1,7 @@
 //! The files that are merged, opened, and the numbers at which the documents of indexes begin.
 
 ghost use Rattle.std.specs.Prelude.{◌≡◌, ◌≤◌, ◌^◌, ◌∷◌, [], ◌++◌, IfOk, IfErr, OnOk, length};
+ghost use Rattle.ix_command.specs.Files.{held_in};
 ghost use Rattle.ix_line.specs.Lines.{texts_of};
 ghost use Rattle.ix_command.specs.MergedRuns.{RefusesHead, RefusesInput, RefusesInputs};
 ghost use Rattle.ix_command.specs.MergedRuns.{end_of as end_of_heading};
@@ -15,11 +16,11 @@ ghost use Rattle.ix_command.specs.MergeInputs.{Adds, AreOpened, IsInput, IsNear,
 ghost use Rattle.ix_command.specs.MergeInputs.{RefusesMore};
 ghost use Rattle.ix_run.specs.RunTextError.TheVariants.{Magic};
 
-use crate::files::{FileSource, ReadFault};
 use crate::index_file::open_index;
 use crate::refusal::Refusal;
 use ix_ask::EngineRefusal;
 use ix_file::{OpenError, Volume};
+use ix_files::Files;
 use ix_merge::MergeError;
 use ix_run::{RunHead, RunReader, RunTextError};
 use ix_text::MAX_DOCUMENTS;
@@ -141,15 +142,15 @@ fn refusal_at<'a>(place: usize, error: RunTextError) -> Refusal<'a>
 }
 
 /// Opens the files of these paths.
-pub fn open_all<'a, R: Threads + Sync, F: FileSource>(
+pub fn open_all<'a, R: Threads + Sync, F: Files>(
     rt: &R,
     alloc: Global,
     files: &F,
     paths: &[&'a str],
 ) -> Result<Inputs<F::Reader>, Refusal<'a>>
-    ensures opened { IfOk result (λ inputs. AreOpened (F.holds files.now) F.Reader.remaining
+    ensures opened { IfOk result (λ inputs. AreOpened (held_in (F.view files.now)) F.Reader.remaining
         (texts_of paths.now) inputs (length paths.now)) }
-    ensures refused { IfErr result (RefusesInputs (F.holds files.now) (texts_of paths.now)) }
+    ensures refused { IfErr result (RefusesInputs (held_in (F.view files.now)) (texts_of paths.now)) }
 {
     let mut inputs = Inputs {
         parts: Vec::new(alloc),
@@ -165,7 +166,7 @@ pub fn open_all<'a, R: Threads + Sync, F: FileSource>(
 
 /// Opens the file of this path, which stands at this place in the list: a run file, or an index
 /// file where it does not begin as a run does.
-fn open<'a, R: Threads + Sync, F: FileSource>(
+fn open<'a, R: Threads + Sync, F: Files>(
     rt: &R,
     alloc: Global,
     files: &F,
@@ -173,13 +174,12 @@ fn open<'a, R: Threads + Sync, F: FileSource>(
     place: usize,
 ) -> Result<Input<F::Reader>, Refusal<'a>>
     ensures opened { IfOk result
-        (IsInput (F.holds files.now) F.Reader.remaining path.entry.now) }
-    ensures refused { IfErr result (RefusesInput (F.holds files.now) path.entry.now place) }
+        (IsInput (held_in (F.view files.now)) F.Reader.remaining path.entry.now) }
+    ensures refused { IfErr result (RefusesInput (held_in (F.view files.now)) path.entry.now place) }
 {
     let reader = match files.open(path) {
         Ok(reader) => reader,
-        Err(ReadFault::Refused) => return Err(Refusal::Read(path)),
-        Err(ReadFault::Memory) => return Err(Refusal::Engine(EngineRefusal::Memory)),
+        Err(error) => return Err(Refusal::unread(path, error)),
     };
     match RunReader::open(alloc, reader) {
         Ok(run) => Ok(Input::Run(run)),
@@ -190,24 +190,34 @@ fn open<'a, R: Threads + Sync, F: FileSource>(
 
 /// Opens the file of this path, which does not begin as a run does, as an index file. Where it does
 /// not begin as one either, or is not read a second time, it is told as a file that is no run.
-fn open_volume<'a, R: Threads + Sync, F: FileSource>(
+fn open_volume<'a, R: Threads + Sync, F: Files>(
     rt: &R,
     alloc: Global,
     files: &F,
     path: &'a str,
     place: usize,
 ) -> Result<Input<F::Reader>, Refusal<'a>>
-    requires { RefusesHead (F.holds files.now path.now) Magic }
+    requires { RefusesHead (held_in (F.view files.now) path.now) Magic }
     ensures opened { IfOk result
-        (IsInput (F.holds files.now) F.Reader.remaining path.entry.now) }
-    ensures refused { IfErr result (RefusesInput (F.holds files.now) path.entry.now place) }
+        (IsInput (held_in (F.view files.now)) F.Reader.remaining path.entry.now) }
+    ensures refused { IfErr result (RefusesInput (held_in (F.view files.now)) path.entry.now place) }
 {
     match open_index(rt, alloc, files, path) {
         Ok(volume) => Ok(Input::Index(volume)),
-        Err(Refusal::Read(_)) => Err(refusal_at(place, RunTextError::Magic)),
-        Err(Refusal::Engine(EngineRefusal::Index(OpenError::Short | OpenError::Magic))) => {
-            Err(refusal_at(place, RunTextError::Magic))
+        Err(refusal) => {
+            if is_no_index(&refusal) {
+                Err(refusal_at(place, RunTextError::Magic))
+            } else {
+                Err(refusal)
+            }
         }
-        Err(refusal) => Err(refusal),
     }
+}
+
+/// Whether a file does not begin as an index text does, or could not be read.
+fn is_no_index(refusal: &Refusal<'_>) -> bool {
+    matches!(
+        refusal,
+        Refusal::Read(_) | Refusal::Engine(EngineRefusal::Index(OpenError::Short | OpenError::Magic))
+    )
 }

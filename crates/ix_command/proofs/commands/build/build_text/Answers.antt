@@ -1,6 +1,9 @@
 -- The documents are those of the text.
 use Rattle.ix_command.specs.BuiltIndexes.{no_collection}
-use Rattle.ix_command.proofs.BuildLemmas.{text_built, text_merged, text_unbuilt, unbuilt_unsaved, unbuilt_up}
+use Rattle.std.proofs.Common.{inl, inr}
+use Rattle.std.proofs.lemmas.Result.{on_err_weaker}
+use Rattle.ix_command.proofs.BuildLemmas.{text_built, text_merged, text_unbuilt, unbuilt_up}
+use Rattle.ix_command.proofs.Saving.{saved_alike}
 use Rattle.ix_command.proofs.FileLemmas.{handed_up}
 use Rattle.ix_command.proofs.commands.build.build_text.Goals as goal
 
@@ -15,13 +18,11 @@ returns-then-is_some g c =
     record {
       built = text_built _ _ _ _ _ _ c.in_ok-documents.documents c.save.result read c.save.ensures.saved c.save.ensures.alike;
       refused = text_unbuilt c.args.plan.now _ c.args.output.now c.in_ok-documents.documents c.save.result read c.save.ensures.refused;
+      others = c.save.ensures.others;
+      undone = on_err_weaker c.save.result (λ undone honest. elim (undone honest) [
+          inl same ↦ inl same
+        | inr (saved, alike) ↦ inr (record { documents = c.in_ok-documents.documents; read = read; saved = saved; alike = alike }) ]) c.save.ensures.undone;
     }
-
-pub returns-in_err-writer-clause-refused : goal.returns-in_err-writer-clause-refused
-returns-in_err-writer-clause-refused g c =
-    let read = rw c.deref.ensures.value at c.in_ok-documents.ensures.read in
-    unbuilt_up c.args.plan.now _ c.args.output.now c.in_ok-documents.documents c.from_residual-in_err-writer.result c.in_err-writer.field-0.0 c.from_residual-in_err-writer.ensures.1
-    read (unbuilt_unsaved _ _ _ _ c.in_err-writer.ensures.refused)
 
 pub returns-in_err-blocks-clause-refused : goal.returns-in_err-blocks-clause-refused
 returns-in_err-blocks-clause-refused g c =
@@ -35,4 +36,9 @@ returns g c =
     record {
       built = text_merged _ _ _ _ _ _ c.in_ok-documents.documents c.save_merged.result read (c.save_merged.ensures.saved c.args.stop.now c.in_ok-documents.documents c.in_ok-blocks.ensures.inverted);
       refused = text_unbuilt c.args.plan.now _ c.args.output.now c.in_ok-documents.documents c.save_merged.result read (c.save_merged.ensures.refused c.args.plan.now c.in_ok-documents.documents);
+      others = c.save_merged.ensures.others;
+      undone = on_err_weaker c.save_merged.result (λ undone honest. elim (undone honest) [
+          inl same ↦ inl same
+        | inr saved ↦ inr (record { documents = c.in_ok-documents.documents; read = read; saved = λ _. saved; alike = saved_alike _ _ _ saved }) ])
+        (c.save_merged.ensures.undone c.args.stop.now c.in_ok-documents.documents c.in_ok-blocks.ensures.inverted);
     }

@@ -1,21 +1,43 @@
 -- The text that was written is that of the collection of which the runs are.
+use Rattle.std.proofs.Common.{OnOk, inl}
 use Rattle.std.proofs.lemmas.Result.{on_ok_weaker}
 use Rattle.ix_text.specs.Collections.{collection_of}
-use Rattle.ix_command.specs.Refusals.{IsUnsaved}
+use Rattle.ix_file.specs.Endings.{WritesIndexText}
 use Rattle.ix_command.proofs.BuildLemmas.{merging_refused, unbuilt_unsaved}
-use Rattle.ix_command.proofs.FileLemmas.{err_weaker}
-use Rattle.ix_command.proofs.Saving.{index_saved}
+use Rattle.ix_command.proofs.FileLemmas.{handed_up}
+use Rattle.ix_command.proofs.Saving.{if_unwritten, if_written, index_left, index_saved, on_err, on_unwritten, on_written, others_left, others_through, refused_by, saved_by, target_left, undone_through}
+use Rattle.ix_command.proofs.commands.build.save_merged.Goals.{in-Ok, in-Err}
 use Rattle.ix_command.proofs.commands.build.save_merged.Goals as goal
 
-pub returns-in-Err-clause-refused : goal.returns-in-Err-clause-refused
-returns-in-Err-clause-refused g c = λ plan documents. merging_refused plan documents c.in-Err.error c.in-Err.ensures.refused
+pub returns-in_err-output-clause-refused : goal.returns-in_err-output-clause-refused
+returns-in_err-output-clause-refused g c = λ plan documents.
+    handed_up _ c.from_residual.result c.in_err-output.field-0.0 c.from_residual.ensures.1 (unbuilt_unsaved plan documents _ _ c.in_err-output.ensures.refused)
+
+pub returns-in_err-output-clause-others : goal.returns-in_err-output-clause-others
+returns-in_err-output-clause-others g c = others_left _ _ _ c.begin.ensures.changes
+
+pub returns-in_err-output-clause-undone : goal.returns-in_err-output-clause-undone
+returns-in_err-output-clause-undone g c = λ stop documents are. on_err c.from_residual.result (λ honest. inl (target_left _ _ _ c.begin.ensures.changes honest))
 
 pub returns-clause-saved : goal.returns-clause-saved
 returns-clause-saved g c = λ stop documents are.
-    on_ok_weaker c.close.result (index_saved g.F.Writer.Write.contents (g.F.FileTarget.saved c.args.files.now) c.args.path.now
-    (g.met.F.FileTarget.untold c.args.files.now c.args.path.now) c.args.writer c.merge_into.new.out (collection_of stop documents) c.requires
-    (c.in_default.ensures.written stop documents are)) c.close.ensures.saved
+    let wrote : OnOk c.match-merge_into.written (WritesIndexText (g.F.Writer.Write.contents c.in_ok-output.output.writer) (g.F.Writer.Write.contents c.merge_into.new.out) (collection_of stop documents)) =
+        elim c.match-merge_into.branch [ in-Ok w ↦ on_written c.match-merge_into.written (w.in-Ok.ensures.written stop documents are) | in-Err w ↦ on_unwritten _ c.match-merge_into.written _ w.written-is ] in
+    saved_by _ _ _ c.end.result c.match-merge_into.written c.end.ensures.written wrote c.end.ensures.saved
+    (λ writes saved. index_saved _ _ _ _ _ c.begin.ensures.changes c.begin.ensures.goes_on c.in_ok-output.ensures.begun c.end.ensures.goes_on _ _ c.in_ok-output.ensures.empty _ _ writes saved)
 
 pub returns-clause-refused : goal.returns-clause-refused
 returns-clause-refused g c = λ plan documents.
-    err_weaker c.close.result (IsUnsaved c.args.path.now) _ (unbuilt_unsaved plan documents c.args.path.now) c.close.ensures.refused
+    refused_by _ c.args.path.now c.end.result c.match-merge_into.written c.end.ensures.refused (unbuilt_unsaved plan documents _)
+    (elim c.match-merge_into.branch [ in-Ok w ↦ if_written _ c.match-merge_into.written _ w.written-is
+    | in-Err w ↦ if_unwritten _ c.match-merge_into.written _ w.written-is (merging_refused plan documents w.in-Err.error w.in-Err.ensures.refused) ])
+
+pub returns-clause-others : goal.returns-clause-others
+returns-clause-others g c = others_through _ _ _ _ _ c.begin.ensures.changes c.begin.ensures.goes_on c.in_ok-output.ensures.begun c.end.ensures.goes_on c.end.ensures.others
+
+pub returns-clause-undone : goal.returns-clause-undone
+returns-clause-undone g c = λ stop documents are.
+    let wrote : OnOk c.match-merge_into.written (WritesIndexText (g.F.Writer.Write.contents c.in_ok-output.output.writer) (g.F.Writer.Write.contents c.merge_into.new.out) (collection_of stop documents)) =
+        elim c.match-merge_into.branch [ in-Ok w ↦ on_written c.match-merge_into.written (w.in-Ok.ensures.written stop documents are) | in-Err w ↦ on_unwritten _ c.match-merge_into.written _ w.written-is ] in
+    undone_through _ _ _ _ _ c.begin.ensures.changes c.begin.ensures.goes_on c.in_ok-output.ensures.begun c.end.ensures.goes_on _ _ c.in_ok-output.ensures.empty _ c.end.result c.match-merge_into.written
+    (on_ok_weaker c.match-merge_into.written (λ writes honest. index_left _ _ _ _ _ c.begin.ensures.changes c.begin.ensures.goes_on c.in_ok-output.ensures.begun c.end.ensures.goes_on _ _ c.in_ok-output.ensures.empty _ writes honest) wrote) c.end.ensures.undone

@@ -3,6 +3,7 @@ use Rattle.std.proofs.Common.{map, rules}
 use Rattle.ix_script.specs.Steps.{step_of}
 use Rattle.ix_command.specs.LiveScripts.{IsStoppedTold, no_stop_list, no_file, no_script, stopped}
 use Rattle.ix_command.proofs.FileLemmas.{err_weaker, handed_up}
+use Rattle.ix_command.specs.Files.{held_in}
 use Rattle.ix_command.proofs.commands.live.run.Goals as goal
 
 pub returns-in_err-stop-clause-refused : goal.returns-in_err-stop-clause-refused
@@ -22,7 +23,7 @@ returns-clause-refused g c =
     let script = rw c.deref.ensures.value at c.in_ok-steps.ensures.read in
     let why = rw c.deref-2.ensures.value at c.carry_out.ensures.refused in
     err_weaker c.carry_out.result
-    (IsStoppedTold (g.F.FileSource.holds c.args.files.now) c.args.plan.now.workers c.in_ok-stop.stop (map step_of c.in_ok-steps.steps.items) (g.W.Write.contents c.args.out.now) (g.W.Write.contents c.carry_out.new.out))
+    (IsStoppedTold (held_in (g.F.Files.view c.args.files.now)) c.args.plan.now.workers c.in_ok-stop.stop (map step_of c.in_ok-steps.steps.items) (g.W.Write.contents c.args.out.now) (g.W.Write.contents c.carry_out.new.out))
     _
     (λ told is. stopped _ _ (record {
       text = c.in_ok-text.text.items;

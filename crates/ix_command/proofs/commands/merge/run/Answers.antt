@@ -1,6 +1,7 @@
 -- What the sources may yield is what the files hold.
-use Rattle.std.proofs.Common.{◌≡◌, ◌∙◌, All, List, subst, sym}
-use Rattle.std.proofs.lemmas.Result.{on_ok_weaker}
+use Rattle.std.proofs.Common.{◌≡◌, ◌∙◌, All, List, inl, inr, subst, sym}
+use Rattle.std.proofs.lemmas.Result.{on_err_weaker, on_ok_weaker}
+use Rattle.ix_files.specs.Outputs.{now_in, saved_in}
 use Rattle.ix_file.specs.Opened.{Opened}
 use Rattle.ix_command.specs.MergeInputs.{AreSourcesOf, StandsIn}
 use Rattle.ix_command.specs.MergedRuns.{RefusesMerge, unmerged}
@@ -34,7 +35,7 @@ returns-clause-merged g c =
     let made = subst (λ (volumes : List Opened). AreSourcesOf volumes c.in_ok-opened.opened.parts.items c.in-Ok-sources_of.sources.items) are c.in-Ok-sources_of.ensures in
     on_ok_weaker c.save.result
     (λ saved. merged _ _ _ c.in_ok-opened.opened (all_opened _ _ c.args.inputs.now c.in_ok-opened.opened c.in_ok-opened.ensures.opened) c.in-Ok-sources_of.sources.items made
-    (g.F.FileTarget.saved c.args.files.now) c.args.index.now saved)
+    (saved_in (g.F.Files.sent c.save.new.files) (g.F.Files.view c.args.files.now) (g.F.Files.view c.save.new.files)) c.args.index.now saved)
     c.save.ensures.saved
 
 pub returns-clause-refused : goal.returns-clause-refused
@@ -44,3 +45,13 @@ returns-clause-refused g c =
     err_weaker c.save.result (RefusesMerge _ c.args.index.now) _
     (λ told is. unmerged _ (headings_held _ _ _ c.in_ok-opened.opened (all_opened _ _ c.args.inputs.now c.in_ok-opened.opened c.in_ok-opened.ensures.opened) c.in-Ok-sources_of.sources.items made) is)
     c.save.ensures.refused
+
+pub returns-clause-undone : goal.returns-clause-undone
+returns-clause-undone g c =
+    let are : c.deref-2.result.now ≡ c.in_ok-opened.opened.volumes.items = c.deref-2.ensures.value ∙ c.in-Ok.ensures ∙ c.deref.ensures.value in
+    let made = subst (λ (volumes : List Opened). AreSourcesOf volumes c.in_ok-opened.opened.parts.items c.in-Ok-sources_of.sources.items) are c.in-Ok-sources_of.ensures in
+    on_err_weaker c.save.result (λ undone honest. elim (undone honest) [
+        inl same ↦ inl same
+      | inr saved ↦ inr (merged _ _ _ c.in_ok-opened.opened (all_opened _ _ c.args.inputs.now c.in_ok-opened.opened c.in_ok-opened.ensures.opened) c.in-Ok-sources_of.sources.items made
+          (now_in (g.F.Files.view c.args.files.now) (g.F.Files.view c.save.new.files)) c.args.index.now saved) ])
+    c.save.ensures.undone

@@ -3,6 +3,7 @@ use Rattle.std.proofs.Common.{inl, refl}
 use Rattle.ix_line.specs.Lines.{texts_of}
 use Rattle.ix_command.proofs.FileLemmas.{handed_up}
 use Rattle.ix_command.proofs.MergedFileLemmas.{input_near, opened_more, opened_none, path_at, refused_more}
+use Rattle.ix_command.specs.Files.{held_in}
 use Rattle.ix_command.proofs.commands.merge.inputs.open_all.Goals as goal
 
 pub loop-place-init : goal.loop-place-init
@@ -19,7 +20,7 @@ returns-in_err-input-clause-refused g c =
 
 pub add-requires-clause-near : goal.add-requires-clause-near
 add-requires-clause-near g c =
-    input_near (g.F.FileSource.holds c.args.files.now) g.F.Reader.Read.remaining (texts_of c.args.paths.now) c.loop-place.place c.in_ok-input.input _
+    input_near (held_in (g.F.Files.view c.args.files.now)) g.F.Reader.Read.remaining (texts_of c.args.paths.now) c.loop-place.place c.in_ok-input.input _
     (path_at c.args.paths.now c.loop-place.place _ c.loop-place-test.true) c.in_ok-input.ensures.opened
 
 pub returns-in_err-add-clause-refused : goal.returns-in_err-add-clause-refused

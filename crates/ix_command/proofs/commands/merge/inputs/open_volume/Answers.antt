@@ -2,12 +2,9 @@
 use Rattle.std.proofs.Common.{inl, subst, sym}
 use Rattle.ix_run.specs.RunTextError.TheVariants.{Magic}
 use Rattle.ix_command.specs.MergedRuns.{RefusesInput, no_head}
+use Rattle.ix_command.specs.Files.{held_in}
 use Rattle.ix_command.proofs.commands.merge.inputs.open_volume.Goals as goal
 
-pub returns-in-Err-Read-clause-refused : goal.returns-in-Err-Read-clause-refused
-returns-in-Err-Read-clause-refused g c =
-    subst (RefusesInput (g.F.FileSource.holds c.args.files.now) c.args.path.now c.args.place) (sym c.refusal_at.ensures) (inl (no_head Magic c.requires))
-
-pub returns-in-Err-Engine-Index-Short-clause-refused : goal.returns-in-Err-Engine-Index-Short-clause-refused
-returns-in-Err-Engine-Index-Short-clause-refused g c =
-    subst (RefusesInput (g.F.FileSource.holds c.args.files.now) c.args.path.now c.args.place) (sym c.refusal_at-in-Err-Engine-Index-Short.ensures) (inl (no_head Magic c.requires))
+pub returns-then-is_no_index-clause-refused : goal.returns-then-is_no_index-clause-refused
+returns-then-is_no_index-clause-refused g c =
+    subst (RefusesInput (held_in (g.F.Files.view c.args.files.now)) c.args.path.now c.args.place) (sym c.refusal_at.ensures) (inl (no_head Magic c.requires))
