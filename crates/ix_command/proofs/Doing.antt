@@ -1,12 +1,13 @@
--- What was done of a line, or refused of it, by what its own command says.
-use Rattle.std.proofs.Common.{◌≡◌, ℕ, List, Option, Some, None, Result, Ok, Err, OnOk, IfOk, IfErr, refl, subst, sym}
+-- What was done of a line, or refused of it, and what that leaves of the files, by what its own command says.
+use Rattle.std.proofs.Common.{◌≡◌, ℕ, List, Option, Some, None, Result, Ok, Err, OnOk, OnErr, IfOk, IfErr, refl, subst, sym}
 use Rattle.std.specs.Io.KnownBytes.{Keeps}
 use Rattle.ix_command.specs.Files.{Holding, Keeping}
-use Rattle.ix_command.specs.Statuses.{IsDone, IsLineRefused}
+use Rattle.ix_command.specs.Statuses.{IsDone, IsLineRefused, IsUndone, LeavesFiles}
+use Rattle.ix_files.specs.Views.{View}
 use Rattle.ix_line.specs.declared.line.Line.{Line}
 use Rattle.ix_command.specs.declared.refusal.Refusal.{Refusal}
 
-keeps_itself : (known : Option (List ℕ)) → Keeps known known
+pub keeps_itself : (known : Option (List ℕ)) → Keeps known known
 keeps_itself None = tt
 keeps_itself (Some bytes) = refl
 
@@ -19,6 +20,19 @@ module _ (holds : Holding) (old new : Option (List ℕ)) (line made : Line) (is 
   pub refused_of : (result : Result ℕ Refusal) → IfErr result (IsLineRefused holds made old new) → IfErr result (IsLineRefused holds line old new)
   refused_of result refused = subst (λ (l : Line). IfErr result (IsLineRefused holds l old new)) (sym is) refused
 
+-- and what it leaves of the files
+module _ (old new : View) (line made : Line) (is : line ≡ made) where
+  pub leaves_of : (new.honest → LeavesFiles made old new) → new.honest → LeavesFiles line old new
+  leaves_of leaves honest = subst (λ (l : Line). LeavesFiles l old new) (sym is) (leaves honest)
+
+  pub undone_of : (holds : Holding) (kept : Keeping) (result : Result ℕ Refusal) → OnErr result (new.honest → IsUndone holds kept made old new) → OnErr result (new.honest → IsUndone holds kept line old new)
+  undone_of holds kept result undone = subst (λ (l : Line). OnErr result (new.honest → IsUndone holds kept l old new)) (sym is) undone
+
+-- what is so whatever came of it
+pub after_error : {T : Type 0} (P : Type 0) (result : Result T Refusal) → P → OnErr result P
+after_error P (Ok x) is = tt
+after_error P (Err told) is = is
+
 -- a command that writes one file, and leaves the standard output
 pub file_done : {T : Type 0} (P : Type 0) (known : Option (List ℕ)) (done : Result T Refusal) (result : Result ℕ Refusal) → OnOk done (result ≡ Ok 1) → IfErr done (λ refusal. result ≡ Err refusal) → OnOk done P
     → IfOk result (λ count. P × Keeps known known × (count ≡ 1))
@@ -29,3 +43,7 @@ pub file_refused : {T : Type 0} (P : Refusal → Type 0) (known : Option (List �
     → IfErr result (λ refusal. P refusal × Keeps known known)
 file_refused P known (Ok x) result one refused because = subst (λ (r : Result ℕ Refusal). IfErr r (λ refusal. P refusal × Keeps known known)) (sym one) tt
 file_refused P known (Err refusal) result one refused because = subst (λ (r : Result ℕ Refusal). IfErr r (λ told. P told × Keeps known known)) (sym refused) (because, keeps_itself known)
+
+pub file_undone : {T : Type 0} (P : Type 0) (done : Result T Refusal) (result : Result ℕ Refusal) → OnOk done (result ≡ Ok 1) → OnErr done P → OnErr result P
+file_undone P (Ok x) result one undone = subst (λ (r : Result ℕ Refusal). OnErr r P) (sym one) tt
+file_undone P (Err refusal) result one undone = after_error P result undone

@@ -8,7 +8,7 @@ ghost use Rattle.ix_command.specs.LiveScripts.{IsStoppedTold};
 ghost use Rattle.ix_command.specs.Refusals.{IsUnread};
 
 use crate::commands::ask::{ROOM, read_file, read_stop_list};
-use crate::reading::read_up_to;
+use crate::reading::read_front;
 use crate::refusal::Refusal;
 use ix_ask::EngineRefusal;
 use ix_build::Plan;
@@ -126,11 +126,7 @@ impl<F: Files> CollectionFiles for Added<'_, F> {
     ghost holds = { λ added. held_in (F.view added.files.now) };
 
     fn read(&self, path: &str) -> Result<Vec<u8>, FileFault> {
-        let read = match self.files.open(path) {
-            Ok(reader) => read_up_to(self.alloc, reader, ROOM),
-            Err(error) => Err(error),
-        };
-        match read {
+        match read_front(self.alloc, self.files, path, ROOM) {
             Ok(bytes) => {
                 if bytes.len() == ROOM {
                     return Err(FileFault::TooLarge);

@@ -1,5 +1,14 @@
--- The reason of what was refused is that of the words as they were spelled.
+-- What was done for the words, and why they were refused, is so of the words as they were spelled.
 use Rattle.ix_command.proofs.commands.command_over.Goals as goal
+
+pub returns-in-Ok-run-clause-files : goal.returns-in-Ok-run-clause-files
+returns-in-Ok-run-clause-files g c = rw (c.as_slice.ensures.value, c.in-Ok.ensures) at c.run.ensures.files
+
+pub returns-clause-files : goal.returns-clause-files
+returns-clause-files g c = rw (c.as_slice.ensures.value, c.in-Ok.ensures) at c.run.ensures.files
+
+pub returns-clause-undone : goal.returns-clause-undone
+returns-clause-undone g c = λ _. rw (c.as_slice.ensures.value, c.in-Ok.ensures) at c.in-Err-run.ensures.undone
 
 pub returns-clause-refused : goal.returns-clause-refused
 returns-clause-refused g c = λ _. record {

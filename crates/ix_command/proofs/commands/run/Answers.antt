@@ -1,7 +1,13 @@
 -- A line that was refused was read.
-use Rattle.ix_command.specs.Statuses.{undone}
+use Rattle.std.proofs.Common.{refl}
+use Rattle.ix_command.specs.Statuses.{twice, undone}
+use Rattle.ix_command.proofs.Doing.{keeps_itself}
 use Rattle.ix_command.proofs.FileLemmas.{handed_up}
 use Rattle.ix_command.proofs.commands.run.Goals as goal
+
+pub returns-then-reads_input_twice-clause-refused : goal.returns-then-reads_input_twice-clause-refused
+returns-then-reads_input_twice-clause-refused g c =
+    twice c.in-Ok.line c.in-Ok.ensures.ok (c.reads_input_twice.ensures.0 c.if-reads_input_twice.true) refl (keeps_itself _)
 
 pub returns-in_err-count-in-Ok-clause-refused : goal.returns-in_err-count-in-Ok-clause-refused
 returns-in_err-count-in-Ok-clause-refused g c =
