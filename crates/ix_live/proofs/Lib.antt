@@ -1,4 +1,5 @@
 pub mod Agreeing
+pub mod Ahead
 pub mod Appending
 pub mod Beginnings
 pub mod Falling
@@ -7,6 +8,7 @@ pub mod Inserting
 pub mod Members
 pub mod NameLemmas
 pub mod PairMerging
+pub mod Pasts
 pub mod StateLemmas
 pub mod StoredLemmas
 pub mod TableLemmas

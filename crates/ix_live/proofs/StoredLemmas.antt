@@ -23,6 +23,7 @@ use Rattle.ix_live.specs.Operations.{Operation, Add, Remove, added, addition_of,
 use Rattle.ix_live.specs.Pieces.{Falls, Piece, piece_at, pieces_in}
 use Rattle.ix_live.specs.Segments.{AreSegmentsOf, IsSegmentOf, joined, of_documents, rows_at, rows_in}
 use Rattle.ix_live.specs.Versions.{IsStored, entry_of}
+use Rattle.ix_live.proofs.Beginnings.{joined_push}
 use Rattle.ix_live.proofs.Falling.{falls_few, few_generations}
 use Rattle.ix_live.proofs.FoundLemmas.{rows_of_all}
 
@@ -49,9 +50,6 @@ segments_push stop [] [] segment list are is = (is, tt)
 segments_push stop [] (l ∷ ls) segment list are is = absurd are
 segments_push stop (s ∷ ss) [] segment list are is = absurd are
 segments_push stop (s ∷ ss) (l ∷ ls) segment list are is = (are.0, segments_push stop ss ls segment list are.1 is)
-
-joined_push : (lists : List (List Document)) (list : List Document) → joined (lists ++ list ∷ []) ≡ joined lists ++ list
-joined_push lists list = flat_map-append (λ (l : List Document). l) lists (list ∷ []) ∙ ap (λ (l : List Document). joined lists ++ l) (append-nil list)
 
 -- the documents of the first lists, and of the others with more behind them
 joined_parts : (lists : List (List Document)) (k : ℕ) (documents : List Document) → joined (take k lists ++ (joined (drop k lists) ++ documents) ∷ []) ≡ joined lists ++ documents
@@ -160,10 +158,6 @@ refused_by_building workers count tokens documents (Build error) h = h
 refused_by_building workers count tokens documents TooLarge h = absurd h
 refused_by_building workers count tokens documents Memory h = tt
 refused_by_building workers count tokens documents (Number number) h = absurd h
-
-pub addition_none : (operations : List Operation) (documents : List Document) → length documents ≡ 0 → operations ≡ operations ++ addition_of documents
-addition_none operations [] none = sym (append-nil operations)
-addition_none operations (d ∷ ds) none = absurd (omega (arith, none))
 
 pub addition_some : (documents : List Document) → 0 < length documents → Add documents ∷ [] ≡ addition_of documents
 addition_some [] some = absurd (omega (arith, some))

@@ -1,34 +1,34 @@
--- Which live index it is that a copy shows, and what threads know of that.
+-- What a copy shows, and what threads know of it.
 use Rattle.std.specs.Prelude.{◌≡◌, ℕ, ⊤, List, Option, Some, None}
+use mathlib.Core.List.{IsPrefix}
 use mathlib.Core.Option.{some}
 use lib.ListN.{get_elem?}
 use Rattle.std.specs.Arc.{arc_value}
-use Rattle.logbook.specs.Pages.{Book}
-use Rattle.ix_live.specs.Versions.{VersionValue}
+use Rattle.ix_live.specs.Histories.{AreOfOneIndex, Known}
 use Rattle.ix_live.specs.declared.shown.Shown.{Shown}
 
--- what never changes of a live index: its stop set, and the book of its log
-pub record Identity : Type 0 where
-  pub stop : List (List ℕ)
-  pub book : Book
+-- the stop set and the history that a copy shows
+abbrev pub shown_in : Shown → Known
+shown_in shown = arc_value shown.current
 
--- that of a version
-abbrev pub identity_of : VersionValue → Identity
-identity_of version = record { stop = version.stop; book = version.history.book }
+-- another history of the same live index goes on from this one, publish by publish
+abbrev pub GoesOn : Known → Known → Type 0
+GoesOn one other = AreOfOneIndex one other × IsPrefix one.history.publishes other.history.publishes
 
--- the version that a copy shows
-abbrev pub version_of : Shown → VersionValue
-version_of shown = arc_value shown.current
+-- who knows a history, knows a beginning of this one
+abbrev pub Agrees : Known → Option Known → Type 0
+Agrees shown None = ⊤
+Agrees shown (Some known) = GoesOn known shown
 
--- who knows a live index, knows this one
-abbrev pub Agrees : Identity → Option Identity → Type 0
-Agrees identity None = ⊤
-Agrees identity (Some known) = known ≡ identity
+-- every history that is known begins the one that is shown
+abbrev pub AllAgree : Shown → List (Option Known) → Type 0
+AllAgree shown views = (seat : ℕ) (known : Option Known) → get_elem? views seat ≡ some known → Agrees (shown_in shown) known
 
--- all that is known is of the live index that is shown
-abbrev pub AllAgree : Shown → List (Option Identity) → Type 0
-AllAgree shown views = (seat : ℕ) (known : Option Identity) → get_elem? views seat ≡ some known → Agrees (identity_of (version_of shown)) known
+-- what was known began what was shown, and now the history that is shown is known
+abbrev pub Finds : Option Known → Shown → Shown → Option Known → Type 0
+Finds known before after now = Agrees (shown_in before) known × (now ≡ Some (shown_in after))
 
--- what was known is of the live index that was shown, and now it is known which one is shown
-abbrev pub Finds : Option Identity → Shown → Shown → Option Identity → Type 0
-Finds known before after now = Agrees (identity_of (version_of before)) known × (now ≡ Some (identity_of (version_of after)))
+-- a history of this live index is known
+abbrev pub KnowsIndex : Option Known → Known → Type 0
+KnowsIndex None index = ⊥
+KnowsIndex (Some known) index = AreOfOneIndex known index

@@ -9,7 +9,6 @@ pub mod NameErrors
 pub mod Names
 pub mod Operations
 pub mod Pieces
-pub mod Searchers
 pub mod Segments
 pub mod StateScans
 pub mod Tables

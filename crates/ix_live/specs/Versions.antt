@@ -1,9 +1,9 @@
--- Versions: what a live index keeps of one history.
+-- Versions: what a live index keeps of what was done to it.
 use Rattle.std.specs.Prelude.{◌≡◌, ◌↔◌, ℕ, ◌^◌, ◌≤◌, List, map, length, Option, Contains}
 use Rattle.std.specs.List.Sorted.{IsStrictlyIncreasing}
 use Rattle.ix_text.specs.Collections.{Document}
 use Rattle.ix_merge.specs.Rows.{tokens_in}
-use Rattle.ix_live.specs.Histories.{History}
+use Rattle.ix_live.specs.Histories.{Past}
 use Rattle.ix_live.specs.Operations.{Operation, Add, Remove, documents_added, numbers_removed}
 use Rattle.ix_live.specs.Pieces.{Falls, Piece, pieces_in}
 use Rattle.ix_live.specs.Segments.{AreSegmentsOf, joined, rows_in}
@@ -11,10 +11,10 @@ use Rattle.ix_live.specs.declared.entry.Entry.{Entry}
 use Rattle.ix_live.specs.declared.entry.Entry.TheVariants.{Added, Removed}
 use Rattle.ix_live.specs.declared.segment.Segment.{Segment}
 
--- a version as contracts see it: its stop set, its history, and how its documents are shared among segments
+-- a version as contracts see it: its stop set, what was done, and how its documents are shared among segments
 pub record VersionValue : Type 0 where
   pub stop : List (List ℕ)
-  pub history : History
+  pub past : Past
   pub pieces : List Piece
 
 -- an operation without its documents

@@ -1,13 +1,17 @@
-//! How far the log of a live index was seen: a history.
-ghost use Rattle.std.specs.Prelude.{◌≡◌, ◌<◌, ◌^◌, ◌++◌, ◌∷◌, [], length, MatchBool};
+//! How far the log of a live index was seen.
+ghost use Rattle.std.specs.Prelude.{◌≡◌, ⊤, [], MatchBool};
 ghost use mathlib.Core.List.{IsPrefix};
-ghost use Rattle.ix_live.specs.Logs.{IsLonger, head_of};
+ghost use Rattle.ix_live.specs.Histories.{operations_of};
+ghost use Rattle.ix_live.specs.Logs.{head_of};
+ghost use Rattle.ix_live.specs.Segments.{joined};
 
-use crate::log::{Appending, Head, Law, LogEntry, NoGain};
-use logbook::{Offer, Plain, Seen, Start, Word};
+use crate::log::{Appending, Head, Law, LogEntry, NoGain, Rest};
+use crate::past::Past;
+use logbook::{Offer, Seen, Start, Word};
 use std::marker::Model;
+use std::sync::Wait;
 
-/// A history of a live index: a beginning of its log. Contracts see which log it is, and the history.
+/// A beginning of the log of a live index. Contracts see which log it is, and the entries.
 #[derive(Drop)]
 pub struct Front {
     steps: u64,
@@ -16,20 +20,20 @@ pub struct Front {
 
 impl Model for Front {
     ghost use Rattle.std.specs.Prelude.{◌≡◌, length};
-    ghost use Rattle.ix_live.specs.Histories.{History};
+    ghost use Rattle.ix_live.specs.Logs.{Reached};
 
-    ghost Value = { History };
+    ghost Value = { Reached };
 
-    ghost view = { λ front. record { book = front.seen.book; operations = front.seen.log } };
+    ghost view = { λ front. record { book = front.seen.book; entries = front.seen.log } };
 
     ghost invariant = { λ front. front.steps ≡ length front.seen.log };
 }
 
 impl Front {
-    /// A new log, with its word, and the history without operations.
+    /// A new log, with its word, and nothing of it.
     pub fn open() -> (Head, Front)
         ensures head { result.0 ≡ head_of result.1.book }
-        ensures empty { result.1.operations ≡ [] }
+        ensures empty { result.1.entries ≡ [] }
     {
         let (seen, mut first, _second) = Seen::open(Start::alone(), 0, 0);
         let head = Word::tracked(0, &mut first);
@@ -46,28 +50,54 @@ impl Front {
         }
     }
 
-    /// Whether the other history of this log begins this one. If it does not, this one begins the other.
+    /// Whether the operations of the other beginning of this log begin those of this one. If they do not, these begin
+    /// those of the other.
     pub fn covers(&self, other: &Front) -> bool
         requires { other.now.book ≡ self.now.book }
-        ensures { MatchBool result (IsPrefix other.now.operations self.now.operations)
-            (IsPrefix self.now.operations other.now.operations) }
+        ensures { MatchBool result (IsPrefix (joined other.now.entries) (joined self.now.entries))
+            (IsPrefix (joined self.now.entries) (joined other.now.entries)) }
     {
         let mut both = self.seen.again();
         both.learn(&other.seen);
         other.steps <= self.steps
     }
 
-    /// Appends an operation to the log, and says whether it did. It did not where the log has gone on beyond this
-    /// history, which is then all of it.
-    pub fn append<X, M: Plain<X, LogEntry, u64>>(&mut self, head: &Head, asked: &X) -> bool
-        requires head { head.now ≡ head_of self.old.book }
-        requires room { length self.old.operations < 2 ^ 63 }
-        ensures book { self.new.book ≡ self.old.book }
-        ensures appended { MatchBool result
-            (self.new.operations ≡ self.old.operations ++ M.ask asked.now ∷ [])
-            (IsLonger self.old.operations self.new.operations) }
+    /// The log with all operations of a past, of which it has a beginning. It waits while somebody else appends; nobody
+    /// but the indexer has the word of the log, so this does not come.
+    pub fn extend<R: Wait>(&self, rt: &R, head: &Head, past: &Past) -> Front
+        requires head { head.now ≡ head_of self.now.book }
+        requires begins { IsPrefix (joined self.now.entries) (operations_of past.now) }
+        ensures book { result.book ≡ self.now.book }
+        ensures all { joined result.entries ≡ operations_of past.now }
     {
-        let mut offer: Offer<LogEntry, u64, Law, NoGain> = self.seen.plain::<NoGain, X, M>(asked);
+        for _ in rt.forever() {
+            let mut front = self.again();
+            if front.append(head, past) {
+                return front;
+            }
+        }
+        unreachable!()
+    }
+
+    /// Appends what a past has beyond this beginning of the log, and says whether it did. It did not if the log is longer
+    /// than this beginning.
+    fn append(&mut self, head: &Head, past: &Past) -> bool
+        requires head { head.now ≡ head_of self.old.book }
+        requires begins { IsPrefix (joined self.old.entries) (operations_of past.now) }
+        ensures book { self.new.book ≡ self.old.book }
+        ensures all { MatchBool result (joined self.new.entries ≡ operations_of past.now) ⊤ }
+    {
+        if self.steps == u64::MAX {
+            return false;
+        }
+        let front = self.again();
+        let rest = Rest {
+            front: &front,
+            past,
+        };
+        let mut offer: Offer<LogEntry, u64, Law, NoGain> = self
+            .seen
+            .plain::<NoGain, Rest<'_>, Appending>(&rest);
         let mut pen = self.seen.no_pen();
         let steps = self.steps;
         let found = head.compare_exchange::<Appending, NoGain>(

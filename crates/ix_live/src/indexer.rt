@@ -1,60 +1,71 @@
 //! The indexer: it grows a version, and shows it.
 ghost use Rattle.std.specs.Prelude.{◌≡◌, ◌<◌, ◌++◌, ◌∷◌, [], length, option_map, slice_get, IfErr, IfOk, OnErr, OnOk};
 ghost use Rattle.ix_live.specs.Growing.{documents_under};
-ghost use Rattle.ix_live.specs.Identities.{version_of};
+ghost use Rattle.ix_live.specs.Identities.{shown_in};
 ghost use Rattle.ix_live.specs.Indexers.{IsAhead, indexer_of};
 ghost use Rattle.ix_live.specs.LiveErrors.{RefusesAddition, RefusesRemoval};
 ghost use Rattle.ix_live.specs.Operations.{Remove, addition_of, documents_added};
 ghost use Rattle.ix_live.specs.Pieces.{Falls};
+ghost use Rattle.ix_live.specs.Segments.{joined};
 ghost use Rattle.ix_live.specs.declared.live_error.LiveError.TheVariants.{Memory};
 
+use crate::edition::Edition;
+use crate::front::Front;
 use crate::live_error::LiveError;
 use crate::log::Head;
 use crate::news::News;
-use crate::rule::VersionWriter;
-use crate::showing::show_version;
+use crate::rule::EditionWriter;
+use crate::showing::show_edition;
 use crate::version::Version;
 use core::mem::replace_with;
 use ix_build::Plan;
 use ix_text::Collection;
 use std::alloc::Global;
 use std::marker::Model;
-use std::sync::Wait;
+use std::sync::{Arc, Wait};
 use std::thread::Threads;
 
 /// Adds documents to a live index, removes documents, and publishes both for the searchers. It ends by `close` alone.
-/// Contracts see its stop set, which live index it is, the operations published and pending, and the pieces of all
-/// documents.
+/// Contracts see its stop set, which live index it is, the operations of each publish and those that are pending, and the
+/// pieces of all documents.
 pub struct Indexer {
-    writer: VersionWriter,
+    writer: EditionWriter,
     // what is published and, behind it, what is pending
     next: Version,
+    // all of the log
+    front: Front,
     head: Head,
     alloc: Global,
 }
 
 impl Model for Indexer {
-    ghost use Rattle.ix_live.specs.Identities.{version_of};
+    ghost use Rattle.ix_live.specs.Identities.{shown_in};
     ghost use Rattle.ix_live.specs.Indexers.{IndexerValue, IsAhead, indexer_of};
 
     ghost Value = { IndexerValue };
 
-    ghost view = { λ indexer.
-        indexer_of (version_of indexer.writer.desk.shown.value) indexer.next };
+    ghost view = { λ indexer. indexer_of indexer.next indexer.front };
 
-    ghost invariant = { λ indexer.
-        IsAhead (version_of indexer.writer.desk.shown.value) indexer.next indexer.head };
+    ghost invariant = { λ indexer. IsAhead (shown_in indexer.writer.desk.shown.value)
+        indexer.next indexer.front indexer.head };
 }
 
 impl Indexer {
-    /// The indexer of a version, and of copies that show the version from which it goes on.
-    pub(crate) fn new(alloc: Global, writer: VersionWriter, next: Version, head: Head) -> Indexer
-        requires { IsAhead (version_of writer.desk.shown.value) next head }
-        ensures { result ≡ indexer_of (version_of writer.desk.shown.value) next }
+    /// The indexer of a version, and of copies that show what of it was published.
+    pub(crate) fn new(
+        alloc: Global,
+        writer: EditionWriter,
+        next: Version,
+        front: Front,
+        head: Head,
+    ) -> Indexer
+        requires { IsAhead (shown_in writer.desk.shown.value) next front head }
+        ensures { result ≡ indexer_of next front }
     {
         Indexer {
             writer,
             next,
+            front,
             head,
             alloc,
         }
@@ -63,8 +74,8 @@ impl Indexer {
     /// Adds documents behind all others; they are pending until they are published. A collection without documents
     /// changes nothing.
     ///
-    /// `Build` where the documents are not built, `TooLarge` where there would be more than 2^28 documents or tokens,
-    /// and `Memory` where memory is refused. All is then as it was.
+    /// `Build` if the documents are not built, `TooLarge` if there would be more than 2^28 documents or tokens, and
+    /// `Memory` if memory is refused. All is then as it was.
     pub fn add<R: Threads + Wait + Sync>(
         &mut self,
         rt: &R,
@@ -77,52 +88,56 @@ impl Indexer {
             ≡ self.old.pending ++ addition_of (documents_under self.old.stop documents.now)) }
         ensures kept { OnErr result (self.new ≡ self.old) }
         ensures error { IfErr result (RefusesAddition plan.now.workers
-            (self.old.published ++ self.old.pending)
+            (joined self.old.published ++ self.old.pending)
             (documents_under self.old.stop documents.now)) }
     {
-        self.next.add(rt, self.alloc, &self.head, documents, plan)
+        self.next.add(rt, self.alloc, documents, plan)
     }
 
     /// Removes the document of a number; the removal is pending until it is published. The document keeps its number
     /// and its name. A second removal changes nothing but the history.
     ///
-    /// `Number` where there is no such document, and `Memory` where memory is refused. All is then as it was.
+    /// `Number` if there is no such document, and `Memory` if memory is refused. All is then as it was.
     pub fn remove(&mut self, number: u32) -> Result<(), LiveError>
         ensures same { (self.new.stop ≡ self.old.stop) × (self.new.book ≡ self.old.book)
             × (self.new.published ≡ self.old.published) × (self.new.pieces ≡ self.old.pieces) }
         ensures removed { OnOk result
             (self.new.pending ≡ self.old.pending ++ Remove number ∷ []) }
         ensures there { OnOk result
-            (number < length (documents_added (self.old.published ++ self.old.pending))) }
+            (number < length (documents_added (joined self.old.published ++ self.old.pending))) }
         ensures kept { OnErr result (self.new ≡ self.old) }
         ensures error { IfErr result (RefusesRemoval
-            (length (documents_added (self.old.published ++ self.old.pending))) number) }
+            (length (documents_added (joined self.old.published ++ self.old.pending))) number) }
     {
-        self.next.remove(&self.head, number)
+        self.next.remove(number)
     }
 
-    /// Publishes all that is pending, at the end of the history. It waits for the searchers that still take the version
-    /// from before the last publish, but for no query.
+    /// Publishes all that is pending at once, at the end of the history. It waits for the searchers that still take the
+    /// edition from before the last publish, but for no query.
     ///
-    /// `Memory` where memory is refused. All is then as it was.
+    /// `Memory` if memory is refused. All is then as it was, and no searcher sees what is pending.
     pub fn publish<R: Wait>(&mut self, rt: &R) -> Result<News, LiveError>
         ensures same { (self.new.stop ≡ self.old.stop) × (self.new.book ≡ self.old.book)
             × (self.new.pieces ≡ self.old.pieces) }
         ensures published { OnOk result
-            ((self.new.published ≡ self.old.published ++ self.old.pending)
+            ((self.new.published ≡ self.old.published ++ self.old.pending ∷ [])
             × (self.new.pending ≡ [])) }
         ensures news { IfOk result (λ news. news ≡ record {
-          book = self.old.book;
-          operations = self.old.published ++ self.old.pending;
+          stop = self.old.stop;
+          history = record {
+            book = self.old.book;
+            publishes = self.old.published ++ self.old.pending ∷ [];
+          };
         }) }
         ensures kept { OnErr result (self.new ≡ self.old) }
         ensures error { IfErr result (λ error. error ≡ Memory) }
     {
-        let version = self.next.share(self.alloc)?;
-        replace_with(&mut self.writer, (rt, version), show_version::<R>)?;
-        Ok(News {
-            front: self.next.front().again(),
-        })
+        self.front = self.front.extend(rt, &self.head, self.next.past());
+        let edition = Edition::of(self.alloc, &self.next, self.front.again())?;
+        let shown = Arc::try_clone(&edition)?;
+        replace_with(&mut self.writer, (rt, shown), show_edition::<R>)?;
+        self.next.settle();
+        Ok(News { edition })
     }
 
     /// The generation of the segment at a place, pending documents included; none past the end.
@@ -143,6 +158,7 @@ impl Indexer {
         let Self {
             writer,
             next: _next,
+            front: _front,
             head: _head,
             alloc: _,
         } = self;

@@ -1,10 +1,12 @@
 //! The live index: it is searched while it grows. `live` makes an indexer and searchers. The indexer adds documents,
-//! removes documents and publishes; searchers answer, each in a thread of its own if it likes, from histories that never
-//! go back and that begin with all of which they were told. A `Version` is a live index at one point of its history, the
-//! list of the operations so far: it answers queries from segments, which are merged by generations, and a copy of it
-//! shares them. Two copies between the threads each show a version.
+//! removes documents and publishes; searchers answer, each in a thread of its own if it likes, from histories that were
+//! published, that never go back and that begin with all of which they learned. A history is a list of publishes, each of
+//! which is the list of the operations that were pending. A version is a live index after all that was done to it: it
+//! answers queries from segments, which are merged by generations, and a copy of it shares them. An edition is a version
+//! without anything pending. Two copies between the threads each show an edition.
 #![tactic(auto)]
 
+mod edition;
 mod entry;
 mod finding;
 mod front;
@@ -18,6 +20,7 @@ mod name_error;
 mod naming;
 mod news;
 mod opening;
+mod past;
 mod removing;
 mod rule;
 mod searcher;
@@ -27,13 +30,10 @@ mod shown;
 mod table;
 mod version;
 
-pub use front::Front;
 pub use indexer::Indexer;
 pub use laws::a_state_has_one_scan;
 pub use live_error::LiveError;
-pub use log::Head;
 pub use name_error::NameError;
 pub use news::News;
 pub use opening::live;
 pub use searcher::Searcher;
-pub use version::Version;

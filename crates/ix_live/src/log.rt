@@ -1,17 +1,19 @@
-//! The log of a live index, which exists in proofs alone: every operation that was ever asked for, in order.
-use ix_text::{Collection, StopList};
+//! The log of a live index, which exists in proofs alone: the operations of each publish, in order.
+use crate::front::Front;
+use crate::past::Past;
 use logbook::{Gain, Plain, Play, Rule, Word};
 use std::marker::Model;
 
-/// An entry of the log: an operation. No value of it is made.
+/// An entry of the log: operations that were published at once. No value of it is made.
 pub struct LogEntry {}
 
 impl Model for LogEntry {
-    ghost use Rattle.ix_live.specs.Operations.{Operation, Remove};
+    ghost use Rattle.std.specs.Prelude.{List, []};
+    ghost use Rattle.ix_live.specs.Operations.{Operation};
 
-    ghost Value = { Operation };
+    ghost Value = { List Operation };
 
-    ghost view = { λ entry. Remove 0 };
+    ghost view = { λ entry. [] };
 }
 
 /// The rule of the log: its word holds its length.
@@ -35,7 +37,7 @@ impl Rule<LogEntry, u64> for Law {
     ghost moves = { λ asked before after answer. Unit {0} };
 }
 
-/// An entry brings its asker nothing but that it stands in the log.
+/// An entry brings its asker nothing but that it is in the log.
 pub struct NoGain;
 
 impl Gain<LogEntry, u64> for NoGain {
@@ -56,35 +58,18 @@ impl Play<LogEntry, u64> for Appending {
 /// The length of the log. Who has it can append.
 pub type Head = Word<LogEntry, u64, Law>;
 
-/// Documents that are to be added under a stop list.
+/// What was done to a live index and is not yet in its log.
 #[derive(Drop)]
-pub struct Addition<'a> {
-    pub stop: &'a StopList,
-    pub documents: &'a Collection<'a>,
+pub struct Rest<'a> {
+    pub front: &'a Front,
+    pub past: &'a Past,
 }
 
-impl<'a> Plain<Addition<'a>, LogEntry, u64> for Appending {
+impl<'a> Plain<Rest<'a>, LogEntry, u64> for Appending {
     ghost use Rattle.std.specs.Prelude.{None};
-    ghost use Rattle.ix_text.specs.Collections.{collection_of};
-    ghost use Rattle.ix_live.specs.Operations.{Add};
+    ghost use Rattle.ix_live.specs.Logs.{rest_of};
 
-    ghost ask = { λ addition.
-        Add (collection_of addition.stop.now addition.documents.now).documents };
+    ghost ask = { λ rest. rest_of rest.front.now rest.past.now };
 
-    ghost state = { λ addition. None };
-}
-
-/// The number of a document that is to be removed.
-#[derive(Drop)]
-pub struct Removal {
-    pub number: u32,
-}
-
-impl Plain<Removal, LogEntry, u64> for Appending {
-    ghost use Rattle.std.specs.Prelude.{None};
-    ghost use Rattle.ix_live.specs.Operations.{Remove};
-
-    ghost ask = { λ removal. Remove removal.number };
-
-    ghost state = { λ removal. None };
+    ghost state = { λ rest. None };
 }

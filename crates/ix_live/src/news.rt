@@ -1,17 +1,20 @@
 //! News of what was published.
-use crate::front::Front;
+use crate::edition::Edition;
+use std::alloc::Global;
 use std::marker::Model;
+use std::sync::Arc;
 
-/// What a publish tells: how far the history has come. Contracts see that history.
+/// What a publish tells: the edition that it showed. Contracts see its stop set and its history.
 #[derive(Drop)]
 pub struct News {
-    pub(crate) front: Front,
+    pub(crate) edition: Arc<Edition, Global>,
 }
 
 impl Model for News {
-    ghost use Rattle.ix_live.specs.Histories.{History};
+    ghost use Rattle.std.specs.Arc.{arc_value};
+    ghost use Rattle.ix_live.specs.Histories.{Known};
 
-    ghost Value = { History };
+    ghost Value = { Known };
 
-    ghost view = { λ news. news.front };
+    ghost view = { λ news. arc_value news.edition };
 }

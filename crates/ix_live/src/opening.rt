@@ -1,11 +1,13 @@
 //! A new live index.
 ghost use Rattle.std.specs.Prelude.{◌≡◌, ◌≤◌, [], Some, All, IfOk, vec_len};
+ghost use Rattle.std.specs.Arc.{arc_value};
 ghost use Rattle.left_right.specs.Sides.{view};
-ghost use Rattle.ix_live.specs.Identities.{version_of};
+ghost use Rattle.ix_live.specs.Identities.{shown_in};
 
+use crate::edition::Edition;
 use crate::front::Front;
 use crate::indexer::Indexer;
-use crate::rule::{Copied, Taken, VersionWriter};
+use crate::rule::{Copied, EditionWriter, Taken};
 use crate::searcher::Searcher;
 use crate::showing::open_copies;
 use crate::version::Version;
@@ -15,7 +17,7 @@ use std::sync::{Arc, Wait};
 
 /// A live index without documents, and 1 to 64 searchers of it.
 ///
-/// `Memory` where memory is refused.
+/// `Memory` if memory is refused.
 pub fn live<R: Wait>(
     rt: &R,
     alloc: Global,
@@ -29,15 +31,16 @@ pub fn live<R: Wait>(
     ensures count { IfOk result (λ r. vec_len r.1 ≡ searchers) }
     ensures searchers { IfOk result (λ r. All (λ searcher.
         (searcher.stop ≡ r.0.stop) × (searcher.history.book ≡ r.0.book)
-        × (searcher.history.operations ≡ [])) r.1.items) }
+        × (searcher.history.publishes ≡ [])) r.1.items) }
 {
     let stop = Arc::new(alloc, stop)?;
     let (head, front) = Front::open();
-    let next = Version::new(alloc, Arc::try_clone(&stop)?, front.again());
-    let version = next.share(alloc)?;
-    let mut writer = open_copies(rt, alloc, &version, searchers)?;
-    match make_searchers(alloc, &mut writer, &stop, &front, searchers) {
-        Ok(made) => Ok((Indexer::new(alloc, writer, next, head), made)),
+    let next = Version::new(alloc, stop);
+    let version = next.copy(alloc)?;
+    let edition = Arc::new(alloc, Edition::new(version, front.again()))?;
+    let mut writer = open_copies(rt, alloc, &edition, searchers)?;
+    match make_searchers(alloc, &mut writer, &edition, searchers) {
+        Ok(made) => Ok((Indexer::new(alloc, writer, next, front, head), made)),
         Err(error) => {
             writer.take(rt);
             Err(error)
@@ -45,27 +48,25 @@ pub fn live<R: Wait>(
     }
 }
 
-/// So many searchers of the live index that a writer knows, each of which knows of a history of it.
+/// So many searchers of the live index that a writer knows, each of which knows of the edition that is shown.
 fn make_searchers(
     alloc: Global,
-    writer: &mut VersionWriter,
-    stop: &StopList,
-    front: &Front,
+    writer: &mut EditionWriter,
+    edition: &Arc<Edition, Global>,
     count: usize,
 ) -> Result<Vec<Searcher>, Memory>
-    requires { view writer.old.desk.place
-        ≡ Some (record { stop = stop.now; book = front.now.book }) }
-    ensures kept { version_of writer.new.desk.shown.value
-        ≡ version_of writer.old.desk.shown.value }
+    requires { view writer.old.desk.place ≡ Some (arc_value edition.now) }
+    ensures kept { shown_in writer.new.desk.shown.value
+        ≡ shown_in writer.old.desk.shown.value }
     ensures count { IfOk result (λ made. vec_len made ≡ count) }
     ensures made { IfOk result (λ made. All (λ searcher.
-        searcher ≡ record { stop = stop.now; history = front.now }) made.items) }
+        searcher ≡ arc_value edition.now) made.items) }
 {
     let mut made = Vec::with_capacity(alloc, count)?;
     for _ in 0..count {
         let mut reader = writer.factory().reader()?;
         reader.learn::<Taken>(writer.tell::<Copied>());
-        made.push_reserved(Searcher::new(alloc, reader, stop, front.again()));
+        made.push_reserved(Searcher::new(alloc, reader, Arc::try_clone(edition)?));
     }
     Ok(made)
 }

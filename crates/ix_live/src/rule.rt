@@ -1,6 +1,6 @@
-//! The rule over the two copies: who knows which live index is shown, is right.
+//! The rule over the two copies: every history that a thread knows begins the one that is shown.
+use crate::edition::Edition;
 use crate::shown::Shown;
-use crate::version::Version;
 use atomic_table::{Join, Split};
 use crossbeam_utils::rule::{Outcome, Protocol};
 use left_right::reader::Reader;
@@ -9,23 +9,28 @@ use std::alloc::Global;
 use std::marker::Model;
 use std::sync::Arc;
 
-/// Which live index it is. No value of it is made.
-pub struct Which {}
+/// What a thread knows: a history. No value of it is made.
+pub struct Told {}
 
-impl Model for Which {
+impl Model for Told {
     ghost use Rattle.std.specs.Prelude.{[]};
-    ghost use Rattle.ix_live.specs.Identities.{Identity};
+    ghost use Rattle.ix_live.specs.Histories.{Known};
 
-    ghost Value = { Identity };
+    ghost Value = { Known };
 
-    ghost view = { λ which.
-        record { stop = []; book = record { number = 0; log_name = 0; cells_name = 0 } } };
+    ghost view = { λ told. record {
+      stop = [];
+      history = record {
+        book = record { number = 0; log_name = 0; cells_name = 0 };
+        publishes = [];
+      };
+    } };
 }
 
 /// The rule.
-pub struct OneIndex;
+pub struct Rises;
 
-impl Protocol<Shown, Option<Which>> for OneIndex {
+impl Protocol<Shown, Option<Told>> for Rises {
     ghost use Rattle.std.specs.Prelude.{None};
     ghost use Rattle.ix_live.specs.Identities.{AllAgree};
 
@@ -34,10 +39,10 @@ impl Protocol<Shown, Option<Which>> for OneIndex {
     ghost first = { None };
 }
 
-/// A look at what is shown tells which live index it is.
+/// A look tells the history that is shown, and a change of what is shown tells it to the writer.
 pub struct Looking;
 
-impl Outcome<Shown, Option<Which>> for Looking {
+impl Outcome<Shown, Option<Told>> for Looking {
     ghost use Rattle.ix_live.specs.Identities.{Finds};
 
     ghost then = { Finds };
@@ -46,7 +51,7 @@ impl Outcome<Shown, Option<Which>> for Looking {
 /// What the writer knows, it tells and keeps.
 pub struct Copied;
 
-impl Split<Option<Which>> for Copied {
+impl Split<Option<Told>> for Copied {
     ghost left = { λ known. known };
 
     ghost right = { λ known. known };
@@ -55,7 +60,7 @@ impl Split<Option<Which>> for Copied {
 /// A reader takes what it is told.
 pub struct Taken;
 
-impl Join<Option<Which>> for Taken {
+impl Join<Option<Told>> for Taken {
     ghost use Rattle.std.specs.Prelude.{None};
 
     ghost both = { λ known told. told };
@@ -63,8 +68,8 @@ impl Join<Option<Which>> for Taken {
     ghost spent = { None };
 }
 
-/// Who shows versions.
-pub type VersionWriter = Writer<Shown, Arc<Version, Global>, Option<Which>, OneIndex>;
+/// Who shows editions.
+pub type EditionWriter = Writer<Shown, Arc<Edition, Global>, Option<Told>, Rises>;
 
-/// Who takes the version that is shown.
-pub type VersionReader = Reader<Shown, Option<Which>, OneIndex>;
+/// Who takes the edition that is shown.
+pub type EditionReader = Reader<Shown, Option<Told>, Rises>;

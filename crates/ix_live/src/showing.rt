@@ -1,37 +1,38 @@
-//! Versions go from the indexer to the searchers.
-ghost use Rattle.std.specs.Prelude.{◌≡◌, ◌^◌, ◌<◌, Some, IfOk, IsSome, MatchResult};
+//! Editions go from the indexer to the searchers.
+ghost use Rattle.std.specs.Prelude.{◌≡◌, ◌^◌, ◌<◌, Some, IfOk, MatchResult};
 ghost use Rattle.std.specs.Arc.{arc_value};
 ghost use Rattle.left_right.specs.Sides.{view};
-ghost use Rattle.ix_live.specs.Identities.{identity_of, version_of};
+ghost use Rattle.ix_live.specs.Histories.{Known};
+ghost use Rattle.ix_live.specs.Identities.{Agrees, GoesOn, KnowsIndex, shown_in};
 
-use crate::rule::{Looking, VersionReader, VersionWriter};
+use crate::edition::Edition;
+use crate::rule::{EditionReader, EditionWriter, Looking};
 use crate::shown::Shown;
-use crate::version::Version;
 use ix_text::Memory;
 use std::alloc::{AllocError, Global};
 use std::sync::{Arc, Wait};
 
-/// Two copies that show a version, with room for so many readers.
+/// Two copies that show an edition, with room for so many readers.
 pub fn open_copies<R: Wait>(
     rt: &R,
     alloc: Global,
-    version: &Arc<Version, Global>,
+    edition: &Arc<Edition, Global>,
     readers: usize,
-) -> Result<VersionWriter, Memory>
+) -> Result<EditionWriter, Memory>
     requires { (0 < readers) × (readers < 2 ^ 32) }
     ensures shown { IfOk result (λ writer.
-        version_of writer.desk.shown.value ≡ arc_value version.now) }
+        shown_in writer.desk.shown.value ≡ arc_value edition.now) }
     ensures known { IfOk result (λ writer.
-        view writer.desk.place ≡ Some (identity_of (arc_value version.now))) }
+        view writer.desk.place ≡ Some (arc_value edition.now)) }
 {
     let first = Shown {
-        current: Arc::try_clone(version)?,
+        current: Arc::try_clone(edition)?,
     };
     let second = Shown {
-        current: Arc::try_clone(version)?,
+        current: Arc::try_clone(edition)?,
     };
-    let writer = VersionWriter::new(alloc, first, second, readers)?;
-    // Nothing is new to show: it tells the writer which live index it is.
+    let writer = EditionWriter::new(alloc, first, second, readers)?;
+    // Nothing is new to show: it tells the writer which history it is.
     let (writer, done) = writer.publish_as::<Looking, R>(rt);
     if let Err(error) = done {
         writer.take(rt);
@@ -40,40 +41,39 @@ pub fn open_copies<R: Wait>(
     Ok(writer)
 }
 
-/// Shows a version of the same live index in place of the one that is shown. It waits for those who still take the one
+/// Shows an edition that goes on from the one that is shown, in place of that. It waits for those who still take the one
 /// from before that.
-pub fn show_version<R: Wait>(
-    writer: VersionWriter,
-    next: (&R, Arc<Version, Global>),
-) -> (VersionWriter, Result<(), Memory>)
-    requires { identity_of (arc_value next.1)
-        ≡ identity_of (version_of writer.desk.shown.value) }
+pub fn show_edition<R: Wait>(
+    writer: EditionWriter,
+    next: (&R, Arc<Edition, Global>),
+) -> (EditionWriter, Result<(), Memory>)
+    requires { GoesOn (shown_in writer.desk.shown.value) (arc_value next.1) }
     ensures { MatchResult result.1
-        (λ _. version_of result.0.desk.shown.value ≡ arc_value next.entry.1)
-        (λ _. version_of result.0.desk.shown.value ≡ version_of writer.desk.shown.value) }
+        (λ _. shown_in result.0.desk.shown.value ≡ arc_value next.entry.1)
+        (λ _. shown_in result.0.desk.shown.value ≡ shown_in writer.desk.shown.value) }
 {
-    let (rt, version) = next;
+    let (rt, edition) = next;
     let mut writer = writer;
-    match writer.append(version) {
+    match writer.append(edition) {
         Ok(()) => writer.publish_as::<Looking, R>(rt),
-        Err(_version) => (writer, Err(AllocError)),
+        Err(_edition) => (writer, Err(AllocError)),
     }
 }
 
-/// Takes the version that is shown. `Memory` where the reader is not let in, as once the writer is gone.
-pub fn take_version(
-    reader: VersionReader,
+/// Takes the edition that is shown. `Memory` if the reader is not let in, as once the writer is gone.
+pub fn take_edition(
+    reader: EditionReader,
     _nothing: (),
-) -> (VersionReader, Result<Arc<Version, Global>, Memory>)
-    requires { IsSome (view reader.place) }
-    ensures kept { view result.0.place ≡ view reader.place }
-    ensures taken { IfOk result.1 (λ version.
-        view reader.place ≡ Some (identity_of (arc_value version))) }
+) -> (EditionReader, Result<Arc<Edition, Global>, Memory>)
+    ensures kept { (index : Known) → KnowsIndex (view reader.place) index
+        → KnowsIndex (view result.0.place) index }
+    ensures taken { IfOk result.1 (λ edition. Agrees (arc_value edition) (view reader.place)
+        × (view result.0.place ≡ Some (arc_value edition))) }
 {
     match reader.enter_as::<Looking>() {
         Ok(reading) => {
-            let version = Arc::try_clone(&reading.get().current);
-            (reading.leave(), version)
+            let edition = Arc::try_clone(&reading.get().current);
+            (reading.leave(), edition)
         }
         Err(reader) => (reader, Err(AllocError)),
     }

@@ -1,19 +1,19 @@
 //! What each of the two copies holds.
-use crate::version::Version;
+use crate::edition::Edition;
 use left_right::Absorb;
 use std::alloc::{AllocError, Global};
 use std::sync::Arc;
 
-/// A copy shows a version. The one operation on it is to show another.
+/// A copy shows an edition. The one operation on it is to show another.
 #[derive(Drop)]
 pub struct Shown {
-    pub current: Arc<Version, Global>,
+    pub current: Arc<Edition, Global>,
 }
 
-impl Absorb<Arc<Version, Global>> for Shown {
+impl Absorb<Arc<Edition, Global>> for Shown {
     ghost use Rattle.std.specs.Arc.{arc_value};
 
-    type State = Version;
+    type State = Edition;
 
     ghost state = { λ shown. arc_value shown.current };
 
@@ -21,7 +21,7 @@ impl Absorb<Arc<Version, Global>> for Shown {
 
     fn absorb_first(
         &mut self,
-        operation: &Arc<Version, Global>,
+        operation: &Arc<Edition, Global>,
         _other: &Shown,
     ) -> Result<(), AllocError> {
         self.current = Arc::try_clone(operation)?;

@@ -1,10 +1,10 @@
-//! Versions: a live index at one point of its history. A version that is shown is never changed.
-ghost use Rattle.std.specs.Prelude.{◌≡◌, ◌<◌, ◌++◌, ◌∷◌, [], length, map, option_map, slice_get, IfErr, IfOk, OnErr, OnOk};
+//! Versions: a live index after all that was done to it.
+ghost use Rattle.std.specs.Prelude.{◌≡◌, ◌<◌, ◌∷◌, [], length, map, option_map, slice_get, IfErr, IfOk, OnErr, OnOk};
 ghost use Rattle.std.specs.Arc.{arc_value};
 ghost use Rattle.std.specs.String.{string_bytes};
 ghost use Rattle.ix_live.specs.Growing.{documents_under};
+ghost use Rattle.ix_live.specs.Histories.{nothing_done, operations_of, published, waiting};
 ghost use Rattle.ix_live.specs.LiveErrors.{RefusesAddition, RefusesRemoval};
-ghost use Rattle.ix_live.specs.Logs.{head_of};
 ghost use Rattle.ix_live.specs.NameErrors.{RefusesNames};
 ghost use Rattle.ix_live.specs.Names.{AreNamesOf};
 ghost use Rattle.ix_live.specs.Operations.{Remove, addition_of, documents_added, state_after};
@@ -13,12 +13,11 @@ ghost use Rattle.ix_live.specs.StateScans.{IsStateScan};
 
 use crate::entry::Entry;
 use crate::finding::find_documents;
-use crate::front::Front;
 use crate::growing::grow;
 use crate::live_error::LiveError;
-use crate::log::{Addition, Appending, Head, Removal};
 use crate::name_error::NameError;
 use crate::naming::find_names;
+use crate::past::Past;
 use crate::removing::insert_number;
 use crate::segment::Place;
 use arrayvec::ArrayVec;
@@ -30,23 +29,24 @@ use std::marker::Model;
 use std::sync::{Arc, Wait};
 use std::thread::Threads;
 
-/// A live index at one point of its history. Contracts see its stop set, its history and the pieces of its documents.
+/// A live index after all that was done to it. Contracts see its stop set, what was done, and the pieces of its documents.
 #[derive(Drop)]
 pub struct Version {
-    pub(crate) stop: Arc<StopList, Global>,
-    pub(crate) segments: ArrayVec<Place, 32>,
+    stop: Arc<StopList, Global>,
+    segments: ArrayVec<Place, 32>,
     // the operations, without their documents
-    pub(crate) entries: Vec<Entry>,
+    entries: Vec<Entry>,
     // the numbers of the documents that are removed, ascending
-    pub(crate) removed: Vec<u32>,
+    removed: Vec<u32>,
     // how many documents there are, and how many tokens they have
-    pub(crate) count: u32,
-    pub(crate) tokens: u32,
-    pub(crate) front: Front,
+    count: u32,
+    tokens: u32,
+    past: Past,
 }
 
 impl Model for Version {
     ghost use Rattle.std.specs.Arc.{arc_value};
+    ghost use Rattle.ix_live.specs.Histories.{operations_of};
     ghost use Rattle.ix_live.specs.Pieces.{pieces_in};
     ghost use Rattle.ix_live.specs.Versions.{IsStored, VersionValue};
 
@@ -54,21 +54,20 @@ impl Model for Version {
 
     ghost view = { λ version. record {
       stop = arc_value version.stop;
-      history = version.front;
+      past = version.past;
       pieces = pieces_in version.segments.items;
     } };
 
     ghost invariant = { λ version. IsStored (arc_value version.stop) version.segments.items
         version.entries.items version.removed.items version.count version.tokens
-        version.front.operations };
+        (operations_of version.past) };
 }
 
 impl Version {
-    /// The version without operations, of this stop list and log.
-    pub fn new(alloc: Global, stop: Arc<StopList, Global>, front: Front) -> Version
-        requires { front.operations ≡ [] }
+    /// The version to which nothing was done, of this stop list.
+    pub fn new(alloc: Global, stop: Arc<StopList, Global>) -> Version
         ensures stop { result.stop ≡ arc_value stop }
-        ensures history { result.history ≡ front }
+        ensures past { result.past ≡ nothing_done }
         ensures pieces { result.pieces ≡ [] }
     {
         Version {
@@ -78,11 +77,11 @@ impl Version {
             removed: Vec::new(alloc),
             count: 0,
             tokens: 0,
-            front,
+            past: Past::open(),
         }
     }
 
-    /// A version of the same history, which shares the segments.
+    /// A version to which the same was done, which shares the segments.
     pub fn copy(&self, alloc: Global) -> Result<Version, Memory>
         ensures { IfOk result (λ copy. copy ≡ self.now) }
     {
@@ -94,39 +93,38 @@ impl Version {
             removed: Vec::from_slice(alloc, &self.removed)?,
             count: self.count,
             tokens: self.tokens,
-            front: self.front.again(),
+            past: self.past.again(),
         })
     }
 
-    /// A copy that is shared from the start.
-    pub fn share(&self, alloc: Global) -> Result<Arc<Version, Global>, Memory>
-        ensures { IfOk result (λ shared. arc_value shared ≡ self.now) }
+    /// All that is pending is published.
+    pub fn settle(&mut self)
+        ensures { self.new ≡ record {
+          stop = self.old.stop;
+          past = published self.old.past;
+          pieces = self.old.pieces;
+        } }
     {
-        let copy = self.copy(alloc)?;
-        Ok(Arc::new(alloc, copy)?)
+        self.past = self.past.published();
     }
 
     /// Adds documents behind all others. A collection without documents changes nothing.
     ///
-    /// `Build` where the documents are not built, `TooLarge` where there would be more than 2^28 documents or tokens,
-    /// and `Memory` where memory is refused; also where the log has gone on beyond the history, which does not come
-    /// while nobody else has its word. All is then as it was.
+    /// `Build` if the documents are not built, `TooLarge` if there would be more than 2^28 documents or tokens, and
+    /// `Memory` if memory is refused. All is then as it was.
     pub fn add<R: Threads + Wait + Sync>(
         &mut self,
         rt: &R,
         alloc: Global,
-        head: &Head,
         documents: &Collection<'_>,
         plan: &Plan,
     ) -> Result<(), LiveError>
-        requires { head.now ≡ head_of self.old.history.book }
-        ensures same { (self.new.stop ≡ self.old.stop)
-            × (self.new.history.book ≡ self.old.history.book) }
-        ensures added { OnOk result (self.new.history.operations ≡ self.old.history.operations
-            ++ addition_of (documents_under self.old.stop documents.now)) }
+        ensures same { self.new.stop ≡ self.old.stop }
+        ensures added { OnOk result (self.new.past ≡ waiting self.old.past
+            (addition_of (documents_under self.old.stop documents.now))) }
         ensures kept { OnErr result (self.new ≡ self.old) }
         ensures error { IfErr result (RefusesAddition plan.now.workers
-            self.old.history.operations (documents_under self.old.stop documents.now)) }
+            (operations_of self.old.past) (documents_under self.old.stop documents.now)) }
     {
         let count = documents.docs().len();
         if count == 0 {
@@ -141,62 +139,45 @@ impl Version {
             Err(error) => return Err(error),
         };
         self.entries.reserve(1)?;
-        let mut front = self.front.again();
-        let asked = Addition {
-            stop: &self.stop,
-            documents,
-        };
-        // Nobody else has the word of the log, so this does not fail.
-        if !front.append::<Addition<'_>, Appending>(head, &asked) {
-            return Err(LiveError::Memory);
-        }
+        self.past = self.past.with_addition(&self.stop, documents);
         self.segments.truncate(grown.left);
         self.segments.push(grown.place);
         self.entries.push_reserved(Entry::Added(count as u32));
         self.count += count as u32;
         self.tokens += grown.tokens;
-        self.front = front;
         Ok(())
     }
 
     /// Removes the document of a number, which keeps its number and its name. A second removal changes nothing but
-    /// the history.
+    /// what was done.
     ///
-    /// `Number` where there is no such document, and `Memory` as in `add`. All is then as it was.
-    pub fn remove(&mut self, head: &Head, number: u32) -> Result<(), LiveError>
-        requires { head.now ≡ head_of self.old.history.book }
-        ensures same { (self.new.stop ≡ self.old.stop)
-            × (self.new.history.book ≡ self.old.history.book)
-            × (self.new.pieces ≡ self.old.pieces) }
-        ensures removed { OnOk result (self.new.history.operations
-            ≡ self.old.history.operations ++ Remove number ∷ []) }
+    /// `Number` if there is no such document, and `Memory` if memory is refused. All is then as it was.
+    pub fn remove(&mut self, number: u32) -> Result<(), LiveError>
+        ensures same { (self.new.stop ≡ self.old.stop) × (self.new.pieces ≡ self.old.pieces) }
+        ensures removed { OnOk result
+            (self.new.past ≡ waiting self.old.past (Remove number ∷ [])) }
         ensures there { OnOk result
-            (number < length (documents_added self.old.history.operations)) }
+            (number < length (documents_added (operations_of self.old.past))) }
         ensures kept { OnErr result (self.new ≡ self.old) }
         ensures error { IfErr result (RefusesRemoval
-            (length (documents_added self.old.history.operations)) number) }
+            (length (documents_added (operations_of self.old.past))) number) }
     {
         if number >= self.count {
             return Err(LiveError::Number(number));
         }
         self.entries.reserve(1)?;
         self.removed.reserve(1)?;
-        let mut front = self.front.again();
-        // Nobody else has the word of the log, so this does not fail.
-        if !front.append::<Removal, Appending>(head, &Removal { number }) {
-            return Err(LiveError::Memory);
-        }
+        self.past = self.past.with_removal(number);
         insert_number(&mut self.removed, number);
         self.entries.push_reserved(Entry::Removed(number));
-        self.front = front;
         Ok(())
     }
 
-    /// Its history.
-    pub fn front(&self) -> &Front
-        ensures { result.now ≡ self.now.history }
+    /// What was done.
+    pub fn past(&self) -> &Past
+        ensures { result.now ≡ self.now.past }
     {
-        &self.front
+        &self.past
     }
 
     /// The generation of the segment at a place, none past the end.
@@ -214,7 +195,7 @@ impl Version {
     /// The numbers of the documents that satisfy a query and are not removed, ascending.
     pub fn find(&self, alloc: Global, query: &Query) -> Result<Vec<u32>, Memory>
         ensures { IfOk result (λ numbers.
-            IsStateScan (state_after self.now.stop self.now.history.operations) query.now
+            IsStateScan (state_after self.now.stop (operations_of self.now.past)) query.now
             numbers.items) }
     {
         find_documents(
@@ -229,10 +210,10 @@ impl Version {
     /// document's, or `Memory`.
     pub fn names(&self, alloc: Global, numbers: &[u32]) -> Result<Vec<String>, NameError>
         ensures names { IfOk result (λ names.
-            AreNamesOf (documents_added self.now.history.operations) numbers.now
+            AreNamesOf (documents_added (operations_of self.now.past)) numbers.now
             (map string_bytes names.items)) }
         ensures refused { IfErr result
-            (RefusesNames (length (documents_added self.now.history.operations)) numbers.now) }
+            (RefusesNames (length (documents_added (operations_of self.now.past))) numbers.now) }
     {
         find_names(alloc, self.segments.as_slice(), numbers)
     }

@@ -3,9 +3,8 @@ use Rattle.std.specs.Prelude.{ℕ, List, String, map, IfOk}
 use Rattle.std.specs.Global.{Global, Vec}
 use Rattle.std.specs.String.{string_bytes}
 use Rattle.ix_query.specs.Tree.{Tree}
-use Rattle.ix_live.specs.Histories.{History}
+use Rattle.ix_live.specs.Histories.{Known, operations_in}
 use Rattle.ix_script.specs.Answers.{IsAnswer}
-use Rattle.ix_script.specs.Teams.{IsOfIndex}
 use Rattle.ix_script.specs.declared.jobs.Job.{Job}
 use Rattle.ix_script.specs.declared.jobs.Done.{Done}
 
@@ -21,6 +20,6 @@ asked_by job = job.query.now
 abbrev pub asked_of : Done → Tree
 asked_of done = asked_by done.job
 
--- the searcher of the job is still one of the live index, and the names that were found are the answer after the history
-abbrev pub IsDoneFor : List (List ℕ) → History → Done → Type 0
-IsDoneFor stop history done = IsOfIndex stop history.book done.job.searcher × IfOk done.names (λ names. IsAnswer stop history.operations (asked_of done) (names_in names))
+-- the names that were found are the answer after the history
+abbrev pub IsDoneFor : Known → Done → Type 0
+IsDoneFor known done = IfOk done.names (λ names. IsAnswer known.stop (operations_in known.history) (asked_of done) (names_in names))

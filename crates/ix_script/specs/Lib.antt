@@ -10,4 +10,3 @@ pub mod Scripts
 pub mod Steps
 pub mod Stops
 pub mod Stretches
-pub mod Teams

@@ -6,11 +6,12 @@ use Rattle.ix_text.specs.Collections.{NamedText}
 use Rattle.ix_output.specs.Sinks.{AppendsFront}
 use Rattle.ix_text.specs.declared.collection.CollectionError.TheVariants as collection
 use Rattle.ix_live.specs.Growing.{documents_under}
+use Rattle.ix_live.specs.Histories.{Known}
 use Rattle.ix_live.specs.Indexers.{IndexerValue}
 use Rattle.ix_live.specs.LiveErrors.{RefusesAddition, RefusesRemoval}
+use Rattle.ix_live.specs.Segments.{joined}
 use Rattle.ix_script.specs.Runs.{Changes, HoldsDocuments, Progress, documents_in}
 use Rattle.ix_script.specs.Steps.{Add, Ask, Publish, Remove, Step, Text}
-use Rattle.ix_script.specs.Teams.{TeamValue}
 use Rattle.ix_script.specs.declared.collection_files.FileFault.{FileFault}
 use Rattle.ix_script.specs.declared.collection_files.FileFault.TheVariants as file
 use Rattle.ix_script.specs.declared.run_error.RunError.{RunError}
@@ -18,11 +19,11 @@ use Rattle.ix_script.specs.declared.run_error.RunError.TheVariants.{Collection, 
 
 -- how far the live index of an indexer has come
 abbrev pub progress_of : IndexerValue → Progress
-progress_of indexer = record { published = indexer.published; pending = indexer.pending }
+progress_of indexer = record { published = joined indexer.published; pending = indexer.pending }
 
--- the team is of the live index of the indexer, and knows of all that is published
-abbrev pub IsTeamOf : IndexerValue → TeamValue → Type 0
-IsTeamOf indexer team = (team.stop ≡ indexer.stop) × (team.history.book ≡ indexer.book) × (team.history.operations ≡ indexer.published)
+-- the team answers after all that is published
+abbrev pub IsTeamOf : IndexerValue → Known → Type 0
+IsTeamOf indexer team = (team.stop ≡ indexer.stop) × (team.history.publishes ≡ indexer.published)
 
 -- the indexer is of the same live index, in which what is published is as it was
 abbrev pub KeepsPublished : IndexerValue → IndexerValue → Type 0

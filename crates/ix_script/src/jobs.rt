@@ -1,17 +1,16 @@
 //! Jobs: each has a searcher and the query that it is to answer.
 ghost use Rattle.std.specs.Prelude.{◌≡◌, ◌<◌, ◌≤◌, ◌+◌, ◌++◌, ℕ, [], List, All, IfOk, OnOk, length, map, slice_index_or, vec_capacity, vec_len};
 ghost use Rattle.ix_query.specs.Tree.{Tree};
+ghost use Rattle.ix_live.specs.Histories.{operations_in};
 ghost use Rattle.ix_script.specs.Answers.{AreAnswers};
 ghost use Rattle.ix_script.specs.Jobs.{IsDoneFor, asked_by, asked_of, names_in};
 ghost use Rattle.ix_script.specs.declared.jobs.Done.{Done as DoneValue};
 ghost use Rattle.ix_script.specs.declared.jobs.Job.{Job as JobValue};
-ghost use Rattle.ix_script.specs.Teams.{IsOfIndex};
 
 use crate::asking::find_names;
 use ix_live::{News, Searcher};
 use ix_query::Query;
-use ix_text::{Memory, StopList};
-use std::snapshot::Snapshot;
+use ix_text::Memory;
 use std::thread::{Threads, map_vec};
 
 /// A searcher, and the query that it is to answer.
@@ -33,17 +32,12 @@ pub fn give_out<'q>(
     searchers: &mut Vec<Searcher>,
     queries: &[&'q Query],
     jobs: Vec<Job<'q>>,
-    stop: &Snapshot<StopList>,
-    news: &News,
 ) -> Vec<Job<'q>>
     requires enough { length queries.now ≤ vec_len searchers.old }
     requires room { (jobs.items ≡ []) × (length queries.now ≤ vec_capacity jobs) }
-    requires own { All (IsOfIndex stop.now.value news.now.book) searchers.old.items }
     ensures left { vec_len searchers.new + length queries.now ≡ vec_len searchers.old }
     ensures kept { vec_capacity searchers.new ≡ vec_capacity searchers.old }
-    ensures own { All (IsOfIndex stop.now.value news.now.book) searchers.new.items }
     ensures count { vec_len result ≡ length queries.now }
-    ensures jobs { All (λ job. IsOfIndex stop.now.value news.now.book job.searcher) result.items }
     ensures asked { map asked_by result.items ≡ map (λ query. query.now) queries.entry.now }
 {
     let mut jobs = jobs;
@@ -61,16 +55,10 @@ pub fn give_out<'q>(
 
 /// Does a job after just the history of these news.
 fn do_job<'q>(job: Job<'q>, news: &News) -> Done<'q>
-    requires { news.now.book ≡ job.searcher.history.book }
-    ensures done { IsDoneFor job.entry.searcher.stop news.now result }
+    ensures done { IsDoneFor news.now result }
     ensures query { asked_of result ≡ asked_by job.entry }
 {
-    let Job {
-        mut searcher,
-        query,
-    } = job;
-    let names = find_names(&mut searcher, news, query);
-    let job = Job { searcher, query };
+    let names = find_names(&job.searcher, news, job.query);
     Done { job, names }
 }
 
@@ -78,12 +66,10 @@ fn do_job<'q>(job: Job<'q>, news: &News) -> Done<'q>
 pub fn do_jobs<'q, R: Threads + Sync>(
     rt: &R,
     jobs: Vec<Job<'q>>,
-    stop: &Snapshot<StopList>,
     news: &News,
 ) -> Result<Vec<Done<'q>>, Memory>
-    requires { All (λ job. IsOfIndex stop.now.value news.now.book job.searcher) jobs.items }
     ensures count { IfOk result (λ done. vec_len done ≡ vec_len jobs.entry) }
-    ensures done { IfOk result (λ done. All (IsDoneFor stop.now.value news.now) done.items) }
+    ensures done { IfOk result (λ done. All (IsDoneFor news.now) done.items) }
     ensures asked { IfOk result (λ done. (place : ℕ) (one : DoneValue) (job : JobValue)
         → place < vec_len jobs.entry → asked_of (slice_index_or done.items place one)
         ≡ asked_by (slice_index_or jobs.entry.items place job)) }
@@ -97,22 +83,19 @@ pub fn gather(
     done: Vec<Done<'_>>,
     searchers: &mut Vec<Searcher>,
     answers: &mut Vec<Vec<String>>,
-    stop: &Snapshot<StopList>,
     news: &News,
 ) -> Result<(), Memory>
-    requires done { All (IsDoneFor stop.now.value news.now) done.items }
-    requires own { All (IsOfIndex stop.now.value news.now.book) searchers.old.items }
+    requires done { All (IsDoneFor news.now) done.items }
     requires back { vec_len searchers.old + vec_len done ≤ vec_capacity searchers.old }
     requires room { vec_len answers.old + vec_len done ≤ vec_capacity answers.old }
-    ensures own { OnOk result (All (IsOfIndex stop.now.value news.now.book) searchers.new.items) }
     ensures count { OnOk result
         (vec_len searchers.new ≡ vec_len searchers.old + vec_len done.entry) }
     ensures more { OnOk result (vec_len answers.new ≡ vec_len answers.old + vec_len done.entry) }
     ensures kept { (vec_capacity searchers.new ≡ vec_capacity searchers.old)
         × (vec_capacity answers.new ≡ vec_capacity answers.old) }
     ensures answered { OnOk result ((before : List Tree)
-        → AreAnswers stop.now.value news.now.operations before (map names_in answers.old.items)
-        → AreAnswers stop.now.value news.now.operations
+        → AreAnswers news.now.stop (operations_in news.now.history) before (map names_in answers.old.items)
+        → AreAnswers news.now.stop (operations_in news.now.history)
         (before ++ map asked_of done.entry.items) (map names_in answers.new.items)) }
 {
     for one in done {

@@ -7,7 +7,6 @@ ghost use Rattle.ix_script.specs.Scripts.{ArePublished, IsCarriedOut, IsStopped,
 ghost use Rattle.ix_script.specs.Steps.{step_of};
 ghost use Rattle.ix_script.specs.Stops.{IsTeamOf, KeepsPublished, progress_of};
 ghost use Rattle.ix_script.specs.Stretches.{CarriesOut, Stops};
-ghost use Rattle.ix_script.specs.Teams.{IsOfIndex};
 ghost use Rattle.ix_script.specs.declared.run_error.RunError.TheVariants.{Live};
 
 use crate::collection_files::CollectionFiles;
@@ -22,7 +21,6 @@ use ix_live::{Indexer, Searcher, live};
 use ix_text::StopList;
 use std::alloc::Global;
 use std::io::Write;
-use std::snapshot::Snapshot;
 use std::sync::Wait;
 use std::thread::Threads;
 
@@ -48,21 +46,10 @@ pub fn run_steps<'t, R: Threads + Wait + Sync, F: CollectionFiles, W: Write>(
     ensures refused { IfErr result (IsStopped (F.holds files.now) plan.now.workers stop
         (map step_of steps.now) (W.contents out.old) (W.contents out.new)) }
 {
-    let known = Snapshot::of(&stop);
     let Ok((mut indexer, searchers)) = live(rt, alloc, stop, searchers) else {
         return Err(RunError::Memory);
     };
-    let done = run_new(
-        rt,
-        alloc,
-        files,
-        plan,
-        &mut indexer,
-        searchers,
-        known,
-        steps,
-        out,
-    );
+    let done = run_new(rt, alloc, files, plan, &mut indexer, searchers, steps, out);
     indexer.close(rt);
     done
 }
@@ -75,25 +62,22 @@ fn run_new<'t, R: Threads + Wait + Sync, F: CollectionFiles, W: Write>(
     plan: &Plan,
     indexer: &mut Indexer,
     searchers: Vec<Searcher>,
-    stop: Snapshot<StopList>,
     steps: &[Step<'t>],
     out: &mut W,
 ) -> Result<bool, RunError<'t>>
     requires new { progress_of indexer.old ≡ nothing_yet }
-    requires stop { stop.value ≡ indexer.old.stop }
     requires some { 0 < vec_len searchers }
-    requires own { All (IsOfIndex indexer.old.stop indexer.old.book) searchers.items }
     ensures ran { IfOk result (CarriesOut (F.holds files.now) indexer.old.stop
         (map step_of steps.now) nothing_yet (progress_of indexer.new)
         (W.contents out.old) (W.contents out.new)) }
     ensures refused { IfErr result (Stops (F.holds files.now) plan.now.workers indexer.old.stop
         (map step_of steps.now) nothing_yet (W.contents out.old) (W.contents out.new)) }
 {
-    // A team knows of news, so nothing is published first.
+    // A team answers after news, so nothing is published first.
     let Ok(news) = indexer.publish(rt) else {
         return Err(RunError::Memory);
     };
-    let team = Team::new(searchers, news, stop);
+    let team = Team::new(searchers, news);
     run_on(rt, alloc, files, plan, indexer, team, steps, out)
 }
 

@@ -1,57 +1,48 @@
 //! Teams: the searchers of a live index, which answer queries side by side.
-ghost use Rattle.std.specs.Prelude.{◌≡◌, ◌<◌, All, IfOk, Some, map, vec_len};
+ghost use Rattle.std.specs.Prelude.{◌≡◌, ◌<◌, IfOk, Some, map, vec_len};
+ghost use Rattle.ix_live.specs.Histories.{operations_in};
 ghost use Rattle.ix_script.specs.Answers.{AreAnswers};
 ghost use Rattle.ix_script.specs.Jobs.{names_in};
-ghost use Rattle.ix_script.specs.Teams.{IsOfIndex};
 
 use crate::jobs::{do_jobs, gather, give_out};
 use ix_live::{News, Searcher};
 use ix_query::Query;
-use ix_text::{Memory, StopList};
+use ix_text::Memory;
 use std::alloc::{AllocError, Global};
 use std::marker::Model;
-use std::snapshot::Snapshot;
 use std::thread::{Threads, join_mut};
 
-/// The searchers of a live index, one or more, and the news that they are to know. Contracts see the stop set, and the
+/// The searchers of a live index, one or more, and the news after which they answer. Contracts see the stop set and the
 /// history of the news.
 #[derive(Drop)]
 pub struct Team {
     searchers: Vec<Searcher>,
     news: News,
-    stop: Snapshot<StopList>,
 }
 
 impl Model for Team {
-    ghost use Rattle.std.specs.Prelude.{◌<◌, All, vec_len};
-    ghost use Rattle.ix_script.specs.Teams.{IsOfIndex, TeamValue};
+    ghost use Rattle.std.specs.Prelude.{◌<◌, vec_len};
+    ghost use Rattle.ix_live.specs.Histories.{Known};
 
-    ghost Value = { TeamValue };
+    ghost Value = { Known };
 
-    ghost view = { λ team. record { stop = team.stop.value; history = team.news } };
+    ghost view = { λ team. team.news };
 
-    ghost invariant = { λ team. (0 < vec_len team.searchers)
-        × All (IsOfIndex team.stop.value team.news.book) team.searchers.items };
+    ghost invariant = { λ team. 0 < vec_len team.searchers };
 }
 
 impl Team {
-    /// The searchers of a live index that are to know these news.
-    pub fn new(searchers: Vec<Searcher>, news: News, stop: Snapshot<StopList>) -> Team
-        requires some { 0 < vec_len searchers }
-        requires own { All (IsOfIndex stop.value news.book) searchers.items }
-        ensures { result ≡ record { stop = stop.value; history = news } }
+    /// The searchers of a live index that are to answer after these news.
+    pub fn new(searchers: Vec<Searcher>, news: News) -> Team
+        requires { 0 < vec_len searchers }
+        ensures { result ≡ news }
     {
-        Team {
-            searchers,
-            news,
-            stop,
-        }
+        Team { searchers, news }
     }
 
-    /// From now on the searchers are to know these news of their live index.
+    /// From now on the searchers are to answer after these news.
     pub fn learn(&mut self, news: News)
-        requires { news.book ≡ self.old.history.book }
-        ensures { self.new ≡ record { stop = self.old.stop; history = news } }
+        ensures { self.new ≡ news }
     {
         self.news = news;
     }
@@ -59,7 +50,7 @@ impl Team {
     /// The answers to these queries after just the history of the news, in order. The searchers answer side by side, a
     /// query each in a thread of its own, until none is left.
     ///
-    /// `Memory` where memory is refused, once the indexer was closed, and where more was published than the news.
+    /// `Memory` if memory is refused.
     pub fn answer<R: Threads + Sync>(
         self,
         rt: &R,
@@ -67,32 +58,25 @@ impl Team {
         queries: &[&Query],
     ) -> Result<(Team, Vec<Vec<String>>), Memory>
         ensures team { IfOk result (λ r. r.0 ≡ self) }
-        ensures answers { IfOk result (λ r. AreAnswers self.stop self.history.operations
+        ensures answers { IfOk result (λ r. AreAnswers self.stop (operations_in self.history)
             (map (λ query. query.now) queries.now) (map names_in r.1.items)) }
     {
         let Team {
-            searchers,
+            mut searchers,
             news,
-            stop,
         } = self;
-        let mut searchers = searchers;
         let mut answers = Vec::with_capacity(alloc, queries.len())?;
         let mut place = 0;
         while place < queries.len() {
             let count = searchers.len().min(queries.len() - place);
             let jobs = Vec::with_capacity(alloc, count)?;
             let round = &queries[place..place + count];
-            let jobs = give_out(&mut searchers, round, jobs, &stop, &news);
-            let done = do_jobs(rt, jobs, &stop, &news)?;
-            gather(done, &mut searchers, &mut answers, &stop, &news)?;
+            let jobs = give_out(&mut searchers, round, jobs);
+            let done = do_jobs(rt, jobs, &news)?;
+            gather(done, &mut searchers, &mut answers, &news)?;
             place += count;
         }
-        let team = Team {
-            searchers,
-            news,
-            stop,
-        };
-        Ok((team, answers))
+        Ok((Team { searchers, news }, answers))
     }
 
     /// The answers to these queries as for `answer`, beside something else, which is done on this thread, once.
@@ -106,13 +90,13 @@ impl Team {
         requires { F.pre beside.old }
         ensures beside { F.step beside.old result.1 beside.new }
         ensures team { IfOk result.0 (λ r. r.0 ≡ self) }
-        ensures answers { IfOk result.0 (λ r. AreAnswers self.stop self.history.operations
+        ensures answers { IfOk result.0 (λ r. AreAnswers self.stop (operations_in self.history)
             (map (λ query. query.now) queries.now) (map names_in r.1.items)) }
     {
         let mut team = Some(self);
         let mut asks = || -> Result<(Team, Vec<Vec<String>>), Memory>
             ensures team { IfOk result (λ r. team.entry ≡ Some r.0) }
-            ensures answers { IfOk result (λ r. AreAnswers r.0.stop r.0.history.operations
+            ensures answers { IfOk result (λ r. AreAnswers r.0.stop (operations_in r.0.history)
                 (map (λ query. query.now) queries.entry.now) (map names_in r.1.items)) }
         {
             match team.take() {

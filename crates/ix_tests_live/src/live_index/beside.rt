@@ -137,7 +137,9 @@ fn many_searchers_beyond_the_end(rt: HostRuntime) -> Result<(), Fail> {
     assert_eq!(rt; searchers.len(), 60);
     for searcher in &mut searchers {
         assert_eq!(rt; searcher.answer(&query).err(), Some(AllocError));
-        assert_eq!(rt; searcher.names(&[]).err(), Some(NameError::Memory));
+        // It still knows of the history that it answered from.
+        assert!(rt; searcher.names(&[0, 1]).is_ok());
+        assert_eq!(rt; searcher.names(&[1, 2]).err(), Some(NameError::Number(1)));
     }
     Ok(())
 }

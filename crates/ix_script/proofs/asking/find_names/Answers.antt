@@ -1,8 +1,8 @@
-use Rattle.std.proofs.Common.{◌∙◌}
-use Rattle.ix_script.proofs.FoundNames.{found_between}
+use Rattle.ix_live.specs.Histories.{operations_in}
+use Rattle.ix_script.proofs.FoundNames.{found_is_document}
 use Rattle.ix_script.proofs.asking.find_names.Goals as goal
 
-pub returns-in-Ok-clause-found : goal.returns-in-Ok-clause-found
-returns-in-Ok-clause-found c =
-    found_between _ _ _ _ _ _ _ _ _ _ c.learn.ensures.told c.in_ok-numbers.ensures.before c.in-Ok.ensures.before c.if-is_within.ensures (c.in_ok-numbers.ensures.same.0 ∙ c.learn.ensures.same.0) c.deref.ensures.value
-    c.in_ok-numbers.ensures.scan c.in-Ok.ensures.names
+pub unreachable-requires : goal.unreachable-requires
+unreachable-requires c =
+    let refused = rw c.in-Err-Number.field-0-is at c.in-Err-Number.ensures.refused in
+    found_is_document c.args.news.now.stop (operations_in c.args.news.now.history) c.args.query.now c.in_ok-numbers.numbers.items c.deref.result.now c.in-Err-Number.field-0-0 c.deref.ensures.value c.in_ok-numbers.ensures refused

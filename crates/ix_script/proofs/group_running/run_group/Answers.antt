@@ -3,6 +3,7 @@ use Rattle.std.proofs.Common.{map}
 use Rattle.ix_script.specs.Jobs.{names_in}
 use Rattle.ix_script.specs.PrintedAnswers.{asked_in}
 use Rattle.ix_script.specs.Steps.{step_of}
+use Rattle.ix_script.specs.Stops.{progress_of}
 use Rattle.ix_script.proofs.RunLemmas.{as_many_answers, group_runs, ok_of_both}
 use Rattle.ix_script.proofs.group_running.run_group.Goals as goal
 
@@ -14,5 +15,5 @@ returns-clause-ran g c =
 
 pub returns-clause-count : goal.returns-clause-count
 returns-clause-count g c =
-    ok_of_both c.answer_and_change.result _ _ _ (λ r are same. as_many_answers c.args.indexer.now.stop c.args.indexer.now.published (asked_in (map step_of c.args.group.now)) (map names_in r.1.items) are)
+    ok_of_both c.answer_and_change.result _ _ _ (λ r are same. as_many_answers c.args.indexer.now.stop (progress_of c.args.indexer.now).published (asked_in (map step_of c.args.group.now)) (map names_in r.1.items) are)
     c.answer_and_change.ensures.answers c.answer_and_change.ensures.answers

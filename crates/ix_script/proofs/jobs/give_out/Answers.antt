@@ -1,22 +1,15 @@
-use Rattle.std.proofs.Common.{Some, All, refl, sym, subst, ◌∙◌, arith}
-use Rattle.std.proofs.lemmas.List.Elements.{All-pop, All-push}
+use Rattle.std.proofs.Common.{refl, ◌∙◌, arith}
 use Rattle.ix_script.specs.Jobs.{asked_by}
-use Rattle.ix_script.specs.Teams.{IsOfIndex}
-use Rattle.ix_script.specs.declared.jobs.Job.{Job}
 use Rattle.ix_script.proofs.Answering.{one_asked_more}
 use Rattle.ix_script.proofs.jobs.give_out.Goals as goal
 
 pub loop-query-preserved : goal.loop-query-preserved
 loop-query-preserved c =
     let inv = c.loop-query.invariant in
-    let Own = IsOfIndex c.args.stop.now.value c.args.news.now.book in
-    let popped = All-pop Own c.loop-query.searchers.items c.pop.new.self.items (Some c.in-Some.searcher) c.in-Some.ensures.items inv.own in
     let pushed = c.push_reserved.ensures in
     record {
       left = omega (arith, inv.left, c.in-Some.ensures.cases);
       kept = c.pop.ensures.capacity ∙ inv.kept;
-      own = popped.0;
-      each = subst (All (λ (job : Job). Own job.searcher)) (sym pushed.items) (All-push (λ (job : Job). Own job.searcher) c.loop-query.jobs.items _ inv.each popped.1);
       asked = one_asked_more asked_by (λ query. query.now) c.loop-query.jobs.items c.push_reserved.new.self.items _ c.args.queries.now c.loop-query.query-index c.query-item.result c.loop-query-test.true inv.asked pushed.items c.query-item.is refl;
       made = omega (arith, inv.made, pushed.len);
       room = omega (arith, inv.room, pushed.capacity);

@@ -4,7 +4,7 @@ use Rattle.ix_live.proofs.Appending.{appends_moves}
 use Rattle.ix_live.proofs.front.Front.append.Goals as goal
 
 pub compare_exchange-found-requires : goal.compare_exchange-found-requires
-compare_exchange-found-requires g c =
+compare_exchange-found-requires c =
     let h = c.requires.head ∙ ap (λ w. head_of w.book) (sym c.self.view_is) in
     let offer = c.plain-offer.ensures in
     let pen = c.no_pen-pen.ensures in (

@@ -6,17 +6,19 @@ use Rattle.std.specs.Prelude.{Option}
 use Rattle.ix_live.specs.declared.entry.Entry.{Entry}
 use Rattle.ix_live.specs.declared.entry.Entry.TheVariants.{Added}
 use Rattle.ix_live.specs.declared.segment.Segment.{Segment}
-use Rattle.ix_live.specs.Operations.{Add, Operation}
+use Rattle.ix_live.specs.Histories.{operations_of, waiting}
+use Rattle.ix_live.specs.Operations.{Add}
 use Rattle.ix_live.specs.Growing.{documents_under}
 use Rattle.ix_live.specs.Segments.{rows_in}
-use Rattle.ix_live.proofs.StoredLemmas.{addition_none, addition_some, documents_counted, refused_addition, room_left, stored_is, stored_more, too_many}
+use Rattle.ix_live.proofs.Pasts.{none_waiting, operations_waiting}
+use Rattle.ix_live.proofs.StoredLemmas.{addition_some, documents_counted, refused_addition, room_left, stored_is, stored_more, too_many}
 use Rattle.ix_live.proofs.version.Version.add.Goals as goal
 
 pub returns-then-count-eq0-clause-added : goal.returns-then-count-eq0-clause-added
 returns-then-count-eq0-clause-added g c =
     let stop = c.args.self.now.stop in
     let texts = c.args.documents.now in
-    addition_none c.args.self.now.history.operations (documents_under stop texts)
+    none_waiting c.args.self.now.past (documents_under stop texts)
     (omega (arith, c.if-count-eq0.true, documents_counted stop texts, ap length c.docs-count.ensures.documents, length-map c.docs-count.result.now named_text))
 
 pub returns-then-count-self-clause-error : goal.returns-then-count-self-clause-error
@@ -25,7 +27,7 @@ returns-then-count-self-clause-error g c =
     let stop = arc_value v.stop in
     let texts = c.args.documents.now in
     let size : length c.docs-count.result.now ≡ length (documents_under stop texts) = omega (arith, documents_counted stop texts, ap length c.docs-count.ensures.documents, length-map c.docs-count.result.now named_text) in
-    let many = too_many stop v.segments.items v.entries.items v.removed.items v.count v.tokens v.front.operations c.self.invariant (documents_under stop texts) (length c.docs-count.result.now) size (omega (arith, c.if-count-self.true, c.self.invariant.few)) in
+    let many = too_many stop v.segments.items v.entries.items v.removed.items v.count v.tokens (operations_of v.past) c.self.invariant (documents_under stop texts) (length c.docs-count.result.now) size (omega (arith, c.if-count-self.true, c.self.invariant.few)) in
     rw (← c.self.view_is) (inl many)
 
 pub returns-in-Err-clause-error : goal.returns-in-Err-clause-error
@@ -34,7 +36,7 @@ returns-in-Err-clause-error g c =
     let stop = arc_value v.stop in
     let refused = rw (c.deref.ensures, c.as_slice-table.ensures.value) at c.in-Err.ensures.refused in
     rw (← c.self.view_is)
-    (refused_addition stop v.segments.items v.entries.items v.removed.items v.count v.tokens v.front.operations c.self.invariant c.args.plan.now.workers (documents_under stop c.args.documents.now) c.in-Err.error refused)
+    (refused_addition stop v.segments.items v.entries.items v.removed.items v.count v.tokens (operations_of v.past) c.self.invariant c.args.plan.now.workers (documents_under stop c.args.documents.now) c.in-Err.error refused)
 
 pub push-requires : goal.push-requires
 push-requires g c =
@@ -57,10 +59,11 @@ invariant_of-self-2 g c =
     c.push.ensures.items ∙ ap (λ (l : List (Option Segment)). l ++ c.in-Ok.grown.place ∷ []) c.truncate.ensures.items in
     let kept : c.reserve.new.self.items ≡ v.entries.items = search rules in
     let entries : c.push_reserved.new.self.items ≡ v.entries.items ++ Added count ∷ [] = c.push_reserved.ensures.items ∙ ap (λ (l : List Entry). l ++ Added count ∷ []) kept in
-    let operations : c.append.new.self.operations ≡ v.front.operations ++ Add documents ∷ [] = rw (c.deref-2.ensures, c.again-front.ensures) at c.if-not-append.ensures.appended in
+    let past : c.with_addition.result ≡ waiting v.past (Add documents ∷ []) = rw c.deref-2.ensures at c.with_addition.ensures in
+    let operations : operations_of c.with_addition.result ≡ operations_of v.past ++ Add documents ∷ [] = ap operations_of past ∙ operations_waiting v.past (Add documents ∷ []) in
     stored_is stop (take c.in-Ok.grown.left v.segments.items ++ c.in-Ok.grown.place ∷ []) c.push.new.self.items (v.entries.items ++ Added count ∷ []) c.push_reserved.new.self.items v.removed.items (v.count + count)
-    (v.tokens + c.in-Ok.grown.tokens) (v.front.operations ++ Add documents ∷ []) c.append.new.self.operations segments entries operations
-    (stored_more stop v.segments.items v.entries.items v.removed.items v.count v.tokens v.front.operations c.self.invariant documents c.in-Ok.grown.left c.in-Ok.grown.tokens count c.in-Ok.grown.place grows size more
+    (v.tokens + c.in-Ok.grown.tokens) ((operations_of v.past) ++ Add documents ∷ []) (operations_of c.with_addition.result) segments entries operations
+    (stored_more stop v.segments.items v.entries.items v.removed.items v.count v.tokens (operations_of v.past) c.self.invariant documents c.in-Ok.grown.left c.in-Ok.grown.tokens count c.in-Ok.grown.place grows size more
     (omega (arith, c.if-count-self.false, c.self.invariant.few)) c.in-Ok.ensures.few)
 
 pub returns-clause-added : goal.returns-clause-added
@@ -71,5 +74,5 @@ returns-clause-added g c =
     let documents = documents_under stop texts in
     let some : 0 < length documents =
     omega (arith, c.if-count-eq0.false, documents_counted stop texts, ap length c.docs-count.ensures.documents, length-map c.docs-count.result.now named_text) in
-    let operations : c.append.new.self.operations ≡ v.front.operations ++ Add documents ∷ [] = rw (c.deref-2.ensures, c.again-front.ensures) at c.if-not-append.ensures.appended in
-    rw (← c.self.view_is) (operations ∙ ap (λ (l : List Operation). v.front.operations ++ l) (addition_some documents some))
+    let past : c.with_addition.result ≡ waiting v.past (Add documents ∷ []) = rw c.deref-2.ensures at c.with_addition.ensures in
+    rw (← c.self.view_is) (past ∙ ap (waiting v.past) (addition_some documents some))

@@ -3,14 +3,16 @@ use Rattle.std.specs.Arc.{arc_value}
 use Rattle.std.specs.Prelude.{◌↔◌, Contains}
 use Rattle.ix_live.specs.declared.entry.Entry.{Entry}
 use Rattle.ix_live.specs.declared.entry.Entry.TheVariants.{Removed}
+use Rattle.ix_live.specs.Histories.{operations_of}
 use Rattle.ix_live.specs.Operations.{Remove}
+use Rattle.ix_live.proofs.Pasts.{operations_waiting}
 use Rattle.ix_live.proofs.StoredLemmas.{count_stored, stored_is, stored_removed}
 use Rattle.ix_live.proofs.version.Version.remove.Goals as goal
 
 pub returns-then-number-self-clause-error : goal.returns-then-number-self-clause-error
 returns-then-number-self-clause-error c =
     let v = c.self.inside in
-    let count = count_stored (arc_value v.stop) v.segments.items v.entries.items v.removed.items v.count v.tokens v.front.operations c.self.invariant in
+    let count = count_stored (arc_value v.stop) v.segments.items v.entries.items v.removed.items v.count v.tokens (operations_of v.past) c.self.invariant in
     rw (← c.self.view_is) (refl, omega (arith, count, c.if-number-self.true))
 
 pub invariant_of-self-2 : goal.invariant_of-self-2
@@ -21,14 +23,14 @@ invariant_of-self-2 c =
     let kept : c.reserve.new.self.items ≡ v.entries.items = search rules in
     let gone : c.reserve-2.new.self.items ≡ v.removed.items = search rules in
     let entries : c.push_reserved.new.self.items ≡ v.entries.items ++ Removed number ∷ [] = c.push_reserved.ensures.items ∙ ap (λ (l : List Entry). l ++ Removed number ∷ []) kept in
-    let operations : c.append.new.self.operations ≡ v.front.operations ++ Remove number ∷ [] = rw c.again-front.ensures at c.if-not-append.ensures.appended in
+    let operations : operations_of c.with_removal.result ≡ operations_of v.past ++ Remove number ∷ [] = ap operations_of c.with_removal.ensures ∙ operations_waiting v.past (Remove number ∷ []) in
     let now = c.insert_number.new.numbers.items in
     let has = subst (λ (l : List ℕ). (m : ℕ) → Contains now m ↔ (Contains l m ⊎ (number ≡ m))) gone c.insert_number.ensures.has in
-    stored_is stop v.segments.items v.segments.items (v.entries.items ++ Removed number ∷ []) c.push_reserved.new.self.items now v.count v.tokens (v.front.operations ++ Remove number ∷ []) c.append.new.self.operations refl entries operations
-    (stored_removed stop v.segments.items v.entries.items v.removed.items v.count v.tokens v.front.operations c.self.invariant number now c.insert_number.ensures.ascending has)
+    stored_is stop v.segments.items v.segments.items (v.entries.items ++ Removed number ∷ []) c.push_reserved.new.self.items now v.count v.tokens ((operations_of v.past) ++ Remove number ∷ []) (operations_of c.with_removal.result) refl entries operations
+    (stored_removed stop v.segments.items v.entries.items v.removed.items v.count v.tokens (operations_of v.past) c.self.invariant number now c.insert_number.ensures.ascending has)
 
 pub returns-clause-there : goal.returns-clause-there
 returns-clause-there c =
     let v = c.self.inside in
-    let count = count_stored (arc_value v.stop) v.segments.items v.entries.items v.removed.items v.count v.tokens v.front.operations c.self.invariant in
+    let count = count_stored (arc_value v.stop) v.segments.items v.entries.items v.removed.items v.count v.tokens (operations_of v.past) c.self.invariant in
     rw (← c.self.view_is) (omega (arith, count, c.if-number-self.false))
