@@ -319,9 +319,10 @@ def apart():
         check(f"{words[2:]}: nothing is made", Path("out").read_bytes() == OLD)
         check(f"{words[2:]}: nothing is gone", os.path.exists(path) and Path(path).read_bytes() == kept, os.listdir("runs"))
         Path(path).unlink(missing_ok=True)
-    Path("runs/run-0000000005").write_bytes(OLD)
-    succeeds("no run of the plan", ["build", "--runs", "runs", "--block", "1", "a.txt", "runs/run-0000000005"])
-    os.remove("runs/run-0000000005")
+    for other in ("runs/run-5", "runs/run-00000000005", "runs/x"):
+        Path(other).write_bytes(OLD)
+        succeeds("no name of a run", ["build", "--runs", "runs", "--block", "1", "a.txt", other])
+        os.remove(other)
     text = Path("a.txt").read_bytes()
     os.symlink("a.txt", "to_a")
     os.link("a.txt", "also_a")
