@@ -24,7 +24,15 @@ fn main(rt: HostRuntime) -> ExitCode {
             let runs = SystemFiles { rt: &rt };
             let meter = Meter::new(&rt, rt.stderr().is_terminal());
             let mut files = ix_files::SystemFiles { rt: &rt };
-            match run(&rt, &mut files, &runs, &meter, args, &mut rt.stdout(), &mut rt.stderr()) {
+            match run(
+                &rt,
+                &mut files,
+                &runs,
+                &meter,
+                args,
+                &mut rt.stdout(),
+                &mut rt.stderr(),
+            ) {
                 Ok(status) => {
                     // The line of a refusal stands over that of the meter.
                     if status != REFUSED {
@@ -44,14 +52,7 @@ fn main(rt: HostRuntime) -> ExitCode {
 }
 
 /// Does what the words after the program's name ask for.
-fn run<
-    R: AllocGlobal + Threads + Wait + Sync,
-    F: Files,
-    S: RunFiles,
-    V: Watch,
-    W: Write,
-    E: Write,
->(
+fn run<R: AllocGlobal + Threads + Wait + Sync, F: Files, S: RunFiles, V: Watch, W: Write, E: Write>(
     rt: &R,
     files: &mut F,
     runs: &S,
@@ -68,14 +69,5 @@ fn run<
     for text in &texts {
         words.push(text.as_str())?;
     }
-    Ok(command_over(
-        rt,
-        rt.alloc(),
-        files,
-        runs,
-        watch,
-        &words,
-        out,
-        err,
-    ))
+    Ok(command_over(rt, rt.alloc(), files, runs, watch, &words, out, err))
 }

@@ -34,14 +34,15 @@ module _ (v0 v1 v2 : View) (path : List ℕ) (changes : ChangesDrafts (v0.place 
 
   pub saved_up : (sent : Holding) (text : List ℕ) → saved_in sent v1 v2 path text → saved_in sent v0 v2 path text
   saved_up sent text saved = λ honest. elim (saved honest) [
-      inl went ↦ inl went
-    | inr there ↦ inr (subst (λ (p : Place). v2.slots p ≡ at_rest (Kept text)) (same_place honest) there) ]
+    | inl went ↦ inl went
+    | inr there ↦ inr (subst (λ (p : Place). v2.slots p ≡ at_rest (Kept text)) (same_place honest) there)
+  ]
 
   pub others_up : v2.honest → LeavesOthers path v1 v2 → LeavesOthers path v0 v2
   others_up honest others = λ place apart free.
       let is = same_place honest in
       let later : (v2.slots place).now ≡ (v1.slots place).now = others place (λ same. apart (same ∙ is))
-          (λ draft. free (subst (λ (p : Place). IsDraftPlace p place) is draft)) in
+      (λ draft. free (subst (λ (p : Place). IsDraftPlace p place) is draft)) in
       later ∙ ap (λ (s : Slot). s.now) (changes.others (ended.honest honest) place free)
 
   pub target_up : v2.honest → LeavesTarget path v1 v2 → LeavesTarget path v0 v2
@@ -105,14 +106,18 @@ module _ (v0 v1 v2 : View) (path : List ℕ) (names : Option DraftNames) (change
       → Leaves ((Come → SavesIndex (now_in v0 v2) path collection) × SavesAlike (now_in v0 v2) path collection)
   both_left Come collection exact writes honest =
       let text = writes.written.text in
-      let is : after ≡ Some text = known text writes.written.written honest in
-      (text, is, λ there. (
-        (λ come.
-          let whole = exact come in
-          let also : after ≡ Some whole.text = known whole.text whole.written honest in
-          let same : text ≡ whole.text = cc in
-          record { text = whole.text; of_collection = whole.of_collection; saved = subst (λ (t : List ℕ). now_in v0 v2 path t) same there }),
-        record { whole = writes.whole; alike = writes.alike; saved = record { text = text; of_collection = writes.written.of_collection; saved = there } }))
+      let is : after ≡ Some text = known text writes.written.written honest in (
+        text,
+        is,
+        λ there. (
+          (λ come.
+              let whole = exact come in
+              let also : after ≡ Some whole.text = known whole.text whole.written honest in
+              let same : text ≡ whole.text = cc in
+              record { text = whole.text; of_collection = whole.of_collection; saved = subst (λ (t : List ℕ). now_in v0 v2 path t) same there }),
+          record { whole = writes.whole; alike = writes.alike; saved = record { text = text; of_collection = writes.written.of_collection; saved = there } },
+        ),
+      )
 
   stays : v2.honest → LeavesTarget path v1 v2 → LeavesTarget path v0 v2
   stays honest same = target_up v0 v1 v2 path changes began ended honest same
@@ -124,15 +129,18 @@ module _ (v0 v1 v2 : View) (path : List ℕ) (names : Option DraftNames) (change
   undone_through Saved (Err told) (Ok y) leaves undone = λ honest.
       let left = leaves honest in
       elim (undone honest (begun (ended.honest honest)) left.0 left.1) [
-          inl same ↦ inl (stays honest same)
-        | inr there ↦ inr (left.2 (now_up v0 v1 v2 path changes began ended honest left.0 there)) ]
+        | inl same ↦ inl (stays honest same)
+        | inr there ↦ inr (left.2 (now_up v0 v1 v2 path changes began ended honest left.0 there))
+      ]
   undone_through Saved (Err told) (Err why) leaves undone = λ honest.
       let is = begun (ended.honest honest) in
       elim (undone honest is [] tt) [
-          inl same ↦ inl (stays honest same)
+        | inl same ↦ inl (stays honest same)
         | inr none ↦ elim (undone honest is (0 ∷ []) tt) [
-              inl same ↦ inl (stays honest same)
-            | inr one ↦ absurd (subst IsNone (sym none ∙ one) tt) ] ]
+          | inl same ↦ inl (stays honest same)
+          | inr one ↦ absurd (subst IsNone (sym none ∙ one) tt)
+        ]
+      ]
     where
       IsNone : Entry → Type 0
       IsNone (Kept []) = ⊤

@@ -53,14 +53,7 @@ const ONE_FILE: usize = 1;
 /// `err`, and whether that line could be written is not answered. A refusal leaves `out` as it was,
 /// but where a write was refused: a beginning of the names, or of the help that was asked for, is
 /// out then.
-pub fn command_over<
-    R: Threads + Wait + Sync,
-    F: Files,
-    S: RunFiles,
-    V: Watch,
-    W: Write,
-    E: Write,
->(
+pub fn command_over<R: Threads + Wait + Sync, F: Files, S: RunFiles, V: Watch, W: Write, E: Write>(
     rt: &R,
     alloc: Global,
     files: &mut F,
@@ -73,11 +66,13 @@ pub fn command_over<
     ensures status { result ≤ 2 }
     ensures found { result ≡ 0 →
         IsHelped (spelled words.now) (W.contents out.old) (W.contents out.new)
-        ⊎ FindsSome (held_in (F.view files.old)) (saved_in (F.sent files.new) (F.view files.old) (F.view files.new))
+        ⊎ FindsSome (held_in (F.view files.old))
+        (saved_in (F.sent files.new) (F.view files.old) (F.view files.new))
         (keeping_of S.Reader.remaining (S.back runs.now)) (spelled words.now)
         (W.contents out.old) (W.contents out.new) }
     ensures nothing { result ≡ 1 →
-        FindsNone (held_in (F.view files.old)) (saved_in (F.sent files.new) (F.view files.old) (F.view files.new))
+        FindsNone (held_in (F.view files.old))
+        (saved_in (F.sent files.new) (F.view files.old) (F.view files.new))
         (keeping_of S.Reader.remaining (S.back runs.now)) (spelled words.now)
         (W.contents out.old) (W.contents out.new) }
     ensures quiet { result ≢ 2 → Keeps (E.contents err.old) (E.contents err.new) }
@@ -115,14 +110,17 @@ fn run<'a, R: Threads + Wait + Sync, F: Files, S: RunFiles, V: Watch, W: Write>(
     ensures status { IfOk result (λ status. status ≤ 1) }
     ensures found { IfOk result (λ status. status ≡ 0 →
         IsHelped (texts_of words.entry.now) (W.contents out.old) (W.contents out.new)
-        ⊎ FindsSome (held_in (F.view files.old)) (saved_in (F.sent files.new) (F.view files.old) (F.view files.new))
+        ⊎ FindsSome (held_in (F.view files.old))
+        (saved_in (F.sent files.new) (F.view files.old) (F.view files.new))
         (keeping_of S.Reader.remaining (S.back runs.now)) (texts_of words.entry.now)
         (W.contents out.old) (W.contents out.new)) }
     ensures nothing { IfOk result (λ status. status ≡ 1 →
-        FindsNone (held_in (F.view files.old)) (saved_in (F.sent files.new) (F.view files.old) (F.view files.new))
+        FindsNone (held_in (F.view files.old))
+        (saved_in (F.sent files.new) (F.view files.old) (F.view files.new))
         (keeping_of S.Reader.remaining (S.back runs.now)) (texts_of words.entry.now)
         (W.contents out.old) (W.contents out.new)) }
-    ensures refused { IfErr result (IsRefusedFor (held_in (F.view files.old)) (texts_of words.entry.now)
+    ensures refused { IfErr result (IsRefusedFor (held_in (F.view files.old))
+        (texts_of words.entry.now)
         (W.contents out.old) (W.contents out.new)) }
     ensures files { (F.view files.new).honest
         → LeavesFilesOf (texts_of words.entry.now) (F.view files.old) (F.view files.new) }
@@ -146,14 +144,7 @@ fn run<'a, R: Threads + Wait + Sync, F: Files, S: RunFiles, V: Watch, W: Write>(
 }
 
 /// Does a line that was read, and answers how much was found.
-fn do_line<
-    'a,
-    R: Threads + Wait + Sync,
-    F: Files,
-    S: RunFiles,
-    V: Watch,
-    W: Write,
->(
+fn do_line<'a, R: Threads + Wait + Sync, F: Files, S: RunFiles, V: Watch, W: Write>(
     rt: &R,
     alloc: Global,
     files: &mut F,
@@ -162,7 +153,8 @@ fn do_line<
     line: Line<'a>,
     out: &mut W,
 ) -> Result<usize, Refusal<'a>>
-    ensures done { IfOk result (IsDone (held_in (F.view files.old)) (saved_in (F.sent files.new) (F.view files.old) (F.view files.new))
+    ensures done { IfOk result (IsDone (held_in (F.view files.old))
+        (saved_in (F.sent files.new) (F.view files.old) (F.view files.new))
         (keeping_of S.Reader.remaining (S.back runs.now)) line.entry
         (W.contents out.old) (W.contents out.new)) }
     ensures refused { IfErr result (IsLineRefused (held_in (F.view files.old)) line.entry

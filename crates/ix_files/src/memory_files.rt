@@ -155,7 +155,11 @@ impl MemoryFiles {
         ensures cause { IfErr result (IsReadError (Unit {0})) }
     {
         if self.is_failing() {
-            return Err(if self.starved { FileError::Memory } else { FileError::Failed });
+            return Err(if self.starved {
+                FileError::Memory
+            } else {
+                FileError::Failed
+            });
         }
         Ok(found_at(&self.changes, "", path))
     }

@@ -67,7 +67,8 @@ fn answer_and_change<'t, R: Threads + Wait + Sync, F: CollectionFiles>(
     ensures team { IfOk result (λ r. r.0 ≡ team) }
     ensures changed { IfOk result (λ r. Changes (F.holds files.now) indexer.old.stop
         (map step_of group.now) (progress_of indexer.old) (progress_of indexer.new)) }
-    ensures answers { IfOk result (λ r. AreAnswers indexer.old.stop (progress_of indexer.old).published
+    ensures answers { IfOk result (λ r. AreAnswers indexer.old.stop
+        (progress_of indexer.old).published
         (asked_in (map step_of group.now)) (map names_in r.1.items)) }
     ensures refused { IfErr result (RefusesGroup (F.holds files.now) plan.now.workers
         indexer.old.stop (map step_of group.now) (progress_of indexer.old)) }

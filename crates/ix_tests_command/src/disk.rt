@@ -26,7 +26,12 @@ impl Disk {
     /// Does what a command says of a path, or of a number, and what stands behind it: `put` gives the file spelled bytes, `cmp`
     /// tells whether it differs from another one, and `size` how many bytes it has; `fail` lets the call of files of this
     /// number, from 1 and from now on, fail, for want of memory if `Memory` stands behind it, and `room` lets a writer take so many bytes.
-    pub(super) fn tell(&mut self, command: &str, rest: &str, told: &mut String) -> Result<(), Fail> {
+    pub(super) fn tell(
+        &mut self,
+        command: &str,
+        rest: &str,
+        told: &mut String,
+    ) -> Result<(), Fail> {
         let (first, more) = rest.split_once(' ').unwrap_or((rest, ""));
         match command {
             "put" => Ok(self.files.put(first, &bytes_of(self.alloc, more)?)?),
@@ -43,7 +48,13 @@ impl Disk {
     }
 
     /// Tells how many bytes a file has, or whether it differs from another one.
-    fn tell_file(&self, command: &str, path: &str, other: &str, told: &mut String) -> Result<(), Fail> {
+    fn tell_file(
+        &self,
+        command: &str,
+        path: &str,
+        other: &str,
+        told: &mut String,
+    ) -> Result<(), Fail> {
         let Some(bytes) = self.files.bytes(path) else {
             told.push_str("no such file\n")?;
             return Ok(());

@@ -71,7 +71,13 @@ fn a_folder_of_runs_changes_no_byte(rt: HostRuntime) -> Result<(), Fail> {
     let session = PLANS.replace(rt.alloc(), '@', folder.as_str())?;
     fs::create_dir(&rt, folder.as_str())?;
     play(&rt, &mut disk, &SystemFiles { rt: &rt }, "", FILES)?;
-    play(&rt, &mut disk, &SystemFiles { rt: &rt }, "", session.as_str())?;
+    play(
+        &rt,
+        &mut disk,
+        &SystemFiles { rt: &rt },
+        "",
+        session.as_str(),
+    )?;
     // Only an empty folder is removed.
     fs::remove_dir(&rt, folder.as_str())?;
     Ok(())

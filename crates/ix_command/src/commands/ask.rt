@@ -38,7 +38,8 @@ pub fn run<'a, R: Threads + Wait + Sync, F: Files, W: Write>(
     ensures answered { IfOk result
         (IsAnsweredFromFiles (held_in (F.view files.now)) stop.entry collection.entry.now
         query.now (W.contents out.old) (W.contents out.new)) }
-    ensures refused { IfErr result (IsAskRefused (held_in (F.view files.now)) stop.entry plan.now.workers
+    ensures refused { IfErr result (IsAskRefused (held_in (F.view files.now))
+        stop.entry plan.now.workers
         collection.entry.now query.now (W.contents out.old) (W.contents out.new)) }
 {
     let stop = read_stop_list(alloc, files, stop)?;

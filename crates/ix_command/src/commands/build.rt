@@ -65,7 +65,9 @@ pub fn run<'a, R: Threads + Wait + Sync, F: Files, S: RunFiles, V: Watch>(
     keep_from_runs(alloc, files, plan, collection)?;
     keep_from_runs(alloc, files, plan, output)?;
     check_output(files, output)?;
-    build_text(rt, alloc, files, runs, watch, text, &stop_list, plan, output)
+    build_text(
+        rt, alloc, files, runs, watch, text, &stop_list, plan, output,
+    )
 }
 
 /// Builds an index file of the collection of a text, by runs in a folder if the plan says so.

@@ -46,7 +46,8 @@ pub fn run<'a, R: Threads + Wait + Sync, F: Files, W: Write>(
 ) -> Result<usize, Refusal<'a>>
     ensures lived { IfOk result (IsLived (held_in (F.view files.now)) stop.entry script.entry.now
         (W.contents out.old) (W.contents out.new)) }
-    ensures refused { IfErr result (IsLiveRefused (held_in (F.view files.now)) stop.entry plan.now.workers
+    ensures refused { IfErr result (IsLiveRefused (held_in (F.view files.now))
+        stop.entry plan.now.workers
         script.entry.now (W.contents out.old) (W.contents out.new)) }
 {
     let stop = read_stop_list(alloc, files, stop)?;

@@ -22,9 +22,11 @@ pub fn run<'a, R: Threads + Sync, F: Files, W: Write>(
     query: &str,
     out: &mut W,
 ) -> Result<usize, Refusal<'a>>
-    ensures answered { IfOk result (IsSearchedFromFile (held_in (F.view files.now)) index.entry.now query.now
+    ensures answered { IfOk result (IsSearchedFromFile (held_in (F.view files.now))
+        index.entry.now query.now
         (W.contents out.old) (W.contents out.new)) }
-    ensures refused { IfErr result (IsSearchRefused (held_in (F.view files.now)) index.entry.now query.now
+    ensures refused { IfErr result (IsSearchRefused (held_in (F.view files.now))
+        index.entry.now query.now
         (W.contents out.old) (W.contents out.new)) }
 {
     let volume = open_index(rt, alloc, files, index)?;

@@ -13,10 +13,22 @@ pub fn reads_input_twice(line: &Line<'_>) -> bool
     ensures { IsTrue result ↔ ReadsInputTwice line.now }
 {
     match line {
-        Line::Ask { stop, collection, .. } => are_both_input(*stop, collection),
-        Line::Build { stop, collection, .. } => are_both_input(*stop, collection),
+        Line::Ask {
+            stop,
+            collection,
+            ..
+        } => are_both_input(*stop, collection),
+        Line::Build {
+            stop,
+            collection,
+            ..
+        } => are_both_input(*stop, collection),
         Line::Live { stop, script, .. } => are_both_input(*stop, script),
-        Line::Run { stop, collection, .. } => are_both_input(*stop, collection),
+        Line::Run {
+            stop,
+            collection,
+            ..
+        } => are_both_input(*stop, collection),
         Line::Merge { inputs, .. } => are_some_input(inputs),
         Line::Search { .. } | Line::Terms { .. } | Line::Upgrade { .. } => false,
     }

@@ -148,9 +148,11 @@ pub fn open_all<'a, R: Threads + Sync, F: Files>(
     files: &F,
     paths: &[&'a str],
 ) -> Result<Inputs<F::Reader>, Refusal<'a>>
-    ensures opened { IfOk result (λ inputs. AreOpened (held_in (F.view files.now)) F.Reader.remaining
+    ensures opened { IfOk result (λ inputs. AreOpened (held_in (F.view files.now))
+        F.Reader.remaining
         (texts_of paths.now) inputs (length paths.now)) }
-    ensures refused { IfErr result (RefusesInputs (held_in (F.view files.now)) (texts_of paths.now)) }
+    ensures refused { IfErr result (RefusesInputs (held_in (F.view files.now))
+        (texts_of paths.now)) }
 {
     let mut inputs = Inputs {
         parts: Vec::new(alloc),
@@ -175,7 +177,8 @@ fn open<'a, R: Threads + Sync, F: Files>(
 ) -> Result<Input<F::Reader>, Refusal<'a>>
     ensures opened { IfOk result
         (IsInput (held_in (F.view files.now)) F.Reader.remaining path.entry.now) }
-    ensures refused { IfErr result (RefusesInput (held_in (F.view files.now)) path.entry.now place) }
+    ensures refused { IfErr result (RefusesInput (held_in (F.view files.now))
+        path.entry.now place) }
 {
     let reader = match files.open(path) {
         Ok(reader) => reader,
@@ -200,7 +203,8 @@ fn open_volume<'a, R: Threads + Sync, F: Files>(
     requires { RefusesHead (held_in (F.view files.now) path.now) Magic }
     ensures opened { IfOk result
         (IsInput (held_in (F.view files.now)) F.Reader.remaining path.entry.now) }
-    ensures refused { IfErr result (RefusesInput (held_in (F.view files.now)) path.entry.now place) }
+    ensures refused { IfErr result (RefusesInput (held_in (F.view files.now))
+        path.entry.now place) }
 {
     match open_index(rt, alloc, files, path) {
         Ok(volume) => Ok(Input::Index(volume)),
@@ -218,6 +222,7 @@ fn open_volume<'a, R: Threads + Sync, F: Files>(
 fn is_no_index(refusal: &Refusal<'_>) -> bool {
     matches!(
         refusal,
-        Refusal::Read(_) | Refusal::Engine(EngineRefusal::Index(OpenError::Short | OpenError::Magic))
+        Refusal::Read(_)
+            | Refusal::Engine(EngineRefusal::Index(OpenError::Short | OpenError::Magic))
     )
 }

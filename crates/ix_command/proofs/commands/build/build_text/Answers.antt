@@ -20,8 +20,9 @@ returns-then-is_some g c =
       refused = text_unbuilt c.args.plan.now _ c.args.output.now c.in_ok-documents.documents c.save.result read c.save.ensures.refused;
       others = c.save.ensures.others;
       undone = on_err_weaker c.save.result (λ undone honest. elim (undone honest) [
-          inl same ↦ inl same
-        | inr (saved, alike) ↦ inr (record { documents = c.in_ok-documents.documents; read = read; saved = saved; alike = alike }) ]) c.save.ensures.undone;
+        | inl same ↦ inl same
+        | inr (saved, alike) ↦ inr (record { documents = c.in_ok-documents.documents; read = read; saved = saved; alike = alike })
+      ]) c.save.ensures.undone;
     }
 
 pub returns-in_err-blocks-clause-refused : goal.returns-in_err-blocks-clause-refused
@@ -38,7 +39,8 @@ returns g c =
       refused = text_unbuilt c.args.plan.now _ c.args.output.now c.in_ok-documents.documents c.save_merged.result read (c.save_merged.ensures.refused c.args.plan.now c.in_ok-documents.documents);
       others = c.save_merged.ensures.others;
       undone = on_err_weaker c.save_merged.result (λ undone honest. elim (undone honest) [
-          inl same ↦ inl same
-        | inr saved ↦ inr (record { documents = c.in_ok-documents.documents; read = read; saved = λ _. saved; alike = saved_alike _ _ _ saved }) ])
-        (c.save_merged.ensures.undone c.args.stop.now c.in_ok-documents.documents c.in_ok-blocks.ensures.inverted);
+        | inl same ↦ inl same
+        | inr saved ↦ inr (record { documents = c.in_ok-documents.documents; read = read; saved = λ _. saved; alike = saved_alike _ _ _ saved })
+      ])
+          (c.save_merged.ensures.undone c.args.stop.now c.in_ok-documents.documents c.in_ok-blocks.ensures.inverted);
     }

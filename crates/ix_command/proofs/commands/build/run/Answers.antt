@@ -24,8 +24,9 @@ returns-clause-refused g c =
 pub returns-clause-undone : goal.returns-clause-undone
 returns-clause-undone g c =
     on_err_weaker c.build_text.result (λ undone honest. elim (undone honest) [
-        inl same ↦ inl same
-      | inr builds ↦ inr (built_of_files _ _ _ _ _ _ _ _ _ c.in_ok-text.ensures.front c.in_ok-stop_list.ensures.held builds) ]) c.build_text.ensures.undone
+      | inl same ↦ inl same
+      | inr builds ↦ inr (built_of_files _ _ _ _ _ _ _ _ _ c.in_ok-text.ensures.front c.in_ok-stop_list.ensures.held builds)
+    ]) c.build_text.ensures.undone
 
 pub returns-in_err-keep_apart-clause-refused : goal.returns-in_err-keep_apart-clause-refused
 returns-in_err-keep_apart-clause-refused g c = handed_up _ c.from_residual-in_err-keep_apart.result c.in_err-keep_apart.field-0.0 c.from_residual-in_err-keep_apart.ensures.1 (no_output c.in_err-keep_apart.ensures.refused)

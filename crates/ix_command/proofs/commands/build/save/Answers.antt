@@ -22,14 +22,14 @@ returns-in_err-output-clause-undone g c = on_err c.from_residual-in_err-output.r
 pub returns-clause-saved : goal.returns-clause-saved
 returns-clause-saved g c =
     let exact : OnOk c.match-build_with_files.written ((ComeBack (keeping_of g.S.Reader.Read.remaining (g.S.RunFiles.back c.args.runs.now)) c.args.plan.now c.args.stop.now c.args.documents.now) → WritesIndexText (g.F.Writer.Write.contents c.in_ok-output.output.writer) (g.F.Writer.Write.contents c.build_with_files.new.out) (collection_of c.args.stop.now c.args.documents.now)) =
-        elim c.match-build_with_files.branch [ in-Ok w ↦ on_written c.match-build_with_files.written (λ come. come_back _ _ _ _ _ w.in-Ok.ensures.written w.in-Ok.ensures.exact come) | in-Err w ↦ on_unwritten _ c.match-build_with_files.written _ w.written-is ] in
+    elim c.match-build_with_files.branch [ in-Ok w ↦ on_written c.match-build_with_files.written (λ come. come_back _ _ _ _ _ w.in-Ok.ensures.written w.in-Ok.ensures.exact come) | in-Err w ↦ on_unwritten _ c.match-build_with_files.written _ w.written-is ] in
     saved_by _ _ _ c.end-ended.result c.match-build_with_files.written c.end-ended.ensures.written exact c.end-ended.ensures.saved
     (λ writes saved come. index_saved _ _ _ _ _ c.begin.ensures.changes c.begin.ensures.goes_on c.in_ok-output.ensures.begun c.end-ended.ensures.goes_on _ _ c.in_ok-output.ensures.empty _ _ (writes come) saved)
 
 pub returns-clause-alike : goal.returns-clause-alike
 returns-clause-alike g c =
     let alike : OnOk c.match-build_with_files.written (WritesAlike (collection_of c.args.stop.now c.args.documents.now) (g.F.Writer.Write.contents c.in_ok-output.output.writer) (g.F.Writer.Write.contents c.build_with_files.new.out)) =
-        elim c.match-build_with_files.branch [ in-Ok w ↦ on_written c.match-build_with_files.written (w.in-Ok.ensures.alike) | in-Err w ↦ on_unwritten _ c.match-build_with_files.written _ w.written-is ] in
+    elim c.match-build_with_files.branch [ in-Ok w ↦ on_written c.match-build_with_files.written (w.in-Ok.ensures.alike) | in-Err w ↦ on_unwritten _ c.match-build_with_files.written _ w.written-is ] in
     saved_by _ _ _ c.end-ended.result c.match-build_with_files.written c.end-ended.ensures.written alike c.end-ended.ensures.saved
     (λ writes saved. alike_saved _ _ _ _ _ c.begin.ensures.changes c.begin.ensures.goes_on c.in_ok-output.ensures.begun c.end-ended.ensures.goes_on _ _ c.in_ok-output.ensures.empty _ _ writes saved)
 
@@ -41,6 +41,6 @@ returns-clause-refused g c =
 pub returns-clause-undone : goal.returns-clause-undone
 returns-clause-undone g c =
     let both : OnOk c.match-build_with_files.written (((ComeBack (keeping_of g.S.Reader.Read.remaining (g.S.RunFiles.back c.args.runs.now)) c.args.plan.now c.args.stop.now c.args.documents.now) → WritesIndexText (g.F.Writer.Write.contents c.in_ok-output.output.writer) (g.F.Writer.Write.contents c.build_with_files.new.out) (collection_of c.args.stop.now c.args.documents.now)) × WritesAlike (collection_of c.args.stop.now c.args.documents.now) (g.F.Writer.Write.contents c.in_ok-output.output.writer) (g.F.Writer.Write.contents c.build_with_files.new.out)) =
-        elim c.match-build_with_files.branch [ in-Ok w ↦ on_written c.match-build_with_files.written ((λ come. come_back _ _ _ _ _ w.in-Ok.ensures.written w.in-Ok.ensures.exact come), w.in-Ok.ensures.alike) | in-Err w ↦ on_unwritten _ c.match-build_with_files.written _ w.written-is ] in
+    elim c.match-build_with_files.branch [ in-Ok w ↦ on_written c.match-build_with_files.written ((λ come. come_back _ _ _ _ _ w.in-Ok.ensures.written w.in-Ok.ensures.exact come), w.in-Ok.ensures.alike) | in-Err w ↦ on_unwritten _ c.match-build_with_files.written _ w.written-is ] in
     undone_through _ _ _ _ _ c.begin.ensures.changes c.begin.ensures.goes_on c.in_ok-output.ensures.begun c.end-ended.ensures.goes_on _ _ c.in_ok-output.ensures.empty _ c.end-ended.result c.match-build_with_files.written
     (on_ok_weaker c.match-build_with_files.written (λ writes honest. both_left _ _ _ _ _ c.begin.ensures.changes c.begin.ensures.goes_on c.in_ok-output.ensures.begun c.end-ended.ensures.goes_on _ _ c.in_ok-output.ensures.empty _ _ writes.0 writes.1 honest) both) c.end-ended.ensures.undone

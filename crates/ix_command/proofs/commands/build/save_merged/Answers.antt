@@ -22,15 +22,17 @@ returns-in_err-output-clause-undone g c = λ stop documents are. on_err c.from_r
 pub returns-clause-saved : goal.returns-clause-saved
 returns-clause-saved g c = λ stop documents are.
     let wrote : OnOk c.match-merge_into.written (WritesIndexText (g.F.Writer.Write.contents c.in_ok-output.output.writer) (g.F.Writer.Write.contents c.merge_into.new.out) (collection_of stop documents)) =
-        elim c.match-merge_into.branch [ in-Ok w ↦ on_written c.match-merge_into.written (w.in-Ok.ensures.written stop documents are) | in-Err w ↦ on_unwritten _ c.match-merge_into.written _ w.written-is ] in
+    elim c.match-merge_into.branch [ in-Ok w ↦ on_written c.match-merge_into.written (w.in-Ok.ensures.written stop documents are) | in-Err w ↦ on_unwritten _ c.match-merge_into.written _ w.written-is ] in
     saved_by _ _ _ c.end.result c.match-merge_into.written c.end.ensures.written wrote c.end.ensures.saved
     (λ writes saved. index_saved _ _ _ _ _ c.begin.ensures.changes c.begin.ensures.goes_on c.in_ok-output.ensures.begun c.end.ensures.goes_on _ _ c.in_ok-output.ensures.empty _ _ writes saved)
 
 pub returns-clause-refused : goal.returns-clause-refused
 returns-clause-refused g c = λ plan documents.
     refused_by _ c.args.path.now c.end.result c.match-merge_into.written c.end.ensures.refused (unbuilt_unsaved plan documents _)
-    (elim c.match-merge_into.branch [ in-Ok w ↦ if_written _ c.match-merge_into.written _ w.written-is
-    | in-Err w ↦ if_unwritten _ c.match-merge_into.written _ w.written-is (merging_refused plan documents w.in-Err.error w.in-Err.ensures.refused) ])
+    (elim c.match-merge_into.branch [
+      | in-Ok w ↦ if_written _ c.match-merge_into.written _ w.written-is
+      | in-Err w ↦ if_unwritten _ c.match-merge_into.written _ w.written-is (merging_refused plan documents w.in-Err.error w.in-Err.ensures.refused)
+    ])
 
 pub returns-clause-others : goal.returns-clause-others
 returns-clause-others g c = others_through _ _ _ _ _ c.begin.ensures.changes c.begin.ensures.goes_on c.in_ok-output.ensures.begun c.end.ensures.goes_on c.end.ensures.others
@@ -38,6 +40,6 @@ returns-clause-others g c = others_through _ _ _ _ _ c.begin.ensures.changes c.b
 pub returns-clause-undone : goal.returns-clause-undone
 returns-clause-undone g c = λ stop documents are.
     let wrote : OnOk c.match-merge_into.written (WritesIndexText (g.F.Writer.Write.contents c.in_ok-output.output.writer) (g.F.Writer.Write.contents c.merge_into.new.out) (collection_of stop documents)) =
-        elim c.match-merge_into.branch [ in-Ok w ↦ on_written c.match-merge_into.written (w.in-Ok.ensures.written stop documents are) | in-Err w ↦ on_unwritten _ c.match-merge_into.written _ w.written-is ] in
+    elim c.match-merge_into.branch [ in-Ok w ↦ on_written c.match-merge_into.written (w.in-Ok.ensures.written stop documents are) | in-Err w ↦ on_unwritten _ c.match-merge_into.written _ w.written-is ] in
     undone_through _ _ _ _ _ c.begin.ensures.changes c.begin.ensures.goes_on c.in_ok-output.ensures.begun c.end.ensures.goes_on _ _ c.in_ok-output.ensures.empty _ c.end.result c.match-merge_into.written
     (on_ok_weaker c.match-merge_into.written (λ writes honest. index_left _ _ _ _ _ c.begin.ensures.changes c.begin.ensures.goes_on c.in_ok-output.ensures.begun c.end.ensures.goes_on _ _ c.in_ok-output.ensures.empty _ writes honest) wrote) c.end.ensures.undone

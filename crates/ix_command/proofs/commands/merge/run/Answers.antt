@@ -51,7 +51,8 @@ returns-clause-undone g c =
     let are : c.deref-2.result.now ≡ c.in_ok-opened.opened.volumes.items = c.deref-2.ensures.value ∙ c.in-Ok.ensures ∙ c.deref.ensures.value in
     let made = subst (λ (volumes : List Opened). AreSourcesOf volumes c.in_ok-opened.opened.parts.items c.in-Ok-sources_of.sources.items) are c.in-Ok-sources_of.ensures in
     on_err_weaker c.save.result (λ undone honest. elim (undone honest) [
-        inl same ↦ inl same
+      | inl same ↦ inl same
       | inr saved ↦ inr (merged _ _ _ c.in_ok-opened.opened (all_opened _ _ c.args.inputs.now c.in_ok-opened.opened c.in_ok-opened.ensures.opened) c.in-Ok-sources_of.sources.items made
-          (now_in (g.F.Files.view c.args.files.now) (g.F.Files.view c.save.new.files)) c.args.index.now saved) ])
+          (now_in (g.F.Files.view c.args.files.now) (g.F.Files.view c.save.new.files)) c.args.index.now saved)
+    ])
     c.save.ensures.undone

@@ -21,7 +21,7 @@ returns-in_err-output-clause-undone g c = on_err c.from_residual.result (λ hone
 pub returns-clause-saved : goal.returns-clause-saved
 returns-clause-saved g c =
     let wrote : OnOk c.match-merge.written (WritesConcatenation (SourceMayYield g.R.Read.remaining) heading_of_source c.args.sources.items (g.F.Writer.Write.contents c.in_ok-output.output.writer) (g.F.Writer.Write.contents c.merge.new.out)) =
-        elim c.match-merge.branch [ in-Ok w ↦ on_written c.match-merge.written w.in-Ok.ensures.written | in-Err w ↦ on_unwritten _ c.match-merge.written _ w.written-is ] in
+    elim c.match-merge.branch [ in-Ok w ↦ on_written c.match-merge.written w.in-Ok.ensures.written | in-Err w ↦ on_unwritten _ c.match-merge.written _ w.written-is ] in
     saved_by _ _ _ c.end.result c.match-merge.written c.end.ensures.written wrote c.end.ensures.saved (λ writes saved. record {
       pieces = writes.pieces;
       yielded = writes.yielded;
@@ -41,9 +41,9 @@ returns-clause-others g c = others_through _ _ _ _ _ c.begin.ensures.changes c.b
 pub returns-clause-undone : goal.returns-clause-undone
 returns-clause-undone g c =
     let wrote : OnOk c.match-merge.written (WritesConcatenation (SourceMayYield g.R.Read.remaining) heading_of_source c.args.sources.items (g.F.Writer.Write.contents c.in_ok-output.output.writer) (g.F.Writer.Write.contents c.merge.new.out)) =
-        elim c.match-merge.branch [ in-Ok w ↦ on_written c.match-merge.written w.in-Ok.ensures.written | in-Err w ↦ on_unwritten _ c.match-merge.written _ w.written-is ] in
+    elim c.match-merge.branch [ in-Ok w ↦ on_written c.match-merge.written w.in-Ok.ensures.written | in-Err w ↦ on_unwritten _ c.match-merge.written _ w.written-is ] in
     undone_through _ _ _ _ _ c.begin.ensures.changes c.begin.ensures.goes_on c.in_ok-output.ensures.begun c.end.ensures.goes_on _ _ c.in_ok-output.ensures.empty _ c.end.result c.match-merge.written
     (on_ok_weaker c.match-merge.written (λ writes honest.
-      let left = index_left _ _ _ _ _ c.begin.ensures.changes c.begin.ensures.goes_on c.in_ok-output.ensures.begun c.end.ensures.goes_on _ _ c.in_ok-output.ensures.empty writes.whole writes.written honest in
-      (left.0, left.1, λ there. record { pieces = writes.pieces; yielded = writes.yielded; whole = writes.whole; concatenation = writes.concatenation; saved = left.2 there })) wrote)
+    let left = index_left _ _ _ _ _ c.begin.ensures.changes c.begin.ensures.goes_on c.in_ok-output.ensures.begun c.end.ensures.goes_on _ _ c.in_ok-output.ensures.empty writes.whole writes.written honest in
+    (left.0, left.1, λ there. record { pieces = writes.pieces; yielded = writes.yielded; whole = writes.whole; concatenation = writes.concatenation; saved = left.2 there })) wrote)
     c.end.ensures.undone

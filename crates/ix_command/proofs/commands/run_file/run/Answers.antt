@@ -43,12 +43,13 @@ returns-clause-undone g c =
     let front = c.in_ok-text.ensures.front in
     let has = rw c.deref.ensures.value at c.in_ok-run.ensures.run in
     on_err_weaker c.save.result (λ undone honest. elim (undone honest) [
-        inl same ↦ inl same
+      | inl same ↦ inl same
       | inr saved ↦ inr (record {
-          run = run_bytes c.in_ok-run.run';
-          of_files = run_of_files _ _ _ _ _ _ _ front c.in_ok-stop_list.ensures.held has;
-          saved = saved;
-        }) ]) c.save.ensures.undone
+        run = run_bytes c.in_ok-run.run';
+        of_files = run_of_files _ _ _ _ _ _ _ front c.in_ok-stop_list.ensures.held has;
+        saved = saved;
+      })
+    ]) c.save.ensures.undone
 
 pub returns-in_err-keep_apart-clause-refused : goal.returns-in_err-keep_apart-clause-refused
 returns-in_err-keep_apart-clause-refused g c = handed_up _ c.from_residual-in_err-keep_apart.result c.in_err-keep_apart.field-0.0 c.from_residual-in_err-keep_apart.ensures.1 (no_output c.in_err-keep_apart.ensures.refused)

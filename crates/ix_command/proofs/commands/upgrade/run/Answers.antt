@@ -24,6 +24,7 @@ pub returns-clause-undone : goal.returns-clause-undone
 returns-clause-undone g c =
     let opened = c.in_ok-volume.ensures.opened in
     on_err_weaker c.save.result (λ undone honest. elim (undone honest) [
-        inl same ↦ inl same
-      | inr saved ↦ inr (record { version = opened.version; collection = opened.collection; held = opened.held; saved = saved }) ])
+      | inl same ↦ inl same
+      | inr saved ↦ inr (record { version = opened.version; collection = opened.collection; held = opened.held; saved = saved })
+    ])
     (c.save.ensures.undone opened.version opened.collection opened.index)

@@ -16,7 +16,7 @@ returns-in_err-output-clause-undone g c = λ version collection is. on_err c.fro
 pub returns-clause-saved : goal.returns-clause-saved
 returns-clause-saved g c = λ version collection is.
     let wrote : OnOk c.match-put_index.written (WritesIndexText (g.F.Writer.Write.contents c.in_ok-output.output.writer) (g.F.Writer.Write.contents c.put_index.new.out) collection) =
-        elim c.match-put_index.branch [ in-Ok w ↦ on_written c.match-put_index.written (w.in-Ok.ensures version collection (rw c.index-index.ensures is)) | in-Err w ↦ on_unwritten _ c.match-put_index.written _ w.written-is ] in
+    elim c.match-put_index.branch [ in-Ok w ↦ on_written c.match-put_index.written (w.in-Ok.ensures version collection (rw c.index-index.ensures is)) | in-Err w ↦ on_unwritten _ c.match-put_index.written _ w.written-is ] in
     saved_by _ _ _ c.end.result c.match-put_index.written c.end.ensures.written wrote c.end.ensures.saved
     (λ writes saved. index_saved _ _ _ _ _ c.begin.ensures.changes c.begin.ensures.goes_on c.in_ok-output.ensures.begun c.end.ensures.goes_on _ _ c.in_ok-output.ensures.empty _ _ writes saved)
 
@@ -31,6 +31,6 @@ returns-clause-others g c = others_through _ _ _ _ _ c.begin.ensures.changes c.b
 pub returns-clause-undone : goal.returns-clause-undone
 returns-clause-undone g c = λ version collection is.
     let wrote : OnOk c.match-put_index.written (WritesIndexText (g.F.Writer.Write.contents c.in_ok-output.output.writer) (g.F.Writer.Write.contents c.put_index.new.out) collection) =
-        elim c.match-put_index.branch [ in-Ok w ↦ on_written c.match-put_index.written (w.in-Ok.ensures version collection (rw c.index-index.ensures is)) | in-Err w ↦ on_unwritten _ c.match-put_index.written _ w.written-is ] in
+    elim c.match-put_index.branch [ in-Ok w ↦ on_written c.match-put_index.written (w.in-Ok.ensures version collection (rw c.index-index.ensures is)) | in-Err w ↦ on_unwritten _ c.match-put_index.written _ w.written-is ] in
     undone_through _ _ _ _ _ c.begin.ensures.changes c.begin.ensures.goes_on c.in_ok-output.ensures.begun c.end.ensures.goes_on _ _ c.in_ok-output.ensures.empty _ c.end.result c.match-put_index.written
     (on_ok_weaker c.match-put_index.written (λ writes honest. index_left _ _ _ _ _ c.begin.ensures.changes c.begin.ensures.goes_on c.in_ok-output.ensures.begun c.end.ensures.goes_on _ _ c.in_ok-output.ensures.empty _ writes honest) wrote) c.end.ensures.undone
