@@ -14,7 +14,7 @@ const LINES: [&str; 6] = [
     "build --stop stop one out",
     "run ab out",
     "merge out 4.run 0.run 2.run",
-    "merge out five.ix 0.run",
+    "merge out 0.run five.ix",
     "upgrade five.ix out",
 ];
 

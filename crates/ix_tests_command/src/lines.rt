@@ -91,11 +91,11 @@ const HELPS: [(&str, &str, &str); 11] = [
 
 #[test]
 fn help_of_the_program_and_of_each_command(rt: HostRuntime) -> Result<(), Fail> {
-    let disk = Disk::new(rt.alloc());
+    let mut disk = Disk::new(rt.alloc());
     for (line, text, part) in HELPS {
         let words = words_of(rt.alloc(), line)?;
         let mut told = String::new(rt.alloc());
-        tell(&rt, &disk, &SystemFiles { rt: &rt }, &words, &mut told)?;
+        tell(&rt, &mut disk, &SystemFiles { rt: &rt }, &words, &mut told)?;
         assert_eq!(rt; told.as_str(), text);
         assert!(rt; text.contains(part), "{part}");
     }
