@@ -76,6 +76,13 @@ $ ix build --stop stop five stop
 ! ix: file 4: Same(stop)
 $ ix build --stop - - other
 ! ix: arguments refused
+$ put run-0000000003 a\tx\n
+$ ix build --runs=runs run-0000000003 other
+! ix: file 4: Same(run-0000000003)
+$ ix build --runs=runs five run-0000000003
+! ix: file 4: Same(run-0000000003)
+$ ix build --runs=runs --stop run-0000000003 five other
+! ix: stop 1: NotOneWord(1)
 $ ix build --runs=no/such/folder five other
 ! ix: build 2: Spill(0)
 ";
