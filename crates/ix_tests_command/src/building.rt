@@ -81,8 +81,9 @@ $ ix build --runs=runs run-0000000003 other
 ! ix: file 4: Same(run-0000000003)
 $ ix build --runs=runs five run-0000000003
 ! ix: file 4: Same(run-0000000003)
-$ ix build --runs=runs --stop run-0000000003 five other
-! ix: stop 1: NotOneWord(1)
+$ put run-0000000004 to\n
+$ ix build --runs=runs --stop run-0000000004 five other
+! ix: file 4: Same(run-0000000004)
 $ ix build --runs=no/such/folder five other
 ! ix: build 2: Spill(0)
 ";
