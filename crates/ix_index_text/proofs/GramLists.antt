@@ -4,11 +4,12 @@ use Rattle.std.proofs.lemmas.Cmp.{nat_cmp_total, nat_list_cmp_total}
 use Rattle.std.proofs.lemmas.List.Elements.{All-contains, Contains-get_or}
 use Rattle.std.proofs.lemmas.Map.Keys.{sorted_from_strictly_increasing}
 use Rattle.ix_text.proofs.AscendingLists.{contains_map, contained_from_map, one_ascending}
+use Rattle.ix_text.proofs.OneByKey.{one_by_keys, one_of_key}
+use Rattle.ix_text.proofs.OneParts.{one_vocabulary}
 use Rattle.ix_text.specs.ByteOrder.{IsAscending}
-use Rattle.ix_text.specs.Collections.{Collection, IsVocabulary}
+use Rattle.ix_text.specs.Collections.{Collection}
 use Rattle.ix_text.specs.Parts.{Parts, ArePartsOf, AreGramsOf, GramEntry, HasNumber, IsGramEntry, terms_of}
 use Rattle.ix_index_text.specs.Grams.{AreGramsOfTerms}
-use Rattle.ix_index_text.proofs.OneByKey.{one_by_keys, one_of_key}
 
 abbrev pub gram_of : GramEntry → List ℕ
 gram_of entry = entry.gram
@@ -52,14 +53,6 @@ one_gram_list one other up_one up_other each_one each_other same =
 pub one_of_terms : (terms : List (List ℕ)) (one other : List GramEntry) → AreGramsOfTerms terms one → AreGramsOfTerms terms other → one ≡ other
 one_of_terms terms one other p q =
     one_gram_list one other p.ascending q.ascending p.each q.each (λ g n. (λ has. (q.related g n).1 ((p.related g n).0 has), λ has. (p.related g n).1 ((q.related g n).0 has)))
-
--- a collection has one vocabulary
-pub one_vocabulary : (collection : Collection) (one other : List (List ℕ)) → IsVocabulary collection one → IsVocabulary collection other → one ≡ other
-one_vocabulary collection one other p q =
-    one_ascending nat_list_cmp_total one other p.ascending q.ascending (λ t. (
-      λ has. let (number, (position, posting)) = p.posted t has in q.complete t number position posting,
-      λ has. let (number, (position, posting)) = q.posted t has in p.complete t number position posting,
-    ))
 
 -- the grams of the terms of a collection's dictionary are those of the collection
 pub of_collection : (collection : Collection) (parts : Parts) (grams : List GramEntry) → ArePartsOf collection parts → AreGramsOfTerms (terms_of parts.entries) grams → AreGramsOf collection grams

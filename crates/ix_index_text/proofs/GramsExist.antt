@@ -10,8 +10,8 @@ use Rattle.ix_text.specs.Parts.{GramEntry, HasNumber, IsGramEntry}
 use Rattle.ix_text.specs.Windows.{grams_of}
 use Rattle.ix_text.proofs.AscendingLists.{contains_cases, contains_first, contains_later, contains_none}
 use Rattle.ix_index_text.specs.Grams.{AreGramsOfTerms}
-use Rattle.ix_index_text.proofs.Passing.{PassesAt, flat_all, flat_there, places}
-use Rattle.ix_index_text.proofs.TextOrder.{in_order, order_all, order_ascends, order_inside}
+use Rattle.ix_text.proofs.Passing.{PassesAt, flat_all, flat_there, places}
+use Rattle.ix_text.proofs.TextOrder.{in_order, order_all, order_ascends, order_inside}
 
 -- grams of the terms
 pub record HasGrams (terms : List (List ℕ)) : Type 0 where

@@ -10,11 +10,8 @@ pub mod HeldLemmas
 pub mod IndexTold
 pub mod ListTold
 pub mod ListingsTold
-pub mod OneByKey
 pub mod OneText
 pub mod PairGrams
-pub mod PartsExist
-pub mod Passing
 pub mod SectionLemmas
 pub mod SectionSizes
 pub mod SpellLemmas
@@ -22,5 +19,4 @@ pub mod TellingLemmas
 pub mod TermPairs
 pub mod TermTexts
 pub mod TextLaws
-pub mod TextOrder
 pub mod WindowSteps

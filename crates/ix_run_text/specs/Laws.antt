@@ -1,6 +1,6 @@
 -- What every run text shows of itself.
-use Rattle.std.specs.Prelude.{◌≡◌, ℕ, ◌+◌, ◌≤◌, List, [], ◌++◌, length, Option}
-use Rattle.ix_text.specs.Collections.{Collection}
+use Rattle.std.specs.Prelude.{◌≡◌, ℕ, ◌+◌, ◌^◌, ◌≤◌, List, [], ◌++◌, length, Option}
+use Rattle.ix_text.specs.Collections.{Collection, IsLawful}
 use Rattle.ix_text.specs.Parts.{DictionaryEntry, Posting}
 use Rattle.ix_run_text.specs.Calls.{CallEnds, CallsLead, IsOpened}
 use Rattle.ix_run_text.specs.Reading.{Faces}
@@ -16,7 +16,12 @@ HasEighteenBytes = (first : ℕ) (collection : Collection) (bytes : List ℕ) �
 abbrev pub RunTextTellsCollection : Type 0
 RunTextTellsCollection = (first start : ℕ) (one other : Collection) (bytes : List ℕ) → IsRunText first one bytes → IsRunText start other bytes → (first ≡ start) × (one ≡ other)
 
--- a collection counted from one number has one run text
+-- a lawful collection has a run text for each number of its first document up to 2^28 minus its number of documents
+abbrev pub CollectionHasRunText : Type 0
+CollectionHasRunText =
+    (first : ℕ) (collection : Collection) → IsLawful collection → first + length collection.documents ≤ 2 ^ 28 → (bytes : List ℕ) × IsRunText first collection bytes
+
+-- and only one
 abbrev pub CollectionHasOneRunText : Type 0
 CollectionHasOneRunText = (first : ℕ) (collection : Collection) (one other : List ℕ) → IsRunText first collection one → IsRunText first collection other → one ≡ other
 

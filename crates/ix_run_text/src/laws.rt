@@ -1,5 +1,5 @@
 //! Laws of the run text. The functions do nothing: what they ensure is a fact about the definitions.
-ghost use Rattle.ix_run_text.specs.Laws.{CollectionHasOneRunText, HasEighteenBytes, NoRunTextBeginsAnother, RunTextIsRead, RunTextTellsCollection, WhatIsReadIsRunText};
+ghost use Rattle.ix_run_text.specs.Laws.{CollectionHasOneRunText, CollectionHasRunText, HasEighteenBytes, NoRunTextBeginsAnother, RunTextIsRead, RunTextTellsCollection, WhatIsReadIsRunText};
 
 use std::io::Read;
 
@@ -13,9 +13,11 @@ pub fn run_text_tells_collection()
     ensures { RunTextTellsCollection }
 {}
 
-/// A lawful collection has one run text at most for each number of its first document.
+/// A lawful collection has a run text for each number of its first document up to 2^28 minus its number of documents, and only
+/// one.
 pub fn collection_has_one_run_text()
-    ensures { CollectionHasOneRunText }
+    ensures some { CollectionHasRunText }
+    ensures one { CollectionHasOneRunText }
 {}
 
 /// No run text begins another: its last byte can be told without what follows.

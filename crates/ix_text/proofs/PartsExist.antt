@@ -11,8 +11,8 @@ use Rattle.ix_text.specs.Parts.{ArePartsOf, DictionaryEntry, HasPosition, IsEntr
 use Rattle.ix_text.specs.TokenLists.{Entry}
 use Rattle.ix_text.proofs.AscendingLists.{contained_from_map, contains_cases, contains_first, contains_map, contains_none}
 use Rattle.ix_text.proofs.PartsLemmas.{injected}
-use Rattle.ix_index_text.proofs.Passing.{HasPlaces, PassesAt, flat_all, flat_there, places}
-use Rattle.ix_index_text.proofs.TextOrder.{in_order, order_all, order_ascends, order_inside}
+use Rattle.ix_text.proofs.Passing.{HasPlaces, PassesAt, flat_all, flat_there, places}
+use Rattle.ix_text.proofs.TextOrder.{in_order, order_all, order_ascends, order_inside}
 
 -- parts of the collection
 pub record HasParts (collection : Collection) : Type 0 where
