@@ -222,9 +222,9 @@ module _ {S W : Type 0} (heading : S → Heading) (current : S → Option (List 
       }
 
     -- the turn fails
-    pub merged_some_then : (after : IndexWriter W WriterSections) → HasToldSome heading current yields gives contents before source share_here.entries merging.told last next after → HasMergedSome (map heading begun) before (contents (sink after))
-    merged_some_then after (inl front) = merged_some begun now before told_first writer hand (contents (sink after)) merging front
-    merged_some_then after (inr some) = merged_some_more some.0 (contents (sink after)) some.2
+    pub merged_some_then : (sure : S → Type 0) (after : IndexWriter W WriterSections) → HasToldSome heading current yields sure contents before source share_here.entries merging.told last next after → HasMergedSome (map heading begun) before (contents (sink after))
+    merged_some_then sure after (inl front) = merged_some begun now before told_first writer hand (contents (sink after)) merging front
+    merged_some_then sure after (inr some) = merged_some_more some.0 (contents (sink after)) some.2
 
     -- the turn is done
     module _ (new : S) (after : IndexWriter W WriterSections) (then : PendingEntry) (same : heading new ≡ heading source)

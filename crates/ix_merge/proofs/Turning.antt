@@ -11,13 +11,12 @@ use Rattle.ix_file.proofs.TellingLemmas.{position_total-term}
 use Rattle.ix_file.specs.WriterSections.{WriterSections}
 use Rattle.ix_file.specs.IndexWriter.{IndexWriter}
 use Rattle.ix_run.specs.Heads.{Heading}
-use Rattle.ix_run.specs.Sources.{AreWhole, BeginsTerm, EndsTerms, Giving, Yielding, IsLawfulFront, closed, entry_with}
+use Rattle.ix_run.specs.Sources.{AreWhole, BeginsTerm, EndsTerms, Giving, Yielding, IsLawfulFront, YieldsMore, closed, entry_with}
 use Rattle.ix_run.proofs.ReadFronts.{closed-none}
 use Rattle.ix_run.specs.Sources.{GivesList}
 use Rattle.ix_file.specs.Postings.{shifted}
 use Rattle.ix_merge.specs.Gathered.{HasGathered}
 use Rattle.ix_merge.specs.Turns.{Begins, BeginsEntry, GivesEntry, GoesOn, IsAtHand, MayTurn, bare_entry, told_then}
-use Rattle.ix_run.specs.Yields.{AlwaysYield}
 use Rattle.ix_merge.specs.Unfinished.{YieldsBehind}
 use Rattle.ix_merge.specs.declared.pending_entry.PendingEntry.{PendingEntry}
 use Rattle.ix_merge.proofs.GatheredLists.{documents_fit, gathered_more}
@@ -146,7 +145,7 @@ module _ {S : Type 0} (heading : S → Heading) (current : S → Option (List �
     pub told_to : then.end ≡ next_after gave.from (documents_of (shifted (heading old).first gave.postings))
     pub on_more : (new : S) (next_term : List ℕ) → is_drained mid → current new ≡ Some next_term → BeginsTerm yields gives is_drained mid new next_term
         → GoesOn current yields gives old new given (entry_with gave.term gave.postings)
-    pub goes : AlwaysYield yields gives → YieldsBehind yields old gave.postings
+    pub goes : (gives mid given (Some (entry_with gave.term gave.postings)) → YieldsMore yields mid) → YieldsBehind yields old gave.postings
     pub on_end : (new : S) → is_drained mid → current new ≡ None → EndsTerms yields gives is_drained mid new → GoesOn current yields gives old new given (entry_with gave.term gave.postings)
 
   module _ {W : Type 0} (contents : W → Option (List ℕ)) (before : Option (List ℕ)) (writer : IndexWriter W WriterSections) (hand : PendingEntry) (begins : BeginsEntry contents before writer told last next term hand)
@@ -177,8 +176,8 @@ module _ {S : Type 0} (heading : S → Heading) (current : S → Option (List �
               gathered_more contents before writer hand begins.begun begins.was raised_postings documents to bytes may_be_told then some count last (coded ∙ list.coded);
           told_to = last ∙ list.last;
           on_more = λ new next_term drained. goes_on begins.begun hand.end begins.begins mid headed documents to bytes list_alone new drained next_term;
-          goes = λ always.
-              let more = always mid given (Some (entry_with term list.postings)) (list.given given (entry_with term []) gives_bare).0 in
+          goes = λ yields_more.
+              let more = yields_more (list.given given (entry_with term []) gives_bare).0 in
               record { entries = more.entries; yielded = (list.yielded more.postings more.entries more.yielded).1 };
           on_end = λ new drained. goes_to_end begins.begun hand.end begins.begins mid headed documents to bytes list_alone new drained;
         }

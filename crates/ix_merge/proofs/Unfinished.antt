@@ -1,4 +1,4 @@
--- A merge that stops has written a front of a whole merge, if its sources may always yield something yet.
+-- A merge that stops has written a front of a whole merge, if its sources are sure.
 use Rattle.std.proofs.Common.{◌≡◌, ℕ, zero, suc, ◌<◌, ◌≤◌, ◌⊎◌, List, [], ◌∷◌, ◌++◌, length, map, get_or, set, All, Option, Some, None, MatchOption, inl, inr, refl, sym, ap, ap₂, subst, ◌∙◌, option_map, arith, length-set, append_assoc, string_bytes}
 use Rattle.std.proofs.lemmas.Bool.{cases_eq}
 use Rattle.std.proofs.lemmas.List.{append-nil, get_or-map, get_or-set_same, get_or-set_other, get_or_default, length-map, same_lists}
@@ -13,12 +13,11 @@ use Rattle.ix_file.specs.Writers.{sink}
 use Rattle.ix_file.specs.WriterSections.{WriterSections}
 use Rattle.ix_file.specs.IndexWriter.{IndexWriter}
 use Rattle.ix_run.specs.Heads.{Heading}
-use Rattle.ix_run.specs.Sources.{AreWhole, Giving, IsUnread, Yielding, closed, entry_with}
+use Rattle.ix_run.specs.Sources.{AreWhole, Giving, IsUnread, Yielding, YieldsMore, closed, entry_with}
 use Rattle.ix_merge.specs.Keys.{HoldsFirst, Key, end_of, key_of}
 use Rattle.ix_merge.specs.Merged.{HasMergedAll, Share}
 use Rattle.ix_merge.specs.Merging.{AreApart}
 use Rattle.ix_merge.specs.Turns.{HasToldSome, bare_entry, told_then}
-use Rattle.ix_run.specs.Yields.{AlwaysYield}
 use Rattle.ix_merge.specs.Unfinished.{HasMergedFront}
 use Rattle.ix_merge.specs.declared.pending_entry.PendingEntry.{PendingEntry}
 use Rattle.ix_merge.proofs.Behind.{AreBehind, IsBehind}
@@ -42,7 +41,8 @@ choose P (suc n) some =
 
 module _ {S : Type 0} (heading : S → Heading) (current : S → Option (List ℕ)) (yields : Yielding S) (gives : Giving S)
     (wholly : (source : S) (finished : List DictionaryEntry) (at_hand : Option DictionaryEntry) (postings : List Posting) (entries : List DictionaryEntry)
-    → gives source finished at_hand → yields source postings entries → AreWhole (heading source) (closed finished at_hand postings ++ entries)) where
+    → gives source finished at_hand → yields source postings entries → AreWhole (heading source) (closed finished at_hand postings ++ entries))
+    (sure : S → Type 0) (sure_yields : (source : S) (finished : List DictionaryEntry) (at_hand : Option DictionaryEntry) → gives source finished at_hand → sure source → YieldsMore yields source) where
   -- A source that gave a share, and may yield the rest of the course.
   record IsCourse (begun now : S) (share : Share) (course : Course) : Type 0 where
     shared : given_of course ≡ share
@@ -65,8 +65,8 @@ module _ {S : Type 0} (heading : S → Heading) (current : S → Option (List �
   Ahead begun now share o = MatchOption o (yields begun [] share.entries)
       (λ term. (postings : List Posting) (entries : List DictionaryEntry) → yields now postings entries → yields begun [] (share.entries ++ entry_with term postings ∷ entries))
 
-  some_course : (begun now : S) (share : Share) → IsReading heading current yields gives begun now share → IsUnread gives begun → AlwaysYield yields gives → (course : Course) × IsCourse begun now share course
-  some_course begun now share is unread always = by (current now) refl
+  some_course : (begun now : S) (share : Share) → IsReading heading current yields gives begun now share → IsUnread gives begun → sure now → (course : Course) × IsCourse begun now share course
+  some_course begun now share is unread is_sure = by (current now) refl
     where
       by : (o : Option (List ℕ)) → current now ≡ o → (course : Course) × IsCourse begun now share course
       by None none = (
@@ -74,7 +74,7 @@ module _ {S : Type 0} (heading : S → Heading) (current : S → Option (List �
         is_course begun now share [] is unread (sym none) (subst (yields begun []) (sym (append-nil share.entries)) (subst (Ahead begun now share) none is.yielded)),
       )
       by (Some term) some =
-          let more = always now share.entries (bare_entry (current now)) is.gives_these in (
+          let more = sure_yields now share.entries (bare_entry (current now)) is.gives_these is_sure in (
             record { heading = share.heading; given = share.entries; left = entry_with term more.postings ∷ more.entries },
             is_course begun now share (entry_with term more.postings ∷ more.entries) is unread (sym some) (subst (Ahead begun now share) some is.yielded more.postings more.entries more.yielded),
           )
@@ -85,10 +85,10 @@ module _ {S : Type 0} (heading : S → Heading) (current : S → Option (List �
       as_many : length courses ≡ length begun
       each : (place : ℕ) (course : Course) → place < length begun → IsCourse (get_or begun place source) (get_or now place source) (get_or shares place no_share) (get_or courses place course)
 
-    some_courses : All (IsUnread gives) begun → AlwaysYield yields gives → (courses : List Course) × AreCourses courses
-    some_courses unread always =
+    some_courses : All (IsUnread gives) begun → All sure now → (courses : List Course) × AreCourses courses
+    some_courses unread are_sure =
         let P : ℕ → Course → Type 0 = λ k course. IsCourse (get_or begun k source) (get_or now k source) (get_or shares k no_share) course in
-        let all = choose P (length begun) (λ k low. some_course (get_or begun k source) (get_or now k source) (get_or shares k no_share) (reading.each k source no_share low) (unread k source low) always) in
+        let all = choose P (length begun) (λ k low. some_course (get_or begun k source) (get_or now k source) (get_or shares k no_share) (reading.each k source no_share low) (unread k source low) (are_sure k source (omega (arith, low, reading.as_many)))) in
         (all.0, record { as_many = all.1; each = all.2 })
 
     module _ (courses : List Course) (are : AreCourses courses) where
@@ -184,20 +184,20 @@ module _ {S : Type 0} (heading : S → Heading) (current : S → Option (List �
 
   pub unfinished : {W : Type 0} (contents : W → Option (List ℕ)) (begun now : List S) (before : Option (List ℕ)) (told_first : Told) (writer : IndexWriter W WriterSections) (hand : PendingEntry)
       (merging : IsMerging heading current yields gives contents begun now before told_first writer hand) → AreBehind heading current (string_bytes hand.term) hand.end now → All (IsUnread gives) begun → AreApart (map heading begun)
-      → AlwaysYield yields gives → (place : ℕ) (source : S) → place < length now → get_or now place source ≡ source → HoldsFirst (map (key_of heading current) now) place → (after : IndexWriter W WriterSections)
-      → HasToldSome heading current yields gives contents before source (get_or merging.shares place no_share).entries merging.told (string_bytes hand.term) hand.end after
+      → All sure now → (place : ℕ) (source : S) → place < length now → get_or now place source ≡ source → HoldsFirst (map (key_of heading current) now) place → (after : IndexWriter W WriterSections)
+      → HasToldSome heading current yields sure contents before source (get_or merging.shares place no_share).entries merging.told (string_bytes hand.term) hand.end after
       → HasMergedFront yields heading begun before (contents (sink after))
-  unfinished contents begun now before told_first writer hand merging behind unread apart always place source within here first after (inl front) =
+  unfinished contents begun now before told_first writer hand merging behind unread apart are_sure place source within here first after (inl front) =
       let reading = merging.reading in
-      let some = some_courses begun now merging.shares reading source unread always in
+      let some = some_courses begun now merging.shares reading source unread are_sure in
       let can = can_go begun now merging.shares reading source some.0 some.1 merging.told (string_bytes hand.term) hand.end merging.has behind apart in
       merged_front begun now merging.shares reading source some.0 some.1 merging.told (go_on some.0 merging.told (string_bytes hand.term) hand.end can) before (contents (sink after)) front
-  unfinished contents begun now before told_first writer hand merging behind unread apart always place source within here first after (inr told) =
+  unfinished contents begun now before told_first writer hand merging behind unread apart are_sure place source within here first after (inr told) =
       let reading = merging.reading in
       let last : List ℕ = string_bytes hand.term in
       let share : Share = get_or merging.shares place no_share in
       let gave = told.0 in
-      let more = told.1 always in
+      let more = told.1 (subst sure here (are_sure place source within)) in
       let low : place < length begun = omega (arith, within, reading.as_many) in
       let reads : IsReading heading current yields gives (get_or begun place source) source share =
       subst (λ (s : S). IsReading heading current yields gives (get_or begun place source) s share) here (reading.each place source no_share low) in
@@ -205,7 +205,7 @@ module _ {S : Type 0} (heading : S → Heading) (current : S → Option (List �
       let course : Course = record { heading = share.heading; given = share.entries; left = entry ∷ more.entries } in
       let is : IsCourse (get_or begun place source) source share course =
       is_course (get_or begun place source) source share (entry ∷ more.entries) reads (unread place source low) (sym gave.is) (subst (Ahead (get_or begun place source) source share) gave.is reads.yielded gave.postings more.entries more.yielded) in
-      let some = some_courses begun now merging.shares reading source unread always in
+      let some = some_courses begun now merging.shares reading source unread are_sure in
       let courses : List Course = set some.0 place course in
       let are = with_course begun now merging.shares reading source some.0 some.1 place course low (subst (λ (s : S). IsCourse (get_or begun place source) s share course) (sym here) is) in
       let can = can_go begun now merging.shares reading source courses are merging.told last hand.end merging.has behind apart in

@@ -4,10 +4,10 @@ use Rattle.ix_file.specs.Postings.{list_bytes_from, shifted}
 use Rattle.ix_text.specs.Parts.{DictionaryEntry, Posting}
 use Rattle.ix_run.specs.Faults.{MayFault}
 use Rattle.ix_run.specs.Heads.{Heading}
-use Rattle.ix_run.specs.Reading.{HasFailed, HasRead, IsDrained, IsEnded, MayYield, StandsStill, term_of}
+use Rattle.ix_run.specs.Reading.{HasFailed, HasRead, IsDrained, IsEnded, IsSure, MayYield, StandsStill, term_of}
 use Rattle.ix_run.specs.RunReaders.{heading_read}
-use Rattle.ix_run.specs.RunSources.{FirstExceeds, HasGiven, HasLeft, IsAtEnd, IsAtEndOfTerm}
-use Rattle.ix_run.specs.Sources.{AreWhole, IsLawfulFront, closed}
+use Rattle.ix_run.specs.RunSources.{FirstExceeds, HasGiven, HasLeft, IsAlwaysSure, IsAtEnd, IsAtEndOfTerm, always_yields}
+use Rattle.ix_run.specs.Sources.{AreWhole, IsLawfulFront, YieldsMore, closed}
 use Rattle.ix_run.specs.ListError.{ListError}
 use Rattle.ix_run.specs.ListError.TheVariants as list
 use Rattle.ix_run.specs.RunTextError.{RunTextError}
@@ -49,6 +49,11 @@ SourceIsEnded (Index index) = IsAtEnd index
 abbrev pub SourceMayFault : {R : Type 0} → (R → Option (List ℕ)) → AnySource R → RunTextError → Type 0
 SourceMayFault remaining (Run run) error = MayFault remaining run error
 SourceMayFault remaining (Index index) error = (¬ (IsAtEnd index)) × (error ≡ Memory)
+
+-- what makes its part sure
+abbrev pub SourceIsSure : {R : Type 0} → (R → Option (List ℕ)) → AnySource R → Type 0
+SourceIsSure remaining (Run run) = IsSure remaining run
+SourceIsSure remaining (Index index) = IsAlwaysSure index
 
 -- it is a run text that has returned an error
 abbrev pub SourceHasFailed : {R : Type 0} → AnySource R → Type 0
@@ -109,3 +114,11 @@ pub source_yielded_lawfully : {R : Type 0} (remaining : R → Option (List ℕ))
     → AreWhole (heading_of_source source) (closed finished at_hand postings ++ entries)
 source_yielded_lawfully remaining (Run run) finished at_hand postings entries read may = may.whole finished at_hand read
 source_yielded_lawfully remaining (Index index) finished at_hand postings entries given left = given.completed postings entries left
+
+-- if it is sure, it may yield something yet
+pub source_sure_yields : {R : Type 0} (remaining : R → Option (List ℕ)) (source : AnySource R) (finished : List DictionaryEntry) (at_hand : Option DictionaryEntry)
+    → SourceHasGiven source finished at_hand → SourceIsSure remaining source → YieldsMore (SourceMayYield remaining) source
+source_sure_yields remaining (Run run) finished at_hand read sure = record { postings = sure.postings; entries = sure.entries; yielded = sure.yielded }
+source_sure_yields remaining (Index index) finished at_hand given sure =
+    let more = always_yields index finished at_hand given in
+    record { postings = more.postings; entries = more.entries; yielded = more.yielded }

@@ -20,4 +20,3 @@ pub use Rattle.ix_file.specs.Sections
 pub use Rattle.ix_run.specs.Heads
 pub use Rattle.ix_run.specs.RunSources
 pub use Rattle.ix_run.specs.Sources
-pub use Rattle.ix_run.specs.Yields

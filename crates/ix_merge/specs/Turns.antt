@@ -14,7 +14,6 @@ use Rattle.ix_file.specs.IndexWriter.{IndexWriter}
 use Rattle.ix_run.specs.Heads.{Heading}
 use Rattle.ix_run.specs.Sources.{AreWhole, Giving, Yielding, entry_with}
 use Rattle.ix_merge.specs.Gathered.{HasGathered}
-use Rattle.ix_run.specs.Yields.{AlwaysYield}
 use Rattle.ix_merge.specs.Unfinished.{YieldsBehind}
 use Rattle.ix_merge.specs.declared.pending_entry.PendingEntry.{PendingEntry}
 
@@ -89,9 +88,9 @@ pub record HasTurned {S W : Type 0} (heading : S → Heading) (current : S → O
   pub told_to : entry.end ≡ next_after gave.from (documents_of (shifted (heading old).first gave.postings))
 
 -- A prefix was written of what is settled by what was given, or by that with the postings of a source's current term; then
--- the source may yield these, if any source may yield something yet.
-abbrev pub HasToldSome : {S W : Type 0} → (S → Heading) → (S → Option (List ℕ)) → Yielding S → Giving S → (W → Option (List ℕ)) → Option (List ℕ) → S → List DictionaryEntry
+-- the source may yield these, if it is sure.
+abbrev pub HasToldSome : {S W : Type 0} → (S → Heading) → (S → Option (List ℕ)) → Yielding S → (S → Type 0) → (W → Option (List ℕ)) → Option (List ℕ) → S → List DictionaryEntry
     → Told → List ℕ → ℕ → IndexWriter W WriterSections → Type 0
-HasToldSome heading current yields gives contents before source given told last next writer =
+HasToldSome heading current yields sure contents before source given told last next writer =
     AppendsFront before (contents (sink writer)) (settled_front told)
-    ⊎ ((gave : GivesEntry heading current source given told last next) × (AlwaysYield yields gives → YieldsBehind yields source gave.postings) × AppendsFront before (contents (sink writer)) (settled_front (told_then gave.begun (heading source).first gave.postings)))
+    ⊎ ((gave : GivesEntry heading current source given told last next) × (sure source → YieldsBehind yields source gave.postings) × AppendsFront before (contents (sink writer)) (settled_front (told_then gave.begun (heading source).first gave.postings)))

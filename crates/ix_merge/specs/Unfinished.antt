@@ -1,4 +1,4 @@
--- What a merge has written if it stops, and its sources may always yield something yet.
+-- What a merge of sure sources has written if it stops.
 use Rattle.std.specs.Prelude.{◌≡◌, ◌⊎◌, ℕ, List, ◌++◌, Option}
 use Rattle.ix_text.specs.Parts.{DictionaryEntry, Posting}
 use Rattle.ix_output.specs.Sinks.{AppendsFront}

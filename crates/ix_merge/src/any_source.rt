@@ -23,9 +23,9 @@ impl<'a, R: Read + Drop> Source for AnySource<'a, R> {
     ghost use Rattle.ix_run.specs.RunTextError.TheVariants.{Failed, Memory};
     ghost use Rattle.ix_run.specs.Sources.{BeginsTerm, EndsPostings, EndsTerms, GivesList, GivesPosting, KeepsFaults};
     ghost use Rattle.ix_merge.specs.AnySources.{IsLeftRefused, IsLeftWithoutList, IsOfRunText, LacksRoom, heading_of_source, list_room, term_of_source};
-    ghost use Rattle.ix_merge.specs.AnySources.{SourceHasFailed, SourceHasGiven, SourceIsDrained, SourceIsEnded, SourceMayFault, SourceMayYield};
+    ghost use Rattle.ix_merge.specs.AnySources.{SourceHasFailed, SourceHasGiven, SourceIsDrained, SourceIsEnded, SourceIsSure, SourceMayFault, SourceMayYield};
     ghost use Rattle.ix_merge.specs.AnySources.{source_drained_without_term, source_given_lawfully};
-    ghost use Rattle.ix_merge.specs.AnySources.{source_given_of_term, source_yielded_lawfully};
+    ghost use Rattle.ix_merge.specs.AnySources.{source_given_of_term, source_sure_yields, source_yielded_lawfully};
 
     type Error = RunTextError;
 
@@ -42,6 +42,8 @@ impl<'a, R: Read + Drop> Source for AnySource<'a, R> {
     ghost is_ended = { SourceIsEnded };
 
     ghost faults = { SourceMayFault R.remaining };
+
+    ghost sure = { SourceIsSure R.remaining };
 
     fn head(&self) -> &RunHead {
         match self {
@@ -63,6 +65,8 @@ impl<'a, R: Read + Drop> Source for AnySource<'a, R> {
         ensures fault { IfErr result (SourceMayFault R.remaining self.old) }
         ensures no_more_faults { OnOk result
             (KeepsFaults (SourceMayFault R.remaining) self.old self.new) }
+        ensures sure { OnOk result
+            (SourceIsSure R.remaining self.old → SourceIsSure R.remaining self.new) }
 
         // What an error leaves.
         ensures refused { OnErr result (IsLeftRefused self.old self.new) }
@@ -102,6 +106,8 @@ impl<'a, R: Read + Drop> Source for AnySource<'a, R> {
         ensures fault { IfErr result (SourceMayFault R.remaining self.old) }
         ensures no_more_faults { OnOk result
             (KeepsFaults (SourceMayFault R.remaining) self.old self.new) }
+        ensures sure { OnOk result
+            (SourceIsSure R.remaining self.old → SourceIsSure R.remaining self.new) }
 
         // What an error leaves.
         ensures refused { OnErr result (IsLeftRefused self.old self.new) }
@@ -137,6 +143,8 @@ impl<'a, R: Read + Drop> Source for AnySource<'a, R> {
         ensures fault { IfErr result (IsListFault (SourceMayFault R.remaining self.old)) }
         ensures no_more_faults { OnOk result
             (KeepsFaults (SourceMayFault R.remaining) self.old self.new) }
+        ensures sure { OnOk result
+            (SourceIsSure R.remaining self.old → SourceIsSure R.remaining self.new) }
 
         // What an error leaves.
         ensures kept { IfErr result (IsLeftWithoutList self.old self.new) }
@@ -162,4 +170,6 @@ impl<'a, R: Read + Drop> Source for AnySource<'a, R> {
     ghost given_of_term = { source_given_of_term };
 
     ghost yielded_lawfully = { source_yielded_lawfully R.remaining };
+
+    ghost sure_yields = { source_sure_yields R.remaining };
 }

@@ -49,14 +49,13 @@ impl<'a> Model for IndexSource<'a> {
 }
 
 impl<'a> IndexSource<'a> {
-    ghost use Rattle.std.specs.Prelude.{◌≡◌, ◌≤◌, ◌+◌, ◌^◌, List, [], length, IfOk, OnOk};
+    ghost use Rattle.std.specs.Prelude.{◌≡◌, ◌≤◌, ◌+◌, ◌^◌, List, [], length, IfOk};
     ghost use Rattle.ix_text.specs.Collections.{Collection};
     ghost use Rattle.ix_text.specs.Parts.{ArePartsOf, DictionaryEntry};
     ghost use Rattle.ix_run.specs.Heads.{parts_with};
     ghost use Rattle.ix_run.specs.Runs.{run_value};
     ghost use Rattle.ix_run.specs.RunSources.{HasGiven, HasLeft, unread};
     ghost use Rattle.ix_run.specs.Sources.{IsUnread};
-    ghost use Rattle.ix_run.specs.Yields.{AlwaysYield};
 
     /// The source of an index, from which nothing was read yet: that of a run of the same collection, whose documents
     /// count from `first` on. The sum of `first` and the number of documents is at most 2^28.
@@ -72,7 +71,6 @@ impl<'a> IndexSource<'a> {
             → ArePartsOf collection index.now.parts
             → (entries : List DictionaryEntry) → HasLeft source [] entries
             → ArePartsOf collection (parts_with source.heading entries)) }
-        ensures always { OnOk result (AlwaysYield HasLeft HasGiven) }
     {
         Ok(IndexSource {
             head: RunHead {
@@ -91,7 +89,7 @@ impl<'a> IndexSource<'a> {
 impl<'a> Source for IndexSource<'a> {
     ghost use Rattle.std.specs.Prelude.{◌≡◌, ◌+◌, ◌<◌, ◌≤◌, ℕ, List, Some, None, Ok, false, length, IsOk, IsSome, IfOk, IfErr, OnErr, OnOk, MatchBool, MatchOption, vec_capacity, vec_len};
     ghost use Rattle.ix_file.specs.Postings.{list_bytes_from, shifted};
-    ghost use Rattle.ix_run.specs.RunSources.{FirstExceeds, HasGiven, HasLeft, IsAtEnd, IsAtEndOfTerm, MayLackMemory};
+    ghost use Rattle.ix_run.specs.RunSources.{FirstExceeds, HasGiven, HasLeft, IsAlwaysSure, IsAtEnd, IsAtEndOfTerm, MayLackMemory, always_yields};
     ghost use Rattle.ix_run.specs.Sources.{BeginsTerm, EndsPostings, EndsTerms, GivesList, GivesPosting, KeepsFaults};
     ghost use Rattle.ix_run.specs.Faults.{IsListFault};
 
@@ -111,6 +109,8 @@ impl<'a> Source for IndexSource<'a> {
 
     ghost faults = { MayLackMemory };
 
+    ghost sure = { IsAlwaysSure };
+
     fn head(&self) -> &RunHead {
         &self.head
     }
@@ -127,6 +127,7 @@ impl<'a> Source for IndexSource<'a> {
         ensures ended { IsAtEnd self.old → (result ≡ Ok false) × IsAtEnd self.new }
         ensures fault { IfErr result (MayLackMemory self.old) }
         ensures no_more_faults { OnOk result (KeepsFaults MayLackMemory self.old self.new) }
+        ensures sure { OnOk result (IsAlwaysSure self.old → IsAlwaysSure self.new) }
 
         // It returns no error.
         ensures granted { IsOk result }
@@ -163,6 +164,7 @@ impl<'a> Source for IndexSource<'a> {
         ensures drained { IsAtEndOfTerm self.old → result ≡ Ok None }
         ensures fault { IfErr result (MayLackMemory self.old) }
         ensures no_more_faults { OnOk result (KeepsFaults MayLackMemory self.old self.new) }
+        ensures sure { OnOk result (IsAlwaysSure self.old → IsAlwaysSure self.new) }
 
         // It fails only if the positions find no room, which leaves the source unchanged.
         ensures kept { OnErr result (self.new ≡ self.old) }
@@ -197,6 +199,7 @@ impl<'a> Source for IndexSource<'a> {
         ensures refused { OnErr result (out.new.items ≡ out.old.items) }
         ensures fault { IfErr result (IsListFault (MayLackMemory self.old)) }
         ensures no_more_faults { OnOk result (KeepsFaults MayLackMemory self.old self.new) }
+        ensures sure { OnOk result (IsAlwaysSure self.old → IsAlwaysSure self.new) }
 
         // It fails only if the list finds no room, which leaves the source unchanged.
         ensures kept { OnErr result (self.new ≡ self.old) }
@@ -228,4 +231,7 @@ impl<'a> Source for IndexSource<'a> {
 
     ghost yielded_lawfully = { λ source finished at_hand postings entries given left.
         given.completed postings entries left };
+
+    ghost sure_yields = { λ source finished at_hand given sure.
+        always_yields source finished at_hand given };
 }

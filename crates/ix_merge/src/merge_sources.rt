@@ -2,7 +2,6 @@
 ghost use Rattle.std.specs.Prelude.{◌≡◌, ◌^◌, ◌<◌, ℕ, Some, None, All, IfErr, OnErr, OnOk, length, map};
 ghost use Rattle.std.specs.Io.KnownBytes.{Keeps};
 ghost use Rattle.ix_run.specs.Sources.{IsUnread};
-ghost use Rattle.ix_run.specs.Yields.{AlwaysYield};
 ghost use Rattle.ix_file.specs.Rows.{document_row};
 ghost use Rattle.ix_file.specs.Writers.{IsReady, sink, sink_name};
 ghost use Rattle.ix_merge.specs.Covers.{IsGap, IsOverlap};
@@ -34,8 +33,9 @@ use std::io::Write;
 /// * `StopDiffers`: two sources have different stop terms.
 /// * `TooLarge`: the sources have more than 2^28 tokens.
 ///
-/// Then, with a prefix written, perhaps nothing of it, of the index text of some collection with the heads of the sources (of
-/// runs in memory and of indexes that of their concatenation, and all of it only after `Write`):
+/// Then, with a prefix written, perhaps nothing of it, of the index text of the concatenation of what the sources may yield, if
+/// each is sure to yield something, as runs in memory, indexes and run texts of lawful collections are, and all of it only after
+/// `Write`; else of the index text of some collection with the heads of the sources:
 ///
 /// * `Source(place, error)`: the source at this place of the list returned `error`.
 /// * `Write`: a write or the flush failed.
@@ -69,7 +69,7 @@ pub fn merge<S: Source + Drop, W: Write>(
         → Keeps (W.contents out.old) (W.contents out.new)) }
     ensures front { OnErr result (LeavesFront (map S.heading sources.items)
         (W.contents out.old) (W.contents out.new)) }
-    ensures unfinished { AlwaysYield S.yields S.gives
+    ensures unfinished { All S.sure sources.items
         → IfErr result (λ error. LeavesYieldedPart S.yields S.heading sources.items
         (W.contents out.old) (W.contents out.new) (error ≡ MergeError.Write)) }
 {

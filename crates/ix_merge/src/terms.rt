@@ -3,7 +3,6 @@ ghost use Rattle.std.specs.Prelude.{◌≡◌, ◌≤◌, ◌*◌, ◌^◌, ℕ,
 ghost use Rattle.ix_file.specs.Told.{Told, entries_of};
 ghost use Rattle.ix_file.specs.Writers.{WasTold, sink, sink_name};
 ghost use Rattle.ix_run.specs.Sources.{IsUnread, KeepsFaults};
-ghost use Rattle.ix_run.specs.Yields.{AlwaysYield};
 ghost use Rattle.ix_merge.specs.Gathered.{IsNewEntry};
 ghost use Rattle.ix_merge.specs.Keys.{keys_of};
 ghost use Rattle.ix_merge.specs.Merged.{HasMergedSome};
@@ -48,7 +47,7 @@ pub(crate) fn merge_terms<S: Source, W: Write>(
         → WasTold W.contents before writer.old told → entries_of told ≡ []
         → OnErr result (HasMergedSome (map S.heading sources.old) before
         (W.contents (sink writer.new))) }
-    ensures unfinished { AlwaysYield S.yields S.gives
+    ensures unfinished { All S.sure sources.old
         → (before : Option (List ℕ)) (told : Told)
         → WasTold W.contents before writer.old told → entries_of told ≡ []
         → OnErr result (LeavesMergedFront S.yields S.heading W.contents sources.old before
@@ -83,7 +82,7 @@ fn merge_by<S: Source, W: Write>(
         → WasTold W.contents before writer.old told → entries_of told ≡ []
         → OnErr result (HasMergedSome (map S.heading sources.old) before
         (W.contents (sink writer.new))) }
-    ensures unfinished { AlwaysYield S.yields S.gives
+    ensures unfinished { All S.sure sources.old
         → (before : Option (List ℕ)) (told : Told)
         → WasTold W.contents before writer.old told → entries_of told ≡ []
         → OnErr result (LeavesMergedFront S.yields S.heading W.contents sources.old before
@@ -113,6 +112,7 @@ fn begin_all<S: Source>(
         (HaveStarted S.heading S.current S.yields S.gives sources.old sources.new) }
     ensures tree { OnOk result (IsWinnerTree (keys_of S.heading S.current sources.new) tree.new) }
     ensures no_more_faults { OnOk result (KeepFaults S.faults sources.old sources.new) }
+    ensures sure { OnOk result (All S.sure sources.old → All S.sure sources.new) }
     ensures refused { IfErr result (IsRefusalOf S.faults sources.old) }
 {
     for place in 0..sources.len() {
@@ -129,6 +129,7 @@ fn begin_source<S: Source>(place: usize, source: &mut S) -> Result<bool, MergeEr
         (HasStarted S.heading S.current S.yields S.gives source.old source.new) }
     ensures more { IfOk result (λ more. more ≡ is_some (S.current source.new)) }
     ensures no_more_faults { OnOk result (KeepsFaults S.faults source.old source.new) }
+    ensures sure { OnOk result (S.sure source.old → S.sure source.new) }
     ensures refused { IfErr result (IsRefusalAt place (S.faults source.old)) }
 {
     source

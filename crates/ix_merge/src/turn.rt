@@ -46,9 +46,10 @@ pub(crate) fn take_turn<S: Source, W: Write>(
         → HasGathered W.contents before writer.old entry.old told
         → MayTurn S.heading S.current S.gives source.old given told
         (string_bytes entry.old.term) entry.old.end
-        → OnErr result (HasToldSome S.heading S.current S.yields S.gives W.contents before
+        → OnErr result (HasToldSome S.heading S.current S.yields S.sure W.contents before
         source.old given told (string_bytes entry.old.term) entry.old.end writer.new) }
     ensures no_more_faults { OnOk result (KeepsFaults S.faults source.old source.new) }
+    ensures sure { OnOk result (S.sure source.old → S.sure source.new) }
     ensures refused { IfErr result (IsRefusalAt place (S.faults source.old)) }
 {
     if let Err(error) = entry.begin(source.term(), writer) {

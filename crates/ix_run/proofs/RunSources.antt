@@ -15,7 +15,6 @@ use Rattle.ix_vbyte.proofs.Postings.{list_apart}
 use Rattle.ix_run_text.specs.Heads.{Heading, parts_with}
 use Rattle.ix_run.specs.Runs.{IsRunOf, RunValue, TermValue, coded, last_document, run_value}
 use Rattle.ix_run.specs.RunSources.{AreCoded, EndsAt, HasGiven, HasLeft, IsAtEndOfTerm, IsAtPlace, SourceValue, heading_shown, unread}
-use Rattle.ix_run.specs.Yields.{AlwaysYield}
 use Rattle.ix_run_text.specs.Sources.{AreWhole, BeginsTerm, EndsTerms, GivesList, GivesPosting, closed, entry_with, extended}
 use Rattle.ix_run_text.proofs.Fronts.{front_lawful}
 use Rattle.ix_run_text.proofs.WholeLists.{codable, list_below, postings_behind, shift_after, shift_postings}
@@ -30,18 +29,6 @@ none_is_some o none some = cc
 pub nothing_left : {A B : Type 0} (f : A → B) (xs : List A) → length xs ≡ 0 → map f xs ≡ []
 nothing_left f [] none = refl
 nothing_left f (x ∷ xs) none = absurd (omega arith)
-
--- finished entries and one at hand, of a lawful dictionary
-has_given : (source : SourceValue) (finished : List DictionaryEntry) (at_hand : Option DictionaryEntry) (rest : List DictionaryEntry) → AreWhole source.heading (closed finished at_hand source.postings ++ rest)
-    → AreCoded source.terms rest → option_map (λ entry. entry.term) at_hand ≡ source.term → HasGiven source finished at_hand
-has_given source finished at_hand rest whole left of_term = record {
-  rest = rest;
-  whole = whole;
-  left = left;
-  of_term = of_term;
-  lawful = front_lawful source.heading finished at_hand source.postings rest whole;
-  completed = λ postings entries has. subst (AreWhole source.heading) (ap₂ (λ ps es. closed finished at_hand ps ++ es) (sym has.of_term) (sym (has.behind rest left))) whole;
-}
 
 -- the postings are those that a term's value tells
 abbrev pub ToldBy : TermValue → List Posting → Type 0
@@ -89,12 +76,17 @@ coded_once (value ∷ values) rest other left left' =
     ∙ ap₂ (λ (e : DictionaryEntry) (es : List DictionaryEntry). e ∷ es) (same_entry_fields first.entry second.entry (ap (λ (v : TermValue). v.term) same) postings) (coded_once values first.entries second.entries first.left second.left)
     ∙ sym second.parts
 
--- so that there is always something left to yield, perhaps of no entries
-pub always_yields : AlwaysYield HasLeft HasGiven
-always_yields source finished at_hand given = record {
-  postings = source.postings;
-  entries = given.rest;
-  yielded = record { of_term = refl; behind = λ rest is. coded_once source.terms given.rest rest given.left is };
+-- finished entries and one at hand, of a lawful dictionary
+has_given : (source : SourceValue) (finished : List DictionaryEntry) (at_hand : Option DictionaryEntry) (rest : List DictionaryEntry) → AreWhole source.heading (closed finished at_hand source.postings ++ rest)
+    → AreCoded source.terms rest → option_map (λ entry. entry.term) at_hand ≡ source.term → HasGiven source finished at_hand
+has_given source finished at_hand rest whole left of_term = record {
+  rest = rest;
+  whole = whole;
+  left = left;
+  once = λ other is. coded_once source.terms rest other left is;
+  of_term = of_term;
+  lawful = front_lawful source.heading finished at_hand source.postings rest whole;
+  completed = λ postings entries has. subst (AreWhole source.heading) (ap₂ (λ ps es. closed finished at_hand ps ++ es) (sym has.of_term) (sym (has.behind rest left))) whole;
 }
 
 module _ (heading : Heading) (value : TermValue) (values : List TermValue) (term : Option (List ℕ)) (left postings : List Posting) (told : ToldBy value postings) where

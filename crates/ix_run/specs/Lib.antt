@@ -10,7 +10,6 @@ pub mod RunSources
 pub mod Runs
 pub mod SeenWords
 pub mod Writing
-pub mod Yields
 pub use Rattle.ix_output.specs.Sinks
 pub use Rattle.ix_run_text.specs.Faults
 pub use Rattle.ix_run_text.specs.Heads

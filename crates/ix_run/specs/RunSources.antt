@@ -1,12 +1,12 @@
 -- A run in memory as a source of its postings: what is left of it.
-use Rattle.std.specs.Prelude.{◌≡◌, ◌≢◌, ℕ, ◌+◌, ◌-◌, ◌^◌, ◌<◌, List, [], ◌∷◌, ◌++◌, map, length, All, Option, None, option_map}
+use Rattle.std.specs.Prelude.{◌≡◌, ◌≢◌, ⊤, ℕ, ◌+◌, ◌-◌, ◌^◌, ◌<◌, List, [], ◌∷◌, ◌++◌, map, length, All, Option, None, option_map, refl}
 use Rattle.std.specs.declared.alloc.AllocError.{AllocError}
 use Rattle.ix_text.specs.Parts.{DictionaryEntry, Posting}
 use Rattle.ix_vbyte.specs.Gaps.{next_after}
 use Rattle.ix_vbyte.specs.Postings.{ArePostings, documents_of}
 use Rattle.ix_run_text.specs.Heads.{Heading}
 use Rattle.ix_run.specs.Runs.{RunValue, TermValue, coded}
-use Rattle.ix_run_text.specs.Sources.{AreWhole, IsLawfulFront, closed}
+use Rattle.ix_run_text.specs.Sources.{AreWhole, IsLawfulFront, YieldsMore, closed}
 
 -- the heading, the terms that are left, the term at hand, and the postings of it that are left
 pub record SourceValue : Type 0 where
@@ -38,9 +38,18 @@ pub record HasGiven (source : SourceValue) (finished : List DictionaryEntry) (at
   pub rest : List DictionaryEntry
   pub whole : AreWhole source.heading (closed finished at_hand source.postings ++ rest)
   pub left : AreCoded source.terms rest
+  pub once : (other : List DictionaryEntry) → AreCoded source.terms other → rest ≡ other
   pub of_term : option_map (λ entry. entry.term) at_hand ≡ source.term
   pub lawful : IsLawfulFront source.heading finished at_hand
   pub completed : (postings : List Posting) (entries : List DictionaryEntry) → HasLeft source postings entries → AreWhole source.heading (closed finished at_hand postings ++ entries)
+
+-- it is always sure
+abbrev pub IsAlwaysSure : SourceValue → Type 0
+IsAlwaysSure source = ⊤
+
+-- since there is always something left to yield, perhaps no entries
+pub always_yields : (source : SourceValue) (finished : List DictionaryEntry) (at_hand : Option DictionaryEntry) → HasGiven source finished at_hand → YieldsMore HasLeft source
+always_yields source finished at_hand given = record { postings = source.postings; entries = given.rest; yielded = record { of_term = refl; behind = given.once } }
 
 -- of the term at hand, if there is one, no posting is left
 abbrev pub IsAtEndOfTerm : SourceValue → Type 0

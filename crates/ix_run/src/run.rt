@@ -36,7 +36,6 @@ impl Run {
     ghost use Rattle.ix_run_text.specs.RunText.{IsRunText};
     ghost use Rattle.ix_run_text.specs.Sources.{IsUnread};
     ghost use Rattle.ix_run.specs.Runs.{IsRun, IsRunOf, head_value, run_bytes};
-    ghost use Rattle.ix_run.specs.Yields.{AlwaysYield};
 
     /// The run of these parts.
     pub(crate) fn new(head: RunHead, terms: CodedTerms) -> Run
@@ -67,7 +66,6 @@ impl Run {
         ensures yields { (first : ℕ) (collection : Collection) → IsRunOf self.now first collection
             → (entries : List DictionaryEntry) → HasLeft result [] entries
             → ArePartsOf collection (parts_with result.heading entries) }
-        ensures always { AlwaysYield HasLeft HasGiven }
     {
         RunSource::new(&self.head, self.terms.walk())
     }

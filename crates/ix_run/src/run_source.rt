@@ -84,7 +84,7 @@ impl<'a> Source for RunSource<'a> {
     ghost use Rattle.std.specs.Prelude.{OnOk, IfErr};
     ghost use Rattle.ix_vbyte.specs.Postings.{list_bytes_from, shifted};
     ghost use Rattle.std.specs.Prelude.{◌≡◌, ℕ, List, Some, None, Ok, false, IsOk, IsSome, IfOk, OnErr, MatchBool, MatchOption};
-    ghost use Rattle.ix_run.specs.RunSources.{FirstExceeds, HasGiven, HasLeft, IsAtEnd, IsAtEndOfTerm, MayLackMemory};
+    ghost use Rattle.ix_run.specs.RunSources.{FirstExceeds, HasGiven, HasLeft, IsAlwaysSure, IsAtEnd, IsAtEndOfTerm, MayLackMemory, always_yields};
     ghost use Rattle.ix_run_text.specs.Sources.{BeginsTerm, EndsPostings, EndsTerms, GivesList, GivesPosting, KeepsFaults};
     ghost use Rattle.ix_run_text.specs.Faults.{IsListFault};
 
@@ -104,6 +104,8 @@ impl<'a> Source for RunSource<'a> {
 
     ghost faults = { MayLackMemory };
 
+    ghost sure = { IsAlwaysSure };
+
     fn head(&self) -> &RunHead {
         self.head
     }
@@ -121,6 +123,7 @@ impl<'a> Source for RunSource<'a> {
         ensures ended { IsAtEnd self.old → (result ≡ Ok false) × IsAtEnd self.new }
         ensures fault { IfErr result (MayLackMemory self.old) }
         ensures no_more_faults { OnOk result (KeepsFaults MayLackMemory self.old self.new) }
+        ensures sure { OnOk result (IsAlwaysSure self.old → IsAlwaysSure self.new) }
 
         // It never fails.
         ensures granted { IsOk result }
@@ -156,6 +159,7 @@ impl<'a> Source for RunSource<'a> {
         ensures drained { IsAtEndOfTerm self.old → result ≡ Ok None }
         ensures fault { IfErr result (MayLackMemory self.old) }
         ensures no_more_faults { OnOk result (KeepsFaults MayLackMemory self.old self.new) }
+        ensures sure { OnOk result (IsAlwaysSure self.old → IsAlwaysSure self.new) }
 
         // It fails only if the positions find no room, and leaves the source as it was.
         ensures kept { OnErr result (self.new ≡ self.old) }
@@ -189,6 +193,7 @@ impl<'a> Source for RunSource<'a> {
         ensures refused { OnErr result (out.new.items ≡ out.old.items) }
         ensures fault { IfErr result (IsListFault (MayLackMemory self.old)) }
         ensures no_more_faults { OnOk result (KeepsFaults MayLackMemory self.old self.new) }
+        ensures sure { OnOk result (IsAlwaysSure self.old → IsAlwaysSure self.new) }
 
         // It fails only if the list finds no room, and leaves the source as it was.
         ensures kept { OnErr result (self.new ≡ self.old) }
@@ -222,4 +227,7 @@ impl<'a> Source for RunSource<'a> {
 
     ghost yielded_lawfully = { λ source finished at_hand postings entries given left.
         given.completed postings entries left };
+
+    ghost sure_yields = { λ source finished at_hand given sure.
+        always_yields source finished at_hand given };
 }

@@ -25,6 +25,7 @@ pub mod RunTold
 pub mod SpelledLemmas
 pub mod SpelledSteps
 pub mod StopTermLemmas
+pub mod SureReaders
 pub mod TakenLists
 pub mod TermLemmas
 pub mod TextLaws

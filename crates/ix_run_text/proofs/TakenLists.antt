@@ -87,7 +87,7 @@ is_front next top (p ∷ ps) (q ∷ qs) left right are also few e =
     record { rest = more.rest; is = ap₂ (λ (x : Posting) (xs : List Posting). x ∷ xs) (sym one.0) more.is; behind = more.behind }
 
 -- postings that fit, one behind another, are given
-front_all : (heading : Heading) (finished : List DictionaryEntry) (entry : DictionaryEntry) (postings : List Posting) → IsLawfulFront heading finished (Some entry)
+pub front_all : (heading : Heading) (finished : List DictionaryEntry) (entry : DictionaryEntry) (postings : List Posting) → IsLawfulFront heading finished (Some entry)
     → PostingsFit heading.rows (next_after 0 (documents_of entry.postings)) postings
     → AreDistinct (numbers_of_entries heading.rows (closed finished (Some entry) []) ++ numbers_of_postings heading.rows postings)
     → IsLawfulFront heading finished (Some (extended entry postings))

@@ -110,6 +110,13 @@ pub record LieAhead (at : Standing) (left : Option (List ℕ)) (postings : List 
 abbrev pub Faces : {R : Type 0} → (R → Option (List ℕ)) → RunReader R → List Posting → List DictionaryEntry → Type 0
 Faces remaining reader postings entries = LieAhead (standing reader) (known_left remaining reader.input) postings entries
 
+-- Postings and entries that stand before a reader whose bytes are those of a lawful collection: it may yield them.
+pub record IsSure {R : Type 0} (remaining : R → Option (List ℕ)) (reader : RunReader R) : Type 0 where
+  pub postings : List Posting
+  pub entries : List DictionaryEntry
+  pub faces : Faces remaining reader postings entries
+  pub yielded : MayYield remaining reader postings entries
+
 -- the postings that are left of the current list
 abbrev pub postings_ahead : {R : Type 0} → RunReader R → List Posting
 postings_ahead reader = postings_told reader.documents reader.next (take reader.bytes (bytes_held reader.input))

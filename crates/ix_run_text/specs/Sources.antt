@@ -46,6 +46,12 @@ Yielding Source = Source → List Posting → List DictionaryEntry → Type 0
 abbrev pub Giving : Type 0 → Type 1
 Giving Source = Source → List DictionaryEntry → Option DictionaryEntry → Type 0
 
+-- Postings of the current term, and entries after it, that a source may yield yet.
+pub record YieldsMore {Source : Type 0} (yields : Yielding Source) (source : Source) : Type 0 where
+  pub postings : List Posting
+  pub entries : List DictionaryEntry
+  pub yielded : yields source postings entries
+
 -- the errors with which a source may answer yet
 abbrev pub Faulting : Type 0 → Type 0 → Type 1
 Faulting Source Error = Source → Error → Type 0

@@ -80,7 +80,7 @@ impl<R: Read + Drop> RunReader<R> {
     ghost use Rattle.ix_run_text.specs.RunReaders.{bytes_left, heading_read};
     ghost use Rattle.ix_run_text.specs.RunText.{IsRunText, heading_bytes, run_layout};
     ghost use Rattle.ix_run_text.specs.RunTextErrors.{IsRefusal};
-    ghost use Rattle.ix_run_text.specs.Reading.{BeginsFirst, Faces, GivesFirst, HasRead, IsDrained, MayYield, Skips, heading_from};
+    ghost use Rattle.ix_run_text.specs.Reading.{BeginsFirst, Faces, GivesFirst, HasRead, IsDrained, IsSure, MayYield, Skips, heading_from};
     ghost use Rattle.ix_run_text.specs.declared.run_reader.Place.TheVariants.{AtTerm, Ended, Failed};
     ghost use Rattle.ix_run_text.specs.Sources.{AreWhole, BeginsTerm, EndsTerms, GivesPosting, IsUnread};
 
@@ -117,6 +117,9 @@ impl<R: Read + Drop> RunReader<R> {
             (is : IsRunText first collection bytes) → R.remaining reader ≡ Some bytes
             → MatchResult result (λ run. (heading_read run ≡ heading_from first is.parts)
             × Faces R.remaining run [] is.parts.entries) IsRefusal }
+        ensures sure { (first : ℕ) (collection : Collection) (bytes : List ℕ)
+            → IsRunText first collection bytes → R.remaining reader ≡ Some bytes
+            → IfOk result (IsSure R.remaining) }
     {
         let mut input = Input::new(alloc, reader)?;
         let head = read_head(alloc, &mut input)?;
@@ -216,6 +219,7 @@ impl<R: Read + Drop> RunReader<R> {
             → Faces R.remaining self.old postings entries
             → MatchResult result (λ more.
             MatchBool more (BeginsFirst R.remaining self.new entries) (entries ≡ [])) IsRefusal }
+        ensures sure { OnOk result (IsSure R.remaining self.old → IsSure R.remaining self.new) }
     {
         self.skip();
         let found = read_term(

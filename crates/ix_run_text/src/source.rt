@@ -3,7 +3,7 @@
 ghost use Rattle.std.specs.Prelude.{◌≡◌, ◌≤◌, OnErr, OnOk, ℕ, List, Option, Some, None, Ok, false, IsSome, IfErr, IfOk, MatchBool, MatchOption, option_map, ◌++◌};
 ghost use Rattle.ix_text.specs.Parts.{DictionaryEntry, Posting};
 ghost use Rattle.ix_run_text.specs.Heads.{Heading, heading_of};
-ghost use Rattle.ix_run_text.specs.Sources.{AreWhole, IsLawfulFront, BeginsTerm, EndsTerms, GivesList, GivesPosting, EndsPostings, KeepsFaults, closed};
+ghost use Rattle.ix_run_text.specs.Sources.{AreWhole, IsLawfulFront, BeginsTerm, EndsTerms, GivesList, GivesPosting, EndsPostings, KeepsFaults, YieldsMore, closed};
 ghost use Rattle.ix_run_text.specs.Faults.{IsListFault};
 
 use crate::{ListError, Listed, RunHead};
@@ -19,6 +19,9 @@ use crate::{ListError, Listed, RunHead};
 ///
 /// A third relation, `faults`, holds the errors with which a call may be refused yet. A call that is not refused adds none:
 /// so an error that comes at any time is one that the source, as it was before the first call, might answer with.
+///
+/// A source that has given lawfully and is `sure` may yield something yet, and a call that returns no error leaves it sure: so a
+/// consumer that stops knows of a sure source that what it read of it is the beginning of what it may yield.
 pub trait Source {
     /// Why a call may be refused.
     type Error;
@@ -44,6 +47,9 @@ pub trait Source {
     // Errors with which a call may be refused yet.
     ghost faults: { Self → Self.Error → Type 0 };
 
+    // If what it gave is lawful, it may yield something yet, perhaps no entries.
+    ghost sure: { Self → Type 0 };
+
     /// The head of the source.
     fn head(&self) -> &RunHead
         ensures { heading_of result.now ≡ heading self.now };
@@ -59,7 +65,8 @@ pub trait Source {
             × EndsTerms yields gives is_drained self.old self.new)) }
         ensures ended { is_ended self.old → (result ≡ Ok false) × is_ended self.new }
         ensures fault { IfErr result (faults self.old) }
-        ensures no_more_faults { OnOk result (KeepsFaults faults self.old self.new) };
+        ensures no_more_faults { OnOk result (KeepsFaults faults self.old self.new) }
+        ensures sure { OnOk result (sure self.old → sure self.new) };
 
     /// The term at hand.
     fn term(&self) -> &str
@@ -79,7 +86,8 @@ pub trait Source {
             (document, positions.new.items))) }
         ensures drained { is_drained self.old → result ≡ Ok None }
         ensures fault { IfErr result (faults self.old) }
-        ensures no_more_faults { OnOk result (KeepsFaults faults self.old self.new) };
+        ensures no_more_faults { OnOk result (KeepsFaults faults self.old self.new) }
+        ensures sure { OnOk result (sure self.old → sure self.new) };
 
     /// Appends all postings of the term at hand that are left, coded as one list: their documents counted in the
     /// whole collection, from the head's first number on, and the first gap taken from `next`, which is one above the
@@ -101,7 +109,8 @@ pub trait Source {
             out.old.items out.new.items) }
         ensures refused { OnErr result (out.new.items ≡ out.old.items) }
         ensures fault { IfErr result (IsListFault (faults self.old)) }
-        ensures no_more_faults { OnOk result (KeepsFaults faults self.old self.new) };
+        ensures no_more_faults { OnOk result (KeepsFaults faults self.old self.new) }
+        ensures sure { OnOk result (sure self.old → sure self.new) };
 
     // Where no term is at hand, no posting of one is left.
     ghost drained_without_term: { (source : Self) → current source ≡ None → is_drained source };
@@ -123,4 +132,9 @@ pub trait Source {
         (postings : List Posting) (entries : List DictionaryEntry)
         → gives source finished at_hand → yields source postings entries
         → AreWhole (heading source) (closed finished at_hand postings ++ entries) };
+
+    // A sure source may yield something yet.
+    ghost sure_yields: { (source : Self) (finished : List DictionaryEntry)
+        (at_hand : Option DictionaryEntry)
+        → gives source finished at_hand → sure source → YieldsMore yields source };
 }

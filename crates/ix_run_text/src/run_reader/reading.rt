@@ -8,7 +8,7 @@ use std::io::Read;
 impl<R: Read + Drop> Source for RunReader<R> {
     ghost use Rattle.std.specs.Prelude.{◌≡◌, ◌≢◌, ◌<◌, ◌≤◌, ◌+◌, [], List, ℕ, Some, None, Ok, Err, false, IsSome, IfErr, IfOk, IfSome, OnErr, OnOk, MatchBool, MatchOption, MatchResult, vec_capacity, vec_len};
     ghost use Rattle.ix_text.specs.Parts.{DictionaryEntry, Posting};
-    ghost use Rattle.ix_run_text.specs.Reading.{BeginsFirst, Faces, GivesAll, GivesFirst, HasFailed, HasRead, IsDrained, IsEnded, MayYield, StandsStill, postings_left, term_of};
+    ghost use Rattle.ix_run_text.specs.Reading.{BeginsFirst, Faces, GivesAll, GivesFirst, HasFailed, HasRead, IsDrained, IsEnded, IsSure, MayYield, StandsStill, postings_left, term_of};
     ghost use Rattle.ix_run_text.specs.RunReaders.{heading_read};
     ghost use Rattle.ix_run_text.specs.RunTextErrors.{IsRefusal};
     ghost use Rattle.ix_run_text.specs.Sources.{BeginsTerm, EndsTerms, EndsPostings, GivesList, GivesPosting, KeepsFaults};
@@ -30,6 +30,8 @@ impl<R: Read + Drop> Source for RunReader<R> {
     ghost is_ended = { IsEnded };
 
     ghost faults = { MayFault R.remaining };
+
+    ghost sure = { IsSure R.remaining };
 
     fn head(&self) -> &RunHead {
         &self.head
@@ -57,6 +59,7 @@ impl<R: Read + Drop> Source for RunReader<R> {
         ensures fault { IfErr result (MayFault R.remaining self.old) }
         ensures no_more_faults { OnOk result
             (KeepsFaults (MayFault R.remaining) self.old self.new) }
+        ensures sure { OnOk result (IsSure R.remaining self.old → IsSure R.remaining self.new) }
 
         // Where a lawful dictionary lies ahead, its next entry is begun, unless a read or memory is refused.
         ensures accepted { (postings : List Posting) (entries : List DictionaryEntry)
@@ -102,6 +105,7 @@ impl<R: Read + Drop> Source for RunReader<R> {
         ensures fault { IfErr result (MayFault R.remaining self.old) }
         ensures no_more_faults { OnOk result
             (KeepsFaults (MayFault R.remaining) self.old self.new) }
+        ensures sure { OnOk result (IsSure R.remaining self.old → IsSure R.remaining self.new) }
 
         // Fewer are left.
         ensures counted { IfOk result (λ found.
@@ -160,6 +164,7 @@ impl<R: Read + Drop> Source for RunReader<R> {
         ensures fault { IfErr result (IsListFault (MayFault R.remaining self.old)) }
         ensures no_more_faults { OnOk result
             (KeepsFaults (MayFault R.remaining) self.old self.new) }
+        ensures sure { OnOk result (IsSure R.remaining self.old → IsSure R.remaining self.new) }
 
         // If postings of a lawful dictionary lie ahead, the list of exactly these is given, unless memory is not granted.
         ensures accepted { (postings : List Posting) (entries : List DictionaryEntry)
@@ -204,4 +209,10 @@ impl<R: Read + Drop> Source for RunReader<R> {
 
     ghost yielded_lawfully = { λ reader finished at_hand postings entries read may.
         may.whole finished at_hand read };
+
+    ghost sure_yields = { λ reader finished at_hand read sure. record {
+      postings = sure.postings;
+      entries = sure.entries;
+      yielded = sure.yielded;
+    } };
 }

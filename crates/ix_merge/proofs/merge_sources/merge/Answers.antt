@@ -232,7 +232,7 @@ returns-in_err-rows-clause-fault g c =
     rw (p.1, p.2) (headings_tell_none g.S.Source.faults c.args.sources.items c.in_err-rows.field-0.0 c.in_err-rows.ensures.of_headings)
 
 pub returns-in_err-merge_terms-clause-unfinished : goal.returns-in_err-merge_terms-clause-unfinished
-returns-in_err-merge_terms-clause-unfinished g c always =
+returns-in_err-merge_terms-clause-unfinished g c sure =
     let heading = g.S.Source.heading in
     let contents = g.W.Write.contents in
     let before = contents c.args.out.now in
@@ -246,7 +246,7 @@ returns-in_err-merge_terms-clause-unfinished g c always =
     begun heading contents before c.begin-writer.result c.args.sources.items c.as_slice.result.now c.as_slice-2.result.now sources rows c.as_slice.ensures.value c.as_slice-2.ensures.value c.as_mut_slice.ensures.value
     begins (subst R (sym c.as_slice-3.ensures.value) c.in_ok-rows.ensures.rows) c.in_ok-rows.ensures.mergeable in
     let old : contents (sink c.begin-writer.result) ≡ before = ap contents c.begin-writer.ensures.nothing_written in
-    let some = c.in_err-merge_terms.ensures.unfinished always before told begins.was refl in
+    let some = c.in_err-merge_terms.ensures.unfinished (subst (All g.S.Source.sure) (sym c.as_mut_slice.ensures.value) sure) before told begins.was refl in
     let M : Option (List ℕ) → Type 0 = λ known. LeavesMergedFront g.S.Source.yields heading contents sources known c.begin-writer.result c.merge_terms.new.writer in
     let left : (if_whole : Type 0) → LeavesYieldedPart g.S.Source.yields heading sources (contents (sink c.begin-writer.result)) (contents (sink c.merge_terms.new.writer)) if_whole =
     λ if_whole. left_yielded g.S.Source.yields heading contents sources begins.stop rows c.begin-writer.result c.merge_terms.new.writer if_whole begun_now (subst M (sym old) some) in
@@ -259,7 +259,7 @@ returns-in_err-merge_terms-clause-unfinished g c always =
     if_err c.from_residual-in_err-merge_terms.result _ (λ error. moved _ _ (search rules))
 
 pub returns-clause-unfinished : goal.returns-clause-unfinished
-returns-clause-unfinished g c always =
+returns-clause-unfinished g c sure =
     let heading = g.S.Source.heading in
     let contents = g.W.Write.contents in
     let before = contents c.args.out.now in

@@ -1,5 +1,6 @@
-use Rattle.std.proofs.Common.{get_or, arith}
+use Rattle.std.proofs.Common.{get_or, subst, arith}
 use Rattle.std.proofs.lemmas.List.{get_or_default}
+use Rattle.std.proofs.lemmas.List.Elements.{All-set}
 use Rattle.std.proofs.lemmas.Result.{err_from_is_err_and}
 use Rattle.ix_merge.proofs.Faulting.{keep_more, refusal_at}
 use Rattle.ix_merge.proofs.Rounds.{advanced, advanced_none}
@@ -11,6 +12,7 @@ loop-place-init g c = record {
   begun = begun_none g.S.Source.heading g.S.Source.current g.S.Source.yields g.S.Source.gives c.args.sources.now;
   played = advanced_none g.S.Source.heading g.S.Source.current g.S.Source.gives g.met.S.Source.given_of_term c.args.sources.now c.args.tree.now c.requires.sized c.requires.empty c.requires.unread;
   no_more_faults = λ place source error within may. may;
+  sure = λ all. all;
 }
 
 pub update-requires : goal.update-requires
@@ -31,6 +33,9 @@ loop-place-preserved g c =
       no_more_faults =
           keep_more g.S.Source.faults c.args.sources.now c.loop-place.sources c.loop-place.place source b.as_many c.loop-place.invariant.no_more_faults
           (omega (arith, b.as_many)) here c.begin_source.new.source c.in_ok-more.ensures.no_more_faults;
+      sure = λ all.
+          let now = c.loop-place.invariant.sure all in
+          All-set g.S.Source.sure c.loop-place.sources c.loop-place.place c.begin_source.new.source (c.in_ok-more.ensures.sure (subst g.S.Source.sure here (now c.loop-place.place source (omega (arith, b.as_many))))) now;
     }
 
 pub returns-in_err-more-clause-refused : goal.returns-in_err-more-clause-refused

@@ -2,6 +2,7 @@
 use Rattle.std.proofs.Common.{◌≡◌, ◌+◌, ◌*◌, ◌-◌, ◌^◌, ◌<◌, List, length, length-set, get_or, string_bytes, refl, sym, subst, ◌∙◌, arith, inl, inr}
 use Rattle.std.proofs.Math.Seq.{map-set_same}
 use Rattle.std.proofs.lemmas.List.{get_or_default, length-map}
+use Rattle.std.proofs.lemmas.List.Elements.{All-set}
 use Rattle.std.proofs.lemmas.Result.{err_from_is_err_and}
 use Rattle.ix_file.specs.Writers.{sink}
 use Rattle.ix_run.specs.Heads.{Heading}
@@ -28,6 +29,7 @@ loop-place-init g c =
       as_many = started.as_many;
       headed = started_headed g.S.Source.heading g.S.Source.current g.S.Source.yields g.S.Source.gives c.args.sources.now c.begin_all.new.sources started;
       no_more_faults = c.in_ok-begin_all.ensures.no_more_faults;
+      sure = c.in_ok-begin_all.ensures.sure;
       same_writer = refl;
       played = c.in_ok-begin_all.ensures.tree;
       behind = behind_first g.S.Source.heading g.S.Source.current g.S.Source.yields g.S.Source.gives g.met.S.Source.given_lawfully c.args.sources.now c.begin_all.new.sources (string_bytes c.args.entry.now.term) c.args.entry.now.end started c.requires.none.term;
@@ -71,7 +73,7 @@ returns-in_err-more-clause-some g c before told was none =
     c.loop-place.entry merging i.behind c.requires.few c.in-Some.place source within here in
     on_err_if c.from_residual-in_err-more.result _
     (merged_some_then g.S.Source.heading g.S.Source.current g.S.Source.yields g.S.Source.gives g.W.Write.contents g.met.S.Source.given_lawfully c.args.sources.now c.loop-place.sources before told c.loop-place.writer
-    c.loop-place.entry merging i.behind c.requires.few c.in-Some.place source within here c.take_turn.new.writer (c.in_err-more.ensures.some before merging.told _ merging.was may))
+    c.loop-place.entry merging i.behind c.requires.few c.in-Some.place source within here g.S.Source.sure c.take_turn.new.writer (c.in_err-more.ensures.some before merging.told _ merging.was may))
 
 pub returns-in_err-more-clause-refused : goal.returns-in_err-more-clause-refused
 returns-in_err-more-clause-refused g c =
@@ -132,6 +134,9 @@ loop-place-preserved g c =
       no_more_faults =
           keep_more g.S.Source.faults c.args.sources.now c.loop-place.sources c.in-Some.place source i.as_many i.no_more_faults within here
           c.take_turn.new.source c.in_ok-more.ensures.no_more_faults;
+      sure = λ all.
+          let now = i.sure all in
+          All-set g.S.Source.sure c.loop-place.sources c.in-Some.place c.take_turn.new.source (c.in_ok-more.ensures.sure (subst g.S.Source.sure here (now c.in-Some.place source within))) now;
       same_writer = c.take_turn.ensures.same_writer ∙ i.same_writer;
       played = c.update.ensures;
       behind =
@@ -180,10 +185,10 @@ take_turn-requires-clause-at_hand g c =
     has_term g.S.Source.heading g.S.Source.current c.loop-place.sources c.in-Some.place source within here first.there
 
 pub returns-in_err-begin_all-clause-unfinished : goal.returns-in_err-begin_all-clause-unfinished
-returns-in_err-begin_all-clause-unfinished g c always before told was none = on_err_if c.from_residual.result _ (inl refl)
+returns-in_err-begin_all-clause-unfinished g c sure before told was none = on_err_if c.from_residual.result _ (inl refl)
 
 pub returns-in_err-more-clause-unfinished : goal.returns-in_err-more-clause-unfinished
-returns-in_err-more-clause-unfinished g c always before told was none =
+returns-in_err-more-clause-unfinished g c sure before told was none =
     let i = c.loop-place.invariant in
     let merging = i.merging before told was none in
     let first : HoldsFirst (keys_of g.S.Source.heading g.S.Source.current c.loop-place.sources) c.in-Some.place =
@@ -196,11 +201,11 @@ returns-in_err-more-clause-unfinished g c always before told was none =
     c.loop-place.entry merging i.behind c.requires.few c.in-Some.place source within here in
     on_err_if c.from_residual-in_err-more.result _
     (inr
-    (unfinished g.S.Source.heading g.S.Source.current g.S.Source.yields g.S.Source.gives g.met.S.Source.yielded_lawfully g.W.Write.contents c.args.sources.now c.loop-place.sources before told c.loop-place.writer
-    c.loop-place.entry merging i.behind c.requires.unread c.requires.apart always c.in-Some.place source within here first c.take_turn.new.writer (c.in_err-more.ensures.some before merging.told _ merging.was may)))
+    (unfinished g.S.Source.heading g.S.Source.current g.S.Source.yields g.S.Source.gives g.met.S.Source.yielded_lawfully g.S.Source.sure g.met.S.Source.sure_yields g.W.Write.contents c.args.sources.now c.loop-place.sources before told c.loop-place.writer
+    c.loop-place.entry merging i.behind c.requires.unread c.requires.apart (i.sure sure) c.in-Some.place source within here first c.take_turn.new.writer (c.in_err-more.ensures.some before merging.told _ merging.was may)))
 
 pub returns-in-Err-clause-unfinished : goal.returns-in-Err-clause-unfinished
-returns-in-Err-clause-unfinished g c always before told was none =
+returns-in-Err-clause-unfinished g c sure before told was none =
     let i = c.loop-place.invariant in
     let merging = i.merging before told was none in
     inr

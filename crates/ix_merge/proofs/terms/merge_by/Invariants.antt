@@ -1,4 +1,4 @@
-use Rattle.std.proofs.Common.{◌≡◌, ℕ, ◌+◌, ◌-◌, ◌*◌, ◌^◌, List, [], Option, map, length, string_bytes}
+use Rattle.std.proofs.Common.{◌≡◌, ℕ, ◌+◌, ◌-◌, ◌*◌, ◌^◌, List, [], All, Option, map, length, string_bytes}
 use Rattle.ix_file.specs.Told.{Told, entries_of}
 use Rattle.ix_file.specs.Writers.{WasTold, sink_name}
 use Rattle.ix_merge.specs.Keys.{keys_of}
@@ -13,6 +13,7 @@ invariant-loop-place g l = record {
   as_many : length l.sources ≡ length l.fn.sources;
   headed : map g.S.Source.heading l.sources ≡ map g.S.Source.heading l.fn.sources;
   no_more_faults : KeepFaults g.S.Source.faults l.fn.sources l.sources;
+  sure : All g.S.Source.sure l.fn.sources → All g.S.Source.sure l.sources;
   same_writer : sink_name l.writer ≡ sink_name l.fn.writer;
   played : IsWinnerTree (keys_of g.S.Source.heading g.S.Source.current l.sources) l.tree;
   behind : AreBehind g.S.Source.heading g.S.Source.current (string_bytes l.entry.term) l.entry.end l.sources;

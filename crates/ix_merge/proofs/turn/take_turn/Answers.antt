@@ -39,7 +39,7 @@ returns-in-Err-send_if_full-clause-some g c before told given was may =
     c.term.result.now c.term.ensures g.W.Write.contents before c.begin.new.writer c.begin.new.self (c.in_default.ensures.told before told was may.closable) c.take_list.new.self c.take_list.ensures.heading
     c.in-Ok.listed.documents c.in-Ok.listed.next c.take_list.new.out.items c.in-Ok.ensures.given
     (record { term = c.begin.new.self.term; end = c.in-Ok.listed.next; list = c.take_list.new.out; documents = c.begin.new.self.documents + c.in-Ok.listed.documents }) refl refl refl in
-    inr (taken.gave, taken.goes, c.send_if_full.ensures.front before _ taken.was)
+    inr (taken.gave, λ sure. taken.goes (λ has. g.met.S.Source.sure_yields c.take_list.new.self given (Some (entry_with taken.gave.term taken.gave.postings)) has (c.in-Ok.ensures.sure sure)), c.send_if_full.ensures.front before _ taken.was)
 
 pub returns-clause-turned : goal.returns-clause-turned
 returns-clause-turned g c before told given was may =
@@ -72,4 +72,8 @@ returns-clause-some g c before told given was may =
     c.term.result.now c.term.ensures g.W.Write.contents before c.begin.new.writer c.begin.new.self (c.in_default.ensures.told before told was may.closable) c.take_list.new.self c.take_list.ensures.heading
     c.in-Ok.listed.documents c.in-Ok.listed.next c.take_list.new.out.items c.in-Ok.ensures.given
     (record { term = c.begin.new.self.term; end = c.in-Ok.listed.next; list = c.take_list.new.out; documents = c.begin.new.self.documents + c.in-Ok.listed.documents }) refl refl refl in
-    on_err_if c.map_err.result _ (inr (taken.gave, taken.goes, c.send_if_full.ensures.front before _ taken.was))
+    on_err_if c.map_err.result _ (inr (taken.gave, λ sure. taken.goes (λ has. g.met.S.Source.sure_yields c.take_list.new.self given (Some (entry_with taken.gave.term taken.gave.postings)) has (c.in-Ok.ensures.sure sure)), c.send_if_full.ensures.front before _ taken.was))
+
+pub returns-clause-sure : goal.returns-clause-sure
+returns-clause-sure g c =
+    on_ok_if c.next_term.result c.map_err.result _ _ c.map_err.ensures.cases (λ more is. λ sure. let then = rw is at c.next_term.ensures.sure in then (c.in-Ok.ensures.sure sure))

@@ -19,6 +19,9 @@ returns-in-Run-clause-begun g c =
 pub returns-in-Run-clause-no_more_faults : goal.returns-in-Run-clause-no_more_faults
 returns-in-Run-clause-no_more_faults g c = rw c.in-Run.is c.next_term.ensures.no_more_faults
 
+pub returns-in-Run-clause-sure : goal.returns-in-Run-clause-sure
+returns-in-Run-clause-sure g c = rw c.in-Run.is c.next_term.ensures.sure
+
 pub returns-in-Ok-clause-begun : goal.returns-in-Ok-clause-begun
 returns-in-Ok-clause-begun g c =
     let new = c.next_term-in-Index.new.self in

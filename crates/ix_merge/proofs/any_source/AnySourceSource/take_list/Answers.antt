@@ -15,6 +15,9 @@ returns-in-Run-clause-given g c =
 pub returns-in-Run-clause-no_more_faults : goal.returns-in-Run-clause-no_more_faults
 returns-in-Run-clause-no_more_faults g c = rw c.in-Run.is c.take_list.ensures.no_more_faults
 
+pub returns-in-Run-clause-sure : goal.returns-in-Run-clause-sure
+returns-in-Run-clause-sure g c = rw c.in-Run.is c.take_list.ensures.sure
+
 pub returns-in-Ok-clause-given : goal.returns-in-Ok-clause-given
 returns-in-Ok-clause-given g c =
     rw c.in-Index.is (encloses_list Index (SourceMayYield g.R.Read.remaining) SourceHasGiven c.in-Index.index c.take_list-in-Index.new.self _ _ c.in-Ok.listed.documents c.in-Ok.listed.next _ _ c.in-Ok.ensures.given)

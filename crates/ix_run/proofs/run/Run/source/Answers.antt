@@ -3,7 +3,7 @@ use Rattle.ix_text.specs.Parts.{ArePartsOf}
 use Rattle.ix_run_text.specs.Heads.{heading_of, parts_with}
 use Rattle.ix_run.specs.Runs.{TermValue, head_value}
 use Rattle.ix_run.specs.RunSources.{HasGiven, HasLeft, SourceValue, unread}
-use Rattle.ix_run.proofs.RunSources.{always_yields, run_unread, run_yields}
+use Rattle.ix_run.proofs.RunSources.{run_unread, run_yields}
 use Rattle.ix_run.proofs.run.Run.source.Goals as goal
 
 pub new-requires : goal.new-requires
@@ -29,6 +29,3 @@ pub returns-clause-yields : goal.returns-clause-yields
 returns-clause-yields c = λ first collection is entries left.
     let P : SourceValue → Type 0 = λ source. HasLeft source [] entries → ArePartsOf collection (parts_with source.heading entries) in
     subst P (sym (begun c)) (run_yields c.args.self.now first collection is entries) left
-
-pub returns-clause-always : goal.returns-clause-always
-returns-clause-always c = always_yields

@@ -11,11 +11,12 @@ use Rattle.ix_run_text.specs.Reading.{Checked, LieAhead, LieBehind, Told, bytes_
 use Rattle.ix_run_text.specs.RunText.{term_bytes}
 use Rattle.ix_run_text.specs.Sources.{entry_with}
 use Rattle.ix_run_text.specs.declared.run_reader.Place.TheVariants.{Ended}
-use Rattle.ix_run_text.proofs.ReadNext.{TakesEnd, TakesTerm, ahead_begun, ahead_over, begun, begun_ahead, behind_begun, behind_over, end_lies_next, entry_lies_next, known_kept, list_lies_next, over}
+use Rattle.ix_run_text.proofs.ReadNext.{TakesEnd, TakesTerm, ahead_begun, ahead_over, begun, begun_ahead, behind_begun, behind_over, end_lies_next, entry_lies_next, known_kept, list_lies_next, over, over_ahead}
 use Rattle.ix_run_text.proofs.CheckedLists.{drained_on, list_checked, none_checked, same_room}
 use Rattle.ix_postings.proofs.FitPostings.{near_fit}
 use Rattle.ix_run_text.proofs.ReadSkips.{closed-skipped, none_left_of}
 use Rattle.ix_run_text.proofs.SpelledSteps.{list_spelled, none_spelled}
+use Rattle.ix_run_text.proofs.SureReaders.{is_sure}
 use Rattle.ix_run_text.proofs.TakenLists.{none_ahead}
 use Rattle.ix_run_text.proofs.run_reader.RunReader.go_on.Goals as goal
 
@@ -217,3 +218,26 @@ returns-clause-accepted g c (entry ∷ entries) postings faces =
       begun = ap (λ (t : List ℕ). Some t) found.0;
       ahead = begun_ahead (standing mid) term documents bytes checked left after takes told entry.postings entries (subst P (sym found.0) ahead) found.1 found.2 (known_kept between after _ c.in_ok-after.ensures.kept found.3);
     }
+
+pub returns-in_default-clause-sure : goal.returns-in_default-clause-sure
+returns-in_default-clause-sure g c sure =
+    let mid = c.skip.new.self in
+    let left = known_left g.R.Read.remaining mid.input in
+    let after = known_left g.R.Read.remaining c.read_term.new.input in
+    let held = bytes_held c.read_term.new.input in
+    let checked : Checked = record { marks = mid.marks; held = held } in
+    let drained = c.skip.ensures.drained in
+    let end = rw c.in_default.is at c.in_ok-found.ensures.end in
+    let taken = rw c.in_default.is at c.in_ok-found.ensures.taken in
+    let told = drained_on (heading_of mid.head).rows mid.marks mid.next mid.documents mid.bytes (bytes_held mid.input) held in
+    let takes : TakesEnd (standing mid) left after = record { drained = drained; empty = none_ahead mid drained; taken = taken; end = end.0 } in
+    let ahead = (c.skip.ensures.skipped.accepted sure.postings sure.entries sure.faces).1 in
+    let none = returns-in_default-clause-accepted g c sure.entries sure.postings sure.faces in
+    let P : List DictionaryEntry → Type 0 = λ es. LieAhead (standing mid) left [] es in
+    is_sure g.R.Read.remaining _ [] []
+    (over_ahead (standing mid) (string_bytes c.read_term.new.term) end.1 checked (λ numbers known. told numbers drained known) left after takes (subst P none ahead))
+
+pub returns-clause-sure : goal.returns-clause-sure
+returns-clause-sure g c sure =
+    let first = returns-clause-accepted g c sure.entries sure.postings sure.faces in
+    is_sure g.R.Read.remaining _ first.entry.postings first.rest first.ahead

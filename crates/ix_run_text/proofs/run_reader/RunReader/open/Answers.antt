@@ -9,6 +9,7 @@ use Rattle.ix_run_text.proofs.CheckedLists.{checked_none}
 use Rattle.ix_run_text.proofs.ReadOpen.{opened_faces, opened_yields, text_heading, text_parts, text_whole, unread}
 use Rattle.ix_run_text.specs.RunReaders.{bytes_left}
 use Rattle.ix_run_text.proofs.SpelledSteps.{nothing_spelled}
+use Rattle.ix_run_text.proofs.SureReaders.{is_sure}
 use Rattle.ix_run_text.proofs.run_reader.RunReader.open.Goals as goal
 
 pub returns-clause-taken : goal.returns-clause-taken
@@ -68,3 +69,6 @@ returns-clause-faced g c first collection bytes is known =
 
 pub invariant_of-result-clause-left : goal.invariant_of-result-clause-left
 invariant_of-result-clause-left g c = nothing_spelled 0 (bytes_held c.read_head.new.input)
+
+pub returns-clause-sure : goal.returns-clause-sure
+returns-clause-sure g c first collection bytes is known = is_sure g.R.Read.remaining _ [] is.parts.entries (returns-clause-faced g c first collection bytes is known).1

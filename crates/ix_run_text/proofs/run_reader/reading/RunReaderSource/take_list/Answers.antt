@@ -10,6 +10,7 @@ use Rattle.ix_run_text.proofs.RaisedLists.{may_raise, raised_full}
 use Rattle.ix_run_text.proofs.ReadFronts.{extended-nil}
 use Rattle.ix_run_text.proofs.ReadSkips.{ends_postings}
 use Rattle.ix_run_text.proofs.ReadSteps.{term_at_hand}
+use Rattle.ix_run_text.proofs.SureReaders.{is_sure}
 use Rattle.ix_run_text.proofs.TakenLists.{documents_ahead}
 use Rattle.ix_run_text.proofs.WholeLists.{shift_after}
 use Rattle.ix_run_text.proofs.run_reader.reading.RunReaderSource.take_list.Goals as goal
@@ -80,3 +81,6 @@ returns-clause-accepted g c postings entries faces =
           ∙ ap (λ (ps : List Posting). c.args.out.now.items ++ list_bytes_from c.args.next (shifted self.head.first ps)) (is ∙ sym found.0);
       ahead = found.1;
     }
+
+pub returns-clause-sure : goal.returns-clause-sure
+returns-clause-sure g c sure = is_sure g.R.Read.remaining _ [] sure.entries (c.skip.ensures.skipped.accepted sure.postings sure.entries sure.faces).1
