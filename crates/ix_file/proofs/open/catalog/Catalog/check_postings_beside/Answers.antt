@@ -20,7 +20,7 @@ check_lists_beside-requires-clause-ready g c claims room =
       has = has;
       few_documents = omega (arith, is.rows_counted, c.requires.few, length-map items (row_in texts.documents));
       few_tokens = is.rows.few_tokens;
-      room = subst (HasRoom claims) (c.total.ensures rows has) room;
+      room = subst (HasRoom claims) (c.total-total.ensures rows has) room;
     }
 
 pub returns-in_err-longs-clause-refused : goal.returns-in_err-longs-clause-refused
