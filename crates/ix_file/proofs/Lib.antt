@@ -36,7 +36,6 @@ pub mod RowReading
 pub mod StopReading
 pub mod TablesFound
 pub mod TablesRefused
-pub mod TokenTotals
 pub use Rattle.ix_index_text.proofs.EndingLemmas
 pub use Rattle.ix_index_text.proofs.GramLists
 pub use Rattle.ix_index_text.proofs.GramsExist

@@ -1,14 +1,16 @@
 -- The tokens before each document in a table: one more document, and where a document's tokens are.
-use Rattle.std.proofs.Common.{◌≡◌, ℕ, ◌+◌, ◌-◌, ◌<◌, ◌≤◌, List, [], ◌∷◌, ◌++◌, length, get_or, Some, slice_get, sum_by, refl, sym, ap, ◌∙◌, inl, inr, arith}
+use Rattle.std.proofs.Common.{◌≡◌, ℕ, ◌+◌, ◌-◌, ◌^◌, ◌<◌, ◌≤◌, List, [], ◌∷◌, ◌++◌, length, get_or, map, take, Some, slice_get, sum_by, refl, sym, ap, ◌∙◌, inl, inr, arith}
 use Rattle.std.proofs.lemmas.Bool.{cases_lt}
 use Rattle.std.proofs.lemmas.List.{length-append, get_or_append_left, get_or_push}
-use Rattle.std.proofs.lemmas.List.Sums.{sum_by_push}
+use Rattle.std.proofs.lemmas.List.Sums.{sum_by_more_le, sum_by_push}
 use Rattle.std.proofs.lemmas.Option.{slice_get_cases}
 use Rattle.ix_text.specs.Parts.{DocumentRow}
 use Rattle.ix_text.specs.PartsLaws.{IsInRange}
 use Rattle.ix_text.specs.TokenNumbers.{tokens_before}
+use Rattle.ix_text.proofs.PartsLawful.{sum_by-map}
 use Rattle.ix_text.proofs.TokensBefore.{count_of, tokens_before_end, tokens_before_front, tokens_before_next}
-use Rattle.ix_postings.specs.TokenTables.{AreStarts, IsSpan}
+use Rattle.ix_postings.specs.TokenTables.{AreStarts, HasRoomFor, HasTokens, IsSpan}
+use Rattle.ix_postings.specs.declared.token_table.TokenTable.{TokenTable}
 
 pub starts_none : AreStarts (0 ∷ []) []
 starts_none = record {
@@ -38,6 +40,15 @@ starts_more starts rows row all are is = record {
           let end : length starts ≡ document = omega (arith, are.counted, long, h) in
           get_or_push starts all none document end ∙ is ∙ sym (sum_by_push count_of rows row) ∙ sym (tokens_before_end (rows ++ row ∷ []) document (omega (arith, are.counted, long, after)))
     ]
+
+-- there is room for the next of documents that have at most 2^28 tokens
+pub room_for : {X : Type 0} (row_of : X → DocumentRow) (table : TokenTable) (docs : List X) (i : ℕ) (d : X) → HasTokens table (map row_of (take i docs)) → i < length docs → sum_by count_of (map row_of docs) ≤ 2 ^ 28
+    → HasRoomFor table (row_of (get_or docs i d)).tokens
+room_for {X} row_of table docs i d has within few = record {
+  rows = map row_of (take i docs);
+  has = has;
+  few = omega (arith, few, sum_by-map count_of row_of (take i docs), sum_by-map count_of row_of docs, sum_by_more_le (λ (x : X). count_of (row_of x)) docs i d within);
+}
 
 -- two starts in a row tell where a document's tokens lie
 pub span_of_starts : (starts : List ℕ) (rows : List DocumentRow) (document first next : ℕ) → AreStarts starts rows → document + 1 < length starts → first ≡ get_or starts document first → next ≡ get_or starts (document + 1) next → IsSpan rows document (first, next - first)

@@ -13,7 +13,7 @@ pub struct TokenTable {
 }
 
 impl TokenTable {
-    ghost use Rattle.std.specs.Prelude.{◌≡◌, ◌≤◌, ◌++◌, ◌∷◌, [], List, length, IfOk, OnOk, OnErr, MatchOption};
+    ghost use Rattle.std.specs.Prelude.{◌≡◌, ◌≤◌, ◌++◌, ◌∷◌, [], List, length, sum_by, IfOk, OnOk, OnErr, MatchOption};
     ghost use Rattle.ix_text.specs.Parts.{DocumentRow};
     ghost use Rattle.ix_postings.specs.TokenTables.{HasRoomFor, HasTokens, IsSpan};
 
@@ -36,9 +36,17 @@ impl TokenTable {
         ensures refused { (rows : List DocumentRow) → HasTokens self.old rows
             → OnErr result (HasTokens self.new rows) }
     {
-        let before = self.starts[self.starts.len() - 1];
+        let before = self.total();
         self.starts.push(before + tokens)?;
         Ok(())
+    }
+
+    /// How many tokens the documents have together.
+    pub fn total(&self) -> u32
+        ensures { (rows : List DocumentRow) → HasTokens self.now rows
+            → result ≡ sum_by (λ row. row.tokens) rows }
+    {
+        self.starts.last().copied().unwrap_or(0)
     }
 
     /// The number of the first token of the document of this number, and how many tokens the document has. None where

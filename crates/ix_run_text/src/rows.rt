@@ -1,8 +1,8 @@
 //! Reading the documents of a run text.
-ghost use Rattle.std.specs.Prelude.{◌≡◌, ◌≤◌, ◌+◌, ◌^◌, ◌↔◌, ◌++◌, List, ℕ, length, flat_map, map, string_bytes, All, Some, IsTrue, IfOk, IfErr, MatchResult};
+ghost use Rattle.std.specs.Prelude.{◌≡◌, ◌≤◌, ◌+◌, ◌^◌, ◌++◌, List, ℕ, length, flat_map, map, string_bytes, Some, IfOk, IfErr, MatchResult};
 ghost use Rattle.std.specs.Io.KnownBytes.{Consumes};
 ghost use Rattle.ix_vbyte.specs.Code.{code_of};
-ghost use Rattle.ix_text.specs.Collections.{IsName, IsNameByte};
+ghost use Rattle.ix_text.specs.Collections.{IsName};
 ghost use Rattle.ix_text.specs.Parts.{DocumentRow, row_bytes};
 ghost use Rattle.ix_run_text.specs.Heads.{row_of_doc};
 ghost use Rattle.ix_run_text.specs.Inputs.{known_left};
@@ -12,7 +12,7 @@ ghost use Rattle.ix_run_text.specs.RunTextErrors.{IsRefusal};
 use crate::heading::{CODE_LIMIT, read_counted_text};
 use crate::input::Input;
 use crate::{RunDoc, RunTextError};
-use ix_text::MAX_TOKENS;
+use ix_text::{MAX_TOKENS, is_unbroken};
 use std::alloc::Global;
 use std::io::Read;
 
@@ -70,12 +70,4 @@ fn read_row<R: Read>(
         return Err(RunTextError::TooLarge);
     }
     Ok(RunDoc { name, tokens })
-}
-
-/// Whether the text holds neither a TAB nor an LF.
-fn is_unbroken(text: &str) -> bool
-    ensures { IsTrue result ↔ All IsNameByte text.now }
-{
-    let bytes = text.as_bytes();
-    !bytes.contains(&b'\t') && !bytes.contains(&b'\n')
 }

@@ -12,7 +12,7 @@ use crate::heading::read_head;
 use crate::input::Input;
 use crate::list::read_list;
 use crate::term::read_term;
-use crate::token_counts::{table_of, token_total};
+use crate::token_counts::table_of;
 use crate::{RunHead, RunTextError};
 use ix_postings::{TokenMarks, TokenTable};
 use ix_vbyte::cursor::first_posting;
@@ -124,7 +124,7 @@ impl<R: Read + Drop> RunReader<R> {
         let mut input = Input::new(alloc, reader)?;
         let head = read_head(alloc, &mut input)?;
         let tokens = table_of(alloc, &head.docs)?;
-        let marks = TokenMarks::new(alloc, token_total(&head.docs))?;
+        let marks = TokenMarks::new(alloc, tokens.total())?;
         Ok(RunReader {
             alloc,
             input,

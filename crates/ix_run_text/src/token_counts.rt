@@ -1,5 +1,5 @@
 //! The tokens of a run's documents, counted.
-ghost use Rattle.std.specs.Prelude.{◌≡◌, ◌≤◌, ◌^◌, map, sum_by, IfOk};
+ghost use Rattle.std.specs.Prelude.{◌≤◌, ◌^◌, map, sum_by, IfOk};
 ghost use Rattle.ix_postings.specs.TokenTables.{HasTokens};
 ghost use Rattle.ix_run_text.specs.Heads.{row_of_doc};
 
@@ -17,12 +17,4 @@ pub(crate) fn table_of(alloc: Global, docs: &[RunDoc]) -> Result<TokenTable, All
         table.push(doc.tokens)?;
     }
     Ok(table)
-}
-
-/// How many tokens the documents have together.
-pub(crate) fn token_total(docs: &[RunDoc]) -> u32
-    requires { sum_by (λ row. row.tokens) (map row_of_doc docs.now) ≤ 2 ^ 28 }
-    ensures { result ≡ sum_by (λ row. row.tokens) (map row_of_doc docs.now) }
-{
-    docs.iter().map(|doc| doc.tokens).sum()
 }

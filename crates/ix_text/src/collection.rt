@@ -1,9 +1,9 @@
 //! Collection texts: named documents, each on one line.
-ghost use Rattle.std.specs.Prelude.{◌≡◌, ◌<◌, ◌⊎◌, ℕ, List, Contains, map, IfNone, IfSome, MatchOption};
+ghost use Rattle.std.specs.Prelude.{◌≡◌, ◌<◌, ◌⊎◌, ◌↔◌, ℕ, List, All, Contains, map, IfNone, IfSome, IsTrue, MatchOption};
 ghost use Rattle.std.proofs.Props.{props};
 ghost use Rattle.ix_text.specs.CollectionFaults.{IsCutAtFirst};
 ghost use Rattle.ix_text.specs.CollectionLaws.{FaultsExcludeDocuments, HasDocumentsOrFault, HasOneFault, HasOneListOfDocuments};
-ghost use Rattle.ix_text.specs.Collections.{NamedText, IsName};
+ghost use Rattle.ix_text.specs.Collections.{NamedText, IsName, IsNameByte};
 ghost use Rattle.ix_text.specs.Sizes.{AreSmall};
 ghost use Rattle.ix_text.specs.declared.collection.CollectionError.{CollectionError};
 
@@ -210,6 +210,14 @@ fn cut_at(text: &str, byte: u8) -> Option<(&str, &str)>
 {
     let at = memchr(byte, text.as_bytes())?;
     Some((&text[..at], &text[at + 1..]))
+}
+
+/// Whether the text holds neither a TAB nor an LF, as a name has to.
+pub fn is_unbroken(text: &str) -> bool
+    ensures { IsTrue result ↔ All IsNameByte text.now }
+{
+    let bytes = text.as_bytes();
+    !bytes.contains(&b'\t') && !bytes.contains(&b'\n')
 }
 
 /// A law: a text has one list of documents or one fault, and never both.

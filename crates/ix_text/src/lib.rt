@@ -13,7 +13,7 @@ mod term;
 mod token;
 mod windows;
 
-pub use collection::{Collection, CollectionError, Doc, has_documents_or_a_fault};
+pub use collection::{Collection, CollectionError, Doc, has_documents_or_a_fault, is_unbroken};
 pub use limits::{
     MAX_DOCUMENTS, MAX_NAME_BYTES, MAX_STOP_TERMS, MAX_TERM_BYTES, MAX_TEXT_BYTES, MAX_TOKENS,
 };

@@ -79,7 +79,7 @@ impl Catalog {
     {
         let section = frame.sections.postings;
         let tokens = table_of(alloc, &self.rows)?;
-        let claims = Claims::new(alloc, token_total(&self.rows), section.len())?;
+        let claims = Claims::new(alloc, tokens.total(), section.len())?;
         let longs = check_lists(alloc, section, &self.terms, &tokens, claims)?;
         Ok(longs)
     }
@@ -102,7 +102,7 @@ impl Catalog {
     {
         let section = frame.sections.postings;
         let tokens = table_of(alloc, &self.rows)?;
-        let total = token_total(&self.rows);
+        let total = tokens.total();
         let longs = check_lists_beside(rt, alloc, section, &self.terms, &tokens, total)?;
         Ok(longs)
     }
@@ -160,12 +160,4 @@ fn table_of(alloc: Global, rows: &[Row]) -> Result<TokenTable, AllocError>
         table.push(row.tokens)?;
     }
     Ok(table)
-}
-
-/// How many tokens documents have, of which there are at most 2^28.
-fn token_total(rows: &[Row]) -> u32
-    requires { sum_by (λ row. row.tokens) rows.now ≤ 2 ^ 28 }
-    ensures { result ≡ sum_by (λ row. row.tokens) rows.now }
-{
-    rows.iter().map(|row| row.tokens).sum()
 }

@@ -1,8 +1,8 @@
 //! The documents of an index text.
-ghost use Rattle.std.specs.Prelude.{◌≡◌, ◌≢◌, ◌⊎◌, ◌↔◌, ℕ, ◌+◌, ◌^◌, ◌<◌, ◌++◌, List, length, IsTrue, All, IfOk, IfErr, OnErr};
+ghost use Rattle.std.specs.Prelude.{◌≡◌, ◌≢◌, ◌⊎◌, ℕ, ◌+◌, ◌^◌, ◌<◌, ◌++◌, List, length, All, IfOk, IfErr, OnErr};
 ghost use Rattle.ix_vbyte.specs.Code.{code_of};
 ghost use Rattle.ix_vbyte.specs.Texts.{counted};
-ghost use Rattle.ix_text.specs.Collections.{IsName, IsNameByte};
+ghost use Rattle.ix_text.specs.Collections.{IsName};
 ghost use Rattle.ix_text.specs.Parts.{DocumentRow, row_bytes};
 ghost use Rattle.ix_file.specs.OpenedRows.{AreRows, IsNameRow, row_in, rows_in};
 ghost use Rattle.ix_index_text.specs.Sections.{documents_section};
@@ -11,7 +11,7 @@ ghost use Rattle.ix_file.specs.declared.open_error.OpenError.TheVariants.{Memory
 use crate::open::front::{read_number, read_text};
 use crate::{OpenError, Section};
 use ix_index_text::MIN_ROW_BYTES;
-use ix_text::MAX_TOKENS;
+use ix_text::{MAX_TOKENS, is_unbroken};
 use std::alloc::Global;
 
 /// A document: where its name stands in DOCS, how many bytes the name has, and how many tokens the document.
@@ -87,20 +87,8 @@ fn read_name(left: &[u8]) -> Result<(&str, &[u8]), OpenError>
         ++ rest) }
 {
     let (name, rest) = read_text(Section::Documents, OpenError::Name, left)?;
-    if !is_unbroken(name.as_bytes()) {
+    if !is_unbroken(name) {
         return Err(OpenError::Name);
     }
     Ok((name, rest))
-}
-
-/// Whether there is neither a TAB nor an LF.
-fn is_unbroken(name: &[u8]) -> bool
-    ensures { IsTrue result ↔ All IsNameByte name.now }
-{
-    for &byte in name {
-        if byte == b'\t' || byte == b'\n' {
-            return false;
-        }
-    }
-    true
 }

@@ -1,7 +1,8 @@
 -- Nothing is buffered at first, so that what is left is what the reader has.
-use Rattle.std.proofs.Common.{ℕ, List, [], Some, string_bytes, ap, subst, sym, ◌∙◌}
+use Rattle.std.proofs.Common.{ℕ, List, [], Some, arith, map, string_bytes, ap, subst, sym, ◌∙◌}
 use Rattle.std.proofs.lemmas.Result.{err_from_is_err_and}
-use Rattle.ix_run_text.specs.Heads.{Heading, heading_of}
+use Rattle.ix_postings.specs.TokenTables.{HasTokens}
+use Rattle.ix_run_text.specs.Heads.{Heading, heading_of, row_of_doc}
 use Rattle.ix_run_text.specs.Inputs.{bytes_held, known_left}
 use Rattle.ix_run_text.specs.Reading.{bytes_ahead, heading_from}
 use Rattle.ix_run_text.specs.Sources.{AreWhole}
@@ -72,3 +73,13 @@ invariant_of-result-clause-left g c = nothing_spelled 0 (bytes_held c.read_head.
 
 pub returns-clause-sure : goal.returns-clause-sure
 returns-clause-sure g c first collection bytes is known = is_sure g.R.Read.remaining _ [] is.parts.entries (returns-clause-faced g c first collection bytes is known).1
+
+pub invariant_of-result-clause-narrow : goal.invariant_of-result-clause-narrow
+invariant_of-result-clause-narrow g c =
+    let has : HasTokens c.in_ok-tokens.tokens (map row_of_doc c.in_ok-head.head.docs.items) = rw (← c.deref.ensures.value) c.in_ok-tokens.ensures in
+    omega (arith, c.in_ok-marks.ensures.narrow, c.total.ensures _ has)
+
+pub invariant_of-result-clause-room : goal.invariant_of-result-clause-room
+invariant_of-result-clause-room g c =
+    let has : HasTokens c.in_ok-tokens.tokens (map row_of_doc c.in_ok-head.head.docs.items) = rw (← c.deref.ensures.value) c.in_ok-tokens.ensures in
+    omega (arith, c.in_ok-marks.ensures.room, c.total.ensures _ has)

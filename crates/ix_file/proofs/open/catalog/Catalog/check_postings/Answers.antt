@@ -1,10 +1,7 @@
-use Rattle.std.proofs.Common.{◌≡◌, ◌∙◌, sym, ap, subst, ⊎_elim, inl, inr, arith}
-use Rattle.std.specs.List.{sum_by}
+use Rattle.std.proofs.Common.{subst, ⊎_elim, inl, inr, arith}
 use Rattle.std.proofs.lemmas.List.{length-map}
 use Rattle.std.proofs.lemmas.Result.{err_from_is_err_and}
 use Rattle.ix_postings.specs.TokenTables.{HasTokens}
-use Rattle.ix_text.proofs.PartsLawful.{sum_by-map}
-use Rattle.ix_text.proofs.TokensBefore.{count_of}
 use Rattle.ix_file.specs.Claimed.{HasRoom}
 use Rattle.ix_file.specs.Frames.{texts_in, version_in}
 use Rattle.ix_file.specs.OpenedRows.{row_in, rows_in}
@@ -18,14 +15,12 @@ check_lists-requires-clause-ready c =
     let rows = rows_in texts.documents items in
     let is = c.requires.catalog in
     let has : HasTokens c.in_ok-tokens.tokens rows = rw (← c.deref.ensures.value) (c.in_ok-tokens.ensures texts.documents) in
-    let total : c.token_total.result ≡ sum_by count_of rows =
-    c.token_total.ensures ∙ ap (sum_by (λ row. row.tokens)) c.deref-2.ensures.value ∙ sym (sum_by-map count_of (row_in texts.documents) items) in
     record {
       rows = rows;
       has = has;
       few_documents = omega (arith, is.rows_counted, c.requires.few, length-map items (row_in texts.documents));
       few_tokens = is.rows.few_tokens;
-      room = subst (HasRoom c.in_ok-claims.claims) total c.in_ok-claims.ensures.room;
+      room = subst (HasRoom c.in_ok-claims.claims) (c.total.ensures rows has) c.in_ok-claims.ensures.room;
     }
 
 pub returns-in_err-longs-clause-refused : goal.returns-in_err-longs-clause-refused
