@@ -3,6 +3,7 @@
 ghost use Rattle.std.specs.Prelude.{◌≡◌, ◌≢◌, Some, IfErr, IfOk, IfSome, OnOk};
 ghost use Rattle.std.specs.Io.Cursor.{cursor_remaining};
 ghost use Rattle.ix_files.specs.Locations.{place_of};
+ghost use Rattle.ix_files.specs.MemoryViews.{folder_of};
 ghost use Rattle.ix_files.specs.Opened.{IsReadError};
 ghost use Rattle.ix_files.specs.Steps.{Removes, Renames, Settles, Syncs};
 
@@ -20,7 +21,8 @@ use std::sync::Arc;
 use std::sync::atomic::{AtomicUsize, Ordering};
 
 /// Files in memory, of which all that [`Files`] promises is proved. Tests fill them, read them, and let a call fail. They are all
-/// in one folder: a path is a name in it. A file that is being written is locked until it is synced.
+/// in the folder `.`: a path is a name in it. A path with no `/` is that of another folder, too. A file that is being written is
+/// locked until it is synced.
 #[derive(Drop)]
 pub struct MemoryFiles {
     alloc: Global,
@@ -30,6 +32,13 @@ pub struct MemoryFiles {
     streams: Vec<Stream>,
     room: usize,
     failures: Failures,
+}
+
+/// The folder to which a path of one leads.
+fn folder_at(path: &str) -> &str
+    ensures { result.now ≡ folder_of path.now }
+{
+    if path == "." { "" } else { path }
 }
 
 /// A device or a pipe: its path, and what it gives or was given last.
@@ -271,7 +280,10 @@ impl Files for MemoryFiles {
 
     fn locate_folder(&self, path: &str) -> Result<String, FileError> {
         self.failures.pass()?;
-        Ok(String::from_str(self.alloc, path)?)
+        if path.contains('/') {
+            return Err(FileError::Failed);
+        }
+        Ok(String::from_str(self.alloc, folder_at(path))?)
     }
 
     fn is_same(&self, one: &str, other: &str) -> Result<bool, FileError> {
