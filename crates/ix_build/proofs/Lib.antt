@@ -10,7 +10,7 @@ pub mod MergedParts
 pub mod OverBlocks
 pub mod ReadBackLemmas
 pub mod RunMerging
-pub mod RunPathLemmas
+pub mod RunNameLemmas
 pub mod SavedPlaces
 pub mod SavedWork
 pub mod UnreadLemmas

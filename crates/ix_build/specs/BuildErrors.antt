@@ -5,6 +5,8 @@ use Rattle.ix_merge.specs.declared.merge_error.MergeError.{MergeError}
 use Rattle.ix_merge.specs.declared.merge_error.MergeError.TheVariants as merge
 use Rattle.ix_build.specs.declared.build_error.BuildError.{BuildError}
 use Rattle.ix_build.specs.declared.build_error.BuildError.TheVariants.{Thread, Spill, Write, Memory}
+use Rattle.ix_build.specs.declared.by_makers.ByError.{ByError}
+use Rattle.ix_build.specs.declared.by_makers.ByError.TheVariants as by
 use Rattle.ix_pool.specs.declared.maker.MakeError.TheVariants as make
 use Rattle.ix_pool.specs.declared.pool.WorkError.{WorkError}
 use Rattle.ix_pool.specs.declared.pool.WorkError.TheVariants as work
@@ -57,6 +59,21 @@ abbrev pub told_of_work : WorkError → BuildError
 told_of_work (work.Thread worker) = Thread worker
 told_of_work (work.Make place error) = Memory
 told_of_work work.Memory = Memory
+
+-- the errors of building by makers that refuse no place, if consecutive blocks are merged
+abbrev pub MayComeOfBuilding : ByError → Type 0
+MayComeOfBuilding (by.Thread worker) = Unit {0}
+MayComeOfBuilding (by.Make place make.Refused) = ⊥
+MayComeOfBuilding (by.Make place make.Memory) = Unit {0}
+MayComeOfBuilding (by.Merge error) = MayComeOfMerge error
+MayComeOfBuilding by.Memory = Unit {0}
+
+-- the error of building by makers as that of a build
+abbrev pub told_of_building : ByError → BuildError
+told_of_building (by.Thread worker) = Thread worker
+told_of_building (by.Make place error) = Memory
+told_of_building (by.Merge error) = told_of_merge error
+told_of_building by.Memory = Memory
 
 -- which errors come with runs in a folder: `Thread` of one of the plan's workers, and `Spill` of a block
 abbrev pub IsFolderRefusal : PlanValue → List NamedText → BuildError → Type 0
