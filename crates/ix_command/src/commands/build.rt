@@ -8,7 +8,7 @@ ghost use Rattle.ix_build.specs.RunNames.{IsRunOf};
 ghost use Rattle.ix_build.specs.RunPieces.{AreRunsOfTexts};
 ghost use Rattle.ix_command.specs.BuiltIndexes.{AreOfFiles, ComeBack, IsBuildRefused, IsBuilt, IsUnbuilt, RefusesDocuments};
 ghost use Rattle.ix_command.specs.BuiltRuns.{IsOfRuns, LeavesNoRuns, RemovesRuns};
-ghost use Rattle.ix_command.specs.Files.{Holding, held_in, keeping_of};
+ghost use Rattle.ix_command.specs.Files.{held_in, keeping_of};
 ghost use Rattle.ix_command.specs.SavedIndexes.{SavesAlike, SavesIndex};
 ghost use Rattle.ix_files.specs.Outputs.{LeavesOthers, LeavesTarget, now_in, saved_in};
 
@@ -99,10 +99,10 @@ fn keep_from_runs<'a, F: Files>(
 ) -> Result<(), Refusal<'a>>
     ensures apart { OnOk result ((F.view files.now).honest → ¬ (IsRunOf plan.now documents.now
         (F.view files.now) ((F.view files.now).place output.entry.now))) }
-    ensures refused { (holds : Holding) (terms : List (List ℕ))
-        → AreOfFiles holds stop.entry collection.entry.now terms documents.now
-        → IfErr result (IsBuildRefused holds stop.entry plan.now collection.entry.now
-        output.entry.now) }
+    ensures refused { (terms : List (List ℕ)) → AreOfFiles (held_in (F.view files.now)) stop.entry
+        collection.entry.now terms documents.now
+        → IfErr result (IsBuildRefused (held_in (F.view files.now)) stop.entry plan.now
+        collection.entry.now output.entry.now) }
 {
     if let Some(path) = stop {
         keep_from(alloc, files, documents, plan, path)?;
@@ -192,7 +192,7 @@ fn save<'a, R: Threads + Wait + Sync, F: Files, V: Watch>(
 ) -> Result<(), Refusal<'a>>
     requires apart { (F.view files.old).honest
         → ¬ (IsRunOf plan.now documents.now (F.view files.old)
-        ((F.view files.old).place path.entry.now)) }
+        ((F.view files.old).place path.now)) }
     ensures saved { OnOk result (ComeBack
         (keeping_of F.Shared.Reader.remaining F.Shared.shared F.Shared.back)
         plan.now stop.now documents.now

@@ -34,7 +34,7 @@ returns-in_err-keep_from_runs-clause-refused g c =
     let read = rw c.deref.ensures.value at c.in_ok-documents.ensures.read in
     let of_files = documents_of_files _ _ _ _ _ _ c.in_ok-text.ensures.front c.in_ok-stop_list.ensures.held read in
     handed_up _ c.from_residual-in_err-keep_from_runs.result c.in_err-keep_from_runs.field-0.0 c.from_residual-in_err-keep_from_runs.ensures.1
-    (c.in_err-keep_from_runs.ensures.refused _ _ of_files)
+    (c.in_err-keep_from_runs.ensures.refused _ of_files)
 
 pub returns-then-is_some : goal.returns-then-is_some
 returns-then-is_some g c =
