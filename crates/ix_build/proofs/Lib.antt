@@ -1,3 +1,4 @@
+pub mod BlockCounts
 pub mod BlockLemmas
 pub mod BlockMaking
 pub mod BlockPieces

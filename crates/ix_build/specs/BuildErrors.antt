@@ -1,5 +1,7 @@
 -- The errors of building a collection: their numbers, their names as they are printed, and when each one comes.
 use Rattle.std.specs.Prelude.{ℕ, ◌<◌, List, ◌++◌, codes, decimal}
+use Rattle.ix_files.specs.declared.file_error.FileError.{FileError}
+use Rattle.ix_files.specs.declared.file_error.FileError.TheVariants as file
 use Rattle.ix_text.specs.Collections.{NamedText}
 use Rattle.ix_merge.specs.declared.merge_error.MergeError.{MergeError}
 use Rattle.ix_merge.specs.declared.merge_error.MergeError.TheVariants as merge
@@ -74,6 +76,11 @@ told_of_building (by.Thread worker) = Thread worker
 told_of_building (by.Make place error) = Memory
 told_of_building (by.Merge error) = told_of_merge error
 told_of_building by.Memory = Memory
+
+-- the error of a folder for runs that cannot be looked at, as that of its first run
+abbrev pub told_of_folder : FileError → BuildError
+told_of_folder file.Memory = Memory
+told_of_folder error = Spill 0
 
 -- which errors come with runs in a folder: `Thread` of one of the plan's workers, and `Spill` of a block
 abbrev pub IsFolderRefusal : PlanValue → List NamedText → BuildError → Type 0

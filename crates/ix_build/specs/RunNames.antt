@@ -1,6 +1,6 @@
 -- The names of the files in which runs are kept.
-use Rattle.std.specs.Prelude.{◌≡◌, ◌⊎◌, ◌<◌, ◌-◌, ℕ, List, ◌++◌, length, codes, decimal, replicate, Some, slice_get}
-use Rattle.ix_files.specs.Slots.{Nothing, Place}
+use Rattle.std.specs.Prelude.{◌≡◌, ◌⊎◌, ◌↔◌, ◌<◌, ◌-◌, ℕ, List, ◌++◌, length, codes, decimal, replicate, Some, slice_get}
+use Rattle.ix_files.specs.Slots.{IsAmong, Nothing, Place}
 use Rattle.ix_files.specs.Views.{View}
 use Rattle.ix_text.specs.Collections.{NamedText}
 use Rattle.ix_build.specs.Blocks.{IsBlockPlace}
@@ -30,13 +30,13 @@ pub record IsRunOf (plan : PlanValue) (texts : List NamedText) (view : View) (pl
   pub of_block : IsBlockPlace plan.cut texts block
   pub named : place ≡ run_place (view.folder folder) block
 
+-- They are the names of all runs of this plan.
+abbrev pub AreRunNamesOf : PlanValue → List NamedText → View → List Place → Type 0
+AreRunNamesOf plan texts view names = (place : Place) → IsAmong names place ↔ IsRunOf plan texts view place
+
 -- No run of the plan is left, or the system failed.
 abbrev pub HasNoRuns : PlanValue → List NamedText → View → View → Type 0
 HasNoRuns plan texts old new = ((place : Place) → IsRunOf plan texts old place → (new.slots place).now ≡ Nothing) ⊎ (old.faults < new.faults)
-
--- The system did not let the path, or the folder of the plan, be looked at.
-abbrev pub MayNotBeSeen : (List ℕ → Type 0) → PlanValue → List ℕ → Type 0
-MayNotBeSeen failed plan path = failed path ⊎ ((folder : List ℕ) × (plan.folder ≡ Some folder) × failed folder)
 
 -- The bytes may come back for a place of files that are named as runs are.
 pub record MayComeBack {S : Type 0} (shared : S → List Place) (back : S → ℕ → List ℕ → Type 0) (place : ℕ) (bytes : List ℕ) : Type 0 where

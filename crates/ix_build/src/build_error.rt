@@ -2,6 +2,7 @@
 ghost use Rattle.std.specs.Prelude.{◌≡◌};
 
 use crate::by_makers::ByError;
+use ix_files::FileError;
 use ix_merge::MergeError;
 use ix_pool::{MakeError, WorkError};
 use ix_run::RunTextError;
@@ -22,7 +23,7 @@ pub enum BuildError {
 }
 
 impl BuildError {
-    ghost use Rattle.ix_build.specs.BuildErrors.{MayComeOfBuilding, MayComeOfMerge, MayComeOfWork, build_error_number, told_of_building, told_of_merge, told_of_work};
+    ghost use Rattle.ix_build.specs.BuildErrors.{MayComeOfBuilding, MayComeOfMerge, MayComeOfWork, build_error_number, told_of_building, told_of_folder, told_of_merge, told_of_work};
     ghost use Rattle.ix_build.specs.ReadBack.{told_of_read_merge, told_of_reading};
 
     /// The error's number in the list of these errors, from 1.
@@ -71,6 +72,16 @@ impl BuildError {
             ByError::Make(_, MakeError::Refused) => unreachable!(),
             ByError::Merge(error) => BuildError::of_merge(error),
             ByError::Make(_, MakeError::Memory) | ByError::Memory => BuildError::Memory,
+        }
+    }
+
+    /// The error of a folder for runs that cannot be looked at. A collection without documents has a block 0 too.
+    pub(crate) fn of_folder(error: FileError) -> BuildError
+        ensures { result ≡ told_of_folder error }
+    {
+        match error {
+            FileError::Memory => BuildError::Memory,
+            _ => BuildError::Spill(0),
         }
     }
 

@@ -39,21 +39,6 @@ fn put_run<W: Write + Drop>(alloc: Global, writer: W, run: &Run) -> Result<W, St
     }
 }
 
-/// Keeps the run of a place in its file.
-fn keep<F: SharedFiles>(
-    alloc: Global,
-    files: &F,
-    place: usize,
-    run: &Run,
-) -> Result<(), StoreError>
-    ensures { OnOk result (F.kept files.now place (run_bytes run.now)) }
-{
-    let writer = files.create(place)?;
-    let writer = put_run(alloc, writer, run)?;
-    files.end(place, writer)?;
-    Ok(())
-}
-
 impl<'a, F> FolderStore<'a, F> {
     ghost use Rattle.ix_build.specs.FolderStores.{faults_of, files_of, saved_of};
 
@@ -109,7 +94,17 @@ impl<'a, F: SharedFiles> RunStore for FolderStore<'a, F> {
             self.count();
             return Err(StoreError::Memory);
         }
-        match keep(self.alloc, self.files, place, run) {
+        let kept = match self.files.create(place) {
+            Ok(writer) => match put_run(self.alloc, writer, run) {
+                Ok(writer) => match self.files.end(place, writer) {
+                    Ok(()) => Ok(()),
+                    Err(error) => Err(StoreError::from(error)),
+                },
+                Err(error) => Err(error),
+            },
+            Err(error) => Err(StoreError::from(error)),
+        };
+        match kept {
             Ok(()) => {
                 self.saved.push_reserved(place);
                 Ok(())

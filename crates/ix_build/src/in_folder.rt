@@ -1,8 +1,8 @@
 //! Building the index text of a collection with the runs of its blocks where the plan says.
-ghost use Rattle.std.specs.Prelude.{◌≡◌, ◌↔◌, ◌⊎◌, ℕ, List, None, Some, vec_len, All, IfErr, IfOk, OnErr, OnOk};
+ghost use Rattle.std.specs.Prelude.{◌≡◌, ◌⊎◌, ℕ, List, None, Some, vec_len, All, IfErr, IfOk, OnErr, OnOk};
 ghost use Rattle.std.specs.Io.KnownBytes.{Keeps};
 ghost use Rattle.ix_files.specs.Changes.{ChangesOnly};
-ghost use Rattle.ix_files.specs.Slots.{IsAmong, IsSame, Place};
+ghost use Rattle.ix_files.specs.Slots.{IsSame};
 ghost use Rattle.ix_files.specs.Views.{GoesOn};
 ghost use Rattle.ix_text.specs.Collections.{collection_of};
 ghost use Rattle.ix_merge.specs.Endings.{WritesIndexText};
@@ -11,18 +11,17 @@ ghost use Rattle.ix_build.specs.BuildErrors.{IsBeforeWriting, IsBuildRefusal, Is
 ghost use Rattle.ix_build.specs.FolderStores.{files_of};
 ghost use Rattle.ix_build.specs.GivenBack.{GivesBlocksBack};
 ghost use Rattle.ix_build.specs.ReadBack.{TellBytes, TellsUnread};
-ghost use Rattle.ix_build.specs.RunNames.{AreRunNames, HasNoRuns, IsRunOf, MayComeBack};
+ghost use Rattle.ix_build.specs.RunNames.{AreRunNames, AreRunNamesOf, HasNoRuns, IsRunOf, MayComeBack};
 
-use crate::blocks::{block_count, bounds_of};
 use crate::build_error::BuildError;
 use crate::folder_store::FolderStore;
 use crate::in_memory::build_watched;
 use crate::over_stores::{BuiltOver, build_over};
 use crate::plan::Plan;
-use crate::run_names::run_names;
+use crate::run_names::names_of_runs;
 use crate::watch::Watch;
 use crate::watched_files::WatchedFiles;
-use ix_files::{FileError, Files, SharedFiles, remove_all};
+use ix_files::{Files, SharedFiles, remove_all};
 use ix_text::{Collection, Memory, StopList};
 use std::alloc::Global;
 use std::io::Write;
@@ -109,10 +108,10 @@ fn share_runs<F: Files>(
     plan: &Plan,
 ) -> Result<F::Shared, BuildError>
     requires { plan.now.folder ≡ Some folder.now }
-    ensures named { IfOk result (λ shared. (at : List ℕ) × AreRunNames at (F.Shared.shared shared)) }
-    ensures runs { IfOk result (λ shared. (F.view files.new).honest → (place : Place)
-        → IsAmong (F.Shared.shared shared) place
-        ↔ IsRunOf plan.now collection.now (F.view files.old) place) }
+    ensures named { IfOk result (λ shared. (at : List ℕ)
+        × AreRunNames at (F.Shared.shared shared)) }
+    ensures runs { IfOk result (λ shared. (F.view files.new).honest
+        → AreRunNamesOf plan.now collection.now (F.view files.old) (F.Shared.shared shared)) }
     ensures spilled { IfErr result (IsFolderRefusal plan.now collection.now) }
     ensures unchanged { OnErr result ((F.view files.new).honest
         → IsSame (F.view files.old).slots (F.view files.new).slots) }
@@ -120,19 +119,7 @@ fn share_runs<F: Files>(
         (F.view files.old) (F.view files.new) }
     ensures goes_on { GoesOn (F.view files.old) (F.view files.new) }
 {
-    let Ok(bounds) = bounds_of(alloc, collection.docs(), plan.cut()) else {
-        return Err(BuildError::Memory);
-    };
-    let folder = match files.locate_folder(folder) {
-        Ok(folder) => folder,
-        Err(FileError::Memory) => return Err(BuildError::Memory),
-        // Also an empty collection has a block.
-        Err(_) => return Err(BuildError::Spill(0)),
-    };
-    let count = block_count(bounds.as_slice());
-    let Ok(names) = run_names(alloc, folder.as_str(), count) else {
-        return Err(BuildError::Memory);
-    };
+    let names = names_of_runs(alloc, files, folder, collection, plan)?;
     match files.share(names) {
         Ok(shared) => Ok(shared),
         Err(_) => Err(BuildError::Memory),

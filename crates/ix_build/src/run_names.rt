@@ -1,14 +1,16 @@
 //! The names of the files in which runs are kept until they are merged: `run-` and the block's place in ten digits.
-ghost use Rattle.std.specs.Prelude.{◌≡◌, ◌≢◌, ◌<◌, ℕ, false, map, true, vec_len, IfErr, IfOk, None};
+ghost use Rattle.std.specs.Prelude.{◌≡◌, ◌≢◌, ℕ, List, None, Some, false, map, true, vec_len, IfErr, IfOk, IsFalse, IsTrue, OnOk};
 ghost use Rattle.std.specs.String.{string_bytes};
 ghost use Rattle.ix_files.specs.Locations.{place_of};
+ghost use Rattle.ix_files.specs.Slots.{IsAmong};
+ghost use Rattle.ix_build.specs.Blocks.{IsBlockPlace};
 ghost use Rattle.ix_build.specs.BuildErrors.{IsFolderRefusal};
-ghost use Rattle.ix_build.specs.RunNames.{AreRunNames, IsRunOf, run_name};
+ghost use Rattle.ix_build.specs.RunNames.{AreRunNames, AreRunNamesOf, IsRunOf, run_name};
 
 use crate::blocks::{block_count, bounds_of};
 use crate::build_error::BuildError;
 use crate::plan::Plan;
-use ix_files::{FileError, Files, Location};
+use ix_files::{Files, Location};
 use ix_text::{Collection, Memory};
 use std::alloc::Global;
 
@@ -16,7 +18,8 @@ use std::alloc::Global;
 fn run_name(alloc: Global, place: usize) -> Result<String, Memory>
     ensures { IfOk result (λ name. string_bytes name ≡ run_name place) }
 {
-    format!(in alloc; "run-{place:010}")
+    let name = format!(in alloc; "run-{place:010}")?;
+    Ok(name)
 }
 
 /// The names in this folder of the files of the runs of the places below `count`.
@@ -37,11 +40,40 @@ pub(crate) fn run_names(
     Ok(names)
 }
 
-/// Whether a path leads to the file of a run of this collection, or to where there will be one if it is built by this plan. None
-/// is if the plan keeps runs in memory.
+/// The names of the files of the runs of all blocks, in the plan's folder.
+pub(crate) fn names_of_runs<F: Files>(
+    alloc: Global,
+    files: &F,
+    folder: &str,
+    collection: &Collection<'_>,
+    plan: &Plan,
+) -> Result<Vec<Location>, BuildError>
+    requires { plan.now.folder ≡ Some folder.now }
+    ensures named { IfOk result (λ names. (at : List ℕ)
+        × AreRunNames at (map place_of names.items)) }
+    ensures runs { IfOk result (λ names. (F.view files.now).honest
+        → AreRunNamesOf plan.now collection.now (F.view files.now) (map place_of names.items)) }
+    ensures some { OnOk result (IsBlockPlace plan.now.cut collection.now 0) }
+    ensures spilled { IfErr result (IsFolderRefusal plan.now collection.now) }
+{
+    let Ok(bounds) = bounds_of(alloc, collection.docs(), plan.cut()) else {
+        return Err(BuildError::Memory);
+    };
+    let count = block_count(bounds.as_slice());
+    match files.locate_folder(folder) {
+        Ok(folder) => match run_names(alloc, folder.as_str(), count) {
+            Ok(names) => Ok(names),
+            Err(_) => Err(BuildError::Memory),
+        },
+        Err(error) => Err(BuildError::of_folder(error)),
+    }
+}
+
+/// Whether a path leads to the file of a run of this collection, or to where that will be if the collection is built by this
+/// plan: never if the plan keeps runs in memory.
 ///
 /// # Errors
-/// `Memory`; `Spill(0)` if the plan's folder or the path cannot be looked at.
+/// `Memory` if out of memory; `Spill` with the place 0 if the path or the plan's folder cannot be looked at.
 pub fn is_run_of<F: Files>(
     alloc: Global,
     files: &F,
@@ -54,48 +86,36 @@ pub fn is_run_of<F: Files>(
     ensures is_not { IfOk result (λ is. (F.view files.now).honest → is ≡ false
         → ¬ (IsRunOf plan.now collection.now (F.view files.now)
         ((F.view files.now).place path.now))) }
-    ensures refused { IfErr result (λ error.
-        IsFolderRefusal plan.now collection.now error × (plan.now.folder ≢ None)) }
+    ensures refused { IfErr result (λ error. IsFolderRefusal plan.now collection.now error
+        × (plan.now.folder ≢ None)) }
 {
     let Some(folder) = plan.folder() else {
         return Ok(false);
     };
-    let Ok(bounds) = bounds_of(alloc, collection.docs(), plan.cut()) else {
-        return Err(BuildError::Memory);
-    };
-    let (folder, location) = match (files.locate_folder(folder), files.locate(path)) {
-        (Ok(folder), Ok(location)) => (folder, location),
-        (Err(error), _) | (Ok(_), Err(error)) => return Err(unseen(error)),
-    };
-    if location.folder() != folder.as_str() {
-        return Ok(false);
-    }
-    match is_run_name(alloc, location.name(), block_count(bounds.as_slice())) {
-        Ok(is_run) => Ok(is_run),
-        Err(_) => Err(BuildError::Memory),
+    let names = names_of_runs(alloc, files, folder, collection, plan)?;
+    match files.locate(path) {
+        Ok(location) => Ok(is_among(names.as_slice(), &location)),
+        Err(error) => Err(BuildError::of_folder(error)),
     }
 }
 
-/// What it is to a build if the folder of its runs cannot be looked at; also an empty collection has a block.
-fn unseen(error: FileError) -> BuildError {
-    match error {
-        FileError::Memory => BuildError::Memory,
-        FileError::Failed | FileError::Exists | FileError::Locked => BuildError::Spill(0),
-    }
-}
-
-/// Whether it is the name of the file of the run of a place below `count`.
-fn is_run_name(alloc: Global, name: &str, count: usize) -> Result<bool, Memory>
-    ensures is { IfOk result (λ is. is ≡ true
-        → (place : ℕ) × (place < count) × (name.now ≡ run_name place)) }
-    ensures is_not { IfOk result (λ is. is ≡ false
-        → (place : ℕ) → place < count → name.now ≢ run_name place) }
+/// Whether two names are the same, in the same folder.
+fn is_same(one: &Location, other: &Location) -> bool
+    ensures same { IsTrue result → place_of one.now ≡ place_of other.now }
+    ensures other { IsFalse result → place_of one.now ≢ place_of other.now }
 {
-    for place in 0..count {
-        let run = run_name(alloc, place)?;
-        if run.as_str() == name {
-            return Ok(true);
+    one.name() == other.name() && one.folder() == other.folder()
+}
+
+/// Whether it is one of these names.
+fn is_among(names: &[Location], at: &Location) -> bool
+    ensures is { IsTrue result → IsAmong (map place_of names.now) (place_of at.now) }
+    ensures is_not { IsFalse result → ¬ (IsAmong (map place_of names.now) (place_of at.now)) }
+{
+    for index in 0..names.len() {
+        if is_same(&names[index], at) {
+            return true;
         }
     }
-    Ok(false)
+    false
 }
