@@ -94,7 +94,7 @@ def inverting_files(crate):
 
 build = functions_of("ix_build")
 for start, goal in [
-    ("build", "invert_all"), ("build", "merge_into"), ("build", "build_watched"), ("build_with_files", "build_watched"), ("build_with_files", "build_over"),
+    ("build", "build_by"), ("build", "build_over"), ("build_in_memory", "build_by"),
     ("invert_all", "work_all"), ("build_by", "work_all"), ("build_over", "work_all"),
 ]:
     check(f"`{start}` of ix_build reaches `{goal}`", reaches(build, start, goal))
@@ -111,14 +111,14 @@ program = functions_of("ix_command")
 inverting = inverting_files("ix_command")
 check("ix_command inverts in the command `run` alone", inverting == ["commands/run_file.rt"], inverting)
 building = [f for f in program if f[0] == "commands/build.rt"]
-for goal in ["invert_all", "merge_into", "build_with_files"]:
+for goal in ["invert_all", "merge_into", "build"]:
     check(f"the command `build` reaches `{goal}`", reaches(building, "run", goal))
 
 asking = functions_of("ix_ask")
 inverting = inverting_files("ix_ask")
 check("ix_ask inverts without threads alone, a whole collection and a part", inverting == ["alone.rt", "invert_part.rt"], inverting)
 check("`ask` of ix_ask reaches no `invert` of its own", not reaches(asking, "ask", "invert"))
-check("`ask` of ix_ask reaches `build`", reaches(asking, "ask", "build"))
+check("`ask` of ix_ask reaches `build_in_memory`", reaches(asking, "ask", "build_in_memory"))
 
 gram = functions_of("ix_gram")
 check("ix_gram reads the grams of an index", any(re.search(r"\.gram\(", body) for _, _, body in gram))

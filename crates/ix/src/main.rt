@@ -4,9 +4,9 @@
 mod meter;
 
 use ix_ask::EngineRefusal;
-use ix_build::{RunFiles, SystemFiles, Watch};
+use ix_build::Watch;
 use ix_command::{Refusal, command_over, refuse};
-use ix_files::Files;
+use ix_files::{Files, SystemFiles};
 use meter::Meter;
 use std::alloc::AllocError;
 use std::env;
@@ -21,13 +21,11 @@ const REFUSED: u8 = 2;
 fn main(rt: HostRuntime) -> ExitCode {
     let refusal = match env::args(&rt) {
         Ok(args) => {
-            let runs = SystemFiles { rt: &rt };
             let meter = Meter::new(&rt, rt.stderr().is_terminal());
-            let mut files = ix_files::SystemFiles { rt: &rt };
+            let mut files = SystemFiles { rt: &rt };
             match run(
                 &rt,
                 &mut files,
-                &runs,
                 &meter,
                 args,
                 &mut rt.stdout(),
@@ -52,10 +50,9 @@ fn main(rt: HostRuntime) -> ExitCode {
 }
 
 /// Does what the words after the program's name ask for.
-fn run<R: AllocGlobal + Threads + Wait + Sync, F: Files, S: RunFiles, V: Watch, W: Write, E: Write>(
+fn run<R: AllocGlobal + Threads + Wait + Sync, F: Files, V: Watch, W: Write, E: Write>(
     rt: &R,
     files: &mut F,
-    runs: &S,
     watch: &V,
     args: env::Args,
     out: &mut W,
@@ -69,5 +66,5 @@ fn run<R: AllocGlobal + Threads + Wait + Sync, F: Files, S: RunFiles, V: Watch, 
     for text in &texts {
         words.push(text.as_str())?;
     }
-    Ok(command_over(rt, rt.alloc(), files, runs, watch, &words, out, err))
+    Ok(command_over(rt, rt.alloc(), files, watch, &words, out, err))
 }

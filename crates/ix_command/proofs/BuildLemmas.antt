@@ -1,5 +1,5 @@
 -- What was read of a collection file against all of it, for the index that is built of it.
-use Rattle.std.proofs.Common.{◌≡◌, ℕ, List, None, Some, Result, Ok, Err, OnOk, IfErr, IsErrAnd, take, IsSomeAnd, subst, sym}
+use Rattle.std.proofs.Common.{◌≡◌, ℕ, List, None, Some, Result, Ok, Err, ◌⊎◌, inl, inr, OnOk, IfErr, take, IsSomeAnd, subst, sym}
 use Rattle.std.specs.Prelude.{Option}
 use Rattle.std.specs.Borrow.{Bor}
 use Rattle.ix_text.specs.Collections.{NamedText, collection_of}
@@ -8,17 +8,18 @@ use Rattle.ix_command.specs.AskedFiles.{IsStopHeld}
 use Rattle.ix_build.specs.BuildErrors.{IsInvertRefusal, IsMergeRefusal}
 use Rattle.ix_build.specs.GivenBack.{GivesBlocksBack}
 use Rattle.ix_build.specs.Plans.{PlanValue}
-use Rattle.ix_build.specs.RunPaths.{run_path}
+use Rattle.ix_files.specs.Views.{View}
 use Rattle.ix_build.specs.declared.build_error.BuildError.{BuildError}
 use Rattle.ix_build.specs.declared.build_error.BuildError.TheVariants.{Thread, Spill, Write, Memory}
-use Rattle.ix_command.specs.BuiltIndexes.{AreOfFiles, BuildsText, ComeBack, IsBuilt, IsBuildRefused, IsRefusalBy, IsUnbuilt, RefusesDocuments, RefusesText, no_collection, no_documents, of_folder, of_memory, unbuilt, unbuilt_text}
+use Rattle.ix_command.specs.BuiltIndexes.{AreOfFiles, ComeBack, IsBuilt, IsBuildRefused, IsRefusalBy, IsUnbuilt, RefusesDocuments, of_folder, of_memory, unbuilt}
+use Rattle.ix_command.specs.BuiltRuns.{IsOfRuns}
 use Rattle.ix_command.specs.Files.{Holding, IsFront, Keeping}
 use Rattle.ix_command.specs.Refusals.{IsSameOrUnsaved, IsUnsaved}
 use Rattle.ix_ask.specs.declared.refusal.EngineRefusal.TheVariants as engine
 use Rattle.ix_command.specs.declared.refusal.Refusal.{Refusal}
 use Rattle.ix_command.specs.declared.refusal.Refusal.TheVariants as refusal
 use Rattle.ix_command.specs.SavedIndexes.{SavesAlike, SavesIndex}
-use Rattle.ix_command.proofs.FileLemmas.{handed_up, read_whole, refuses_collection_whole, room}
+use Rattle.ix_command.proofs.FileLemmas.{read_whole, refuses_collection_whole, room}
 use Rattle.ix_command.proofs.Saving.{saved_alike}
 
 -- the documents of what was read are those of the whole file
@@ -35,24 +36,6 @@ documents_of_files holds stop_file path bytes stop documents front stop_held rea
 pub refuses_documents_whole : (bytes whole : List ℕ) (told : Refusal) → bytes ≡ take room whole → RefusesDocuments bytes told → RefusesDocuments whole told
 refuses_documents_whole bytes whole (refusal.Engine (engine.Collection error)) cut why = refuses_collection_whole bytes whole error cut why
 refuses_documents_whole bytes whole _ cut why = absurd why
-
--- so the index that was built of what was read is that of the files
-pub built_of_files : (holds saves : Holding) (kept : Keeping) (stop_file : Option (Bor (List ℕ))) (plan : PlanValue) (path output bytes : List ℕ) (stop : List (List ℕ))
-    → IsFront (holds path) room bytes → IsStopHeld holds stop_file stop → BuildsText saves kept stop plan bytes output → IsBuilt holds saves kept stop_file plan path output
-built_of_files holds saves kept stop_file plan path output bytes stop front stop_held builds = record {
-  stop = stop;
-  documents = builds.documents;
-  of_files = documents_of_files holds stop_file path bytes stop builds.documents front stop_held builds.read;
-  saved = builds.saved;
-  alike = builds.alike;
-}
-
-pub refused_of_files : (holds : Holding) (stop_file : Option (Bor (List ℕ))) (plan : PlanValue) (path output bytes : List ℕ) (stop : List (List ℕ)) → IsFront (holds path) room bytes → IsStopHeld holds stop_file stop
-    → (told : Refusal) → RefusesText plan bytes output told → IsBuildRefused holds stop_file plan path output told
-refused_of_files holds stop_file plan path output bytes stop front stop_held told (no_collection why) =
-    no_documents front.whole stop front.held stop_held (refuses_documents_whole bytes front.whole told front.cut why)
-refused_of_files holds stop_file plan path output bytes stop front stop_held told (unbuilt_text documents read why) =
-    unbuilt stop documents (documents_of_files holds stop_file path bytes stop documents front stop_held read) why
 
 -- what is not saved is not built
 pub unbuilt_unsaved : (plan : PlanValue) (documents : List NamedText) (path : List ℕ) (told : Refusal) → IsUnsaved path told → IsUnbuilt plan documents path told
@@ -71,7 +54,7 @@ some_refused named path told is refused = subst (λ (o : Option (Bor (List ℕ))
 
 -- what is so of runs in memory, and of runs in a folder that come back, is so of runs that come back
 pub come_back : (P : Type 0) (kept : Keeping) (plan : PlanValue) (stop : List (List ℕ)) (documents : List NamedText) → (plan.folder ≡ None → P)
-    → ((folder : List ℕ) → plan.folder ≡ Some folder → kept.told → GivesBlocksBack plan.cut documents stop (λ place. kept.back (run_path folder place)) → P)
+    → ((folder : List ℕ) → plan.folder ≡ Some folder → kept.told → GivesBlocksBack plan.cut documents stop kept.back → P)
     → ComeBack kept plan stop documents → P
 come_back P kept plan stop documents memory files (of_memory none) = memory none
 come_back P kept plan stop documents memory files (of_folder folder named told back) = files folder named told back
@@ -89,24 +72,27 @@ merging_refused plan documents (Spill place) is = absurd is
 merging_refused plan documents Write is = record { any = tt; of_memory = λ _. tt }
 merging_refused plan documents Memory is = record { any = tt; of_memory = λ _. tt }
 
--- ---- by the documents of a text
+-- ---- by the documents of the files
 
-pub text_built : {T : Type 0} (saves : Holding) (kept : Keeping) (stop : List (List ℕ)) (plan : PlanValue) (text output : List ℕ) (documents : List NamedText) (result : Result T Refusal) → IsCollectionText text documents
-    → OnOk result (ComeBack kept plan stop documents → SavesIndex saves output (collection_of stop documents)) → OnOk result (SavesAlike saves output (collection_of stop documents)) → OnOk result (BuildsText saves kept stop plan text output)
-text_built saves kept stop plan text output documents (Ok x) read saved alike = record { documents = documents; read = read; saved = saved; alike = alike }
-text_built saves kept stop plan text output documents (Err told) read saved alike = tt
+module _ {T : Type 0} (holds saves : Holding) (kept : Keeping) (stop_file : Option (Bor (List ℕ))) (plan : PlanValue) (path output : List ℕ) (stop : List (List ℕ)) (documents : List NamedText)
+    (of_files : AreOfFiles holds stop_file path stop documents) where
+  pub built_by_runs : (result : Result T Refusal) → OnOk result (ComeBack kept plan stop documents → SavesIndex saves output (collection_of stop documents))
+      → OnOk result (SavesAlike saves output (collection_of stop documents)) → OnOk result (IsBuilt holds saves kept stop_file plan path output)
+  built_by_runs (Ok x) saved alike = record { stop = stop; documents = documents; of_files = of_files; saved = saved; alike = alike }
+  built_by_runs (Err told) saved alike = tt
 
-pub text_merged : {T : Type 0} (saves : Holding) (kept : Keeping) (stop : List (List ℕ)) (plan : PlanValue) (text output : List ℕ) (documents : List NamedText) (result : Result T Refusal) → IsCollectionText text documents
-    → OnOk result (SavesIndex saves output (collection_of stop documents)) → OnOk result (BuildsText saves kept stop plan text output)
-text_merged saves kept stop plan text output documents (Ok x) read saved = record { documents = documents; read = read; saved = λ _. saved; alike = saved_alike saves output (collection_of stop documents) saved }
-text_merged saves kept stop plan text output documents (Err told) read saved = tt
+  pub built_in_memory : (result : Result T Refusal) → OnOk result (SavesIndex saves output (collection_of stop documents)) → OnOk result (IsBuilt holds saves kept stop_file plan path output)
+  built_in_memory (Ok x) saved = record { stop = stop; documents = documents; of_files = of_files; saved = λ _. saved; alike = saved_alike saves output (collection_of stop documents) saved }
+  built_in_memory (Err told) saved = tt
 
-pub text_unbuilt : {T : Type 0} (plan : PlanValue) (text output : List ℕ) (documents : List NamedText) (result : Result T Refusal) → IsCollectionText text documents → IfErr result (IsUnbuilt plan documents output)
-    → IfErr result (RefusesText plan text output)
-text_unbuilt plan text output documents (Ok x) read why = tt
-text_unbuilt plan text output documents (Err told) read why = unbuilt_text documents read why
+pub unbuilt_by : {T : Type 0} (holds : Holding) (stop_file : Option (Bor (List ℕ))) (plan : PlanValue) (path output : List ℕ) (stop : List (List ℕ)) (documents : List NamedText)
+    → AreOfFiles holds stop_file path stop documents → (result : Result T Refusal) → IfErr result (IsUnbuilt plan documents output) → IfErr result (IsBuildRefused holds stop_file plan path output)
+unbuilt_by holds stop_file plan path output stop documents of_files (Ok x) why = tt
+unbuilt_by holds stop_file plan path output stop documents of_files (Err told) why = unbuilt stop documents of_files why
 
--- a refusal that is handed up, of a text that was read
-pub unbuilt_up : {T : Type 0} (plan : PlanValue) (text output : List ℕ) (documents : List NamedText) (result : Result T Refusal) (told : Refusal) → IsErrAnd result (λ error. error ≡ told) → IsCollectionText text documents → IsUnbuilt plan documents output told
-    → IfErr result (RefusesText plan text output)
-unbuilt_up plan text output documents result told is read why = handed_up (RefusesText plan text output) result told is (unbuilt_text documents read why)
+-- a path of a run, or a folder that cannot be looked at
+pub of_runs_unbuilt : (view : View) (plan : PlanValue) (documents : List NamedText) (path output : List ℕ) (told : Refusal) → IsOfRuns view plan documents path told
+    → IsSameOrUnsaved path told ⊎ IsUnbuilt plan documents output told
+of_runs_unbuilt view plan documents path output (refusal.Same named) is = inl is.0
+of_runs_unbuilt view plan documents path output (refusal.Engine (engine.Build error)) is = inr is
+of_runs_unbuilt view plan documents path output _ is = absurd is

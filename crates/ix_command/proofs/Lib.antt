@@ -5,5 +5,6 @@ pub mod IndexLemmas
 pub mod MergedFileLemmas
 pub mod RunFileLemmas
 pub mod RunLemmas
+pub mod Runs
 pub mod Saving
 pub mod Upgrading

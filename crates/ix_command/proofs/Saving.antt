@@ -27,8 +27,12 @@ written_whole begun ended text is written = go ended refl (subst (λ (b : Option
 target_apart : (target : Place) → ¬ (IsDraftPlace target target)
 target_apart target draft = draft.another refl
 
+-- what is at a target stays if drafts of it come and go
+pub kept_at : (v0 v1 : View) (path : List ℕ) → ChangesDrafts (v0.place path) v0 v1 → v1.honest → v1.slots (v0.place path) ≡ v0.slots (v0.place path)
+kept_at v0 v1 path changes honest = changes.others honest (v0.place path) (target_apart (v0.place path))
+
 -- v0 is before an output is begun, v1 behind that, v2 once it has ended
-module _ (v0 v1 v2 : View) (path : List ℕ) (changes : ChangesDrafts (v0.place path) v0 v1) (began : GoesOn v0 v1) (ended : GoesOn v1 v2) where
+module _ (v0 v1 v2 : View) (path : List ℕ) (kept : v1.honest → v1.slots (v0.place path) ≡ v0.slots (v0.place path)) (began : GoesOn v0 v1) (ended : GoesOn v1 v2) where
   same_place : v2.honest → v1.place path ≡ v0.place path
   same_place honest = began.places (ended.honest honest) path
 
@@ -38,17 +42,15 @@ module _ (v0 v1 v2 : View) (path : List ℕ) (changes : ChangesDrafts (v0.place 
     | inr there ↦ inr (subst (λ (p : Place). v2.slots p ≡ at_rest (Kept text)) (same_place honest) there)
   ]
 
-  pub others_up : v2.honest → LeavesOthers path v1 v2 → LeavesOthers path v0 v2
-  others_up honest others = λ place apart free.
+  pub other_up : v2.honest → LeavesOthers path v1 v2 → (place : Place) → place ≢ v0.place path → ¬ (IsDraftPlace (v0.place path) place) → (v2.slots place).now ≡ (v1.slots place).now
+  other_up honest others place apart free =
       let is = same_place honest in
-      let later : (v2.slots place).now ≡ (v1.slots place).now = others place (λ same. apart (same ∙ is))
-      (λ draft. free (subst (λ (p : Place). IsDraftPlace p place) is draft)) in
-      later ∙ ap (λ (s : Slot). s.now) (changes.others (ended.honest honest) place free)
+      others place (λ same. apart (same ∙ is)) (λ draft. free (subst (λ (p : Place). IsDraftPlace p place) is draft))
 
   pub target_up : v2.honest → LeavesTarget path v1 v2 → LeavesTarget path v0 v2
   target_up honest stays =
       let here = subst (λ (p : Place). (v2.slots p).now ≡ (v1.slots p).now) (same_place honest) stays in
-      here ∙ ap (λ (s : Slot). s.now) (changes.others (ended.honest honest) (v0.place path) (target_apart (v0.place path)))
+      here ∙ ap (λ (s : Slot). s.now) (kept (ended.honest honest))
 
   pub now_up : v2.honest → (text : List ℕ) → (v2.slots (v1.place path)).now ≡ Kept text → now_in v0 v2 path text
   now_up honest text there = subst (λ (p : Place). (v2.slots p).now ≡ Kept text) (same_place honest) there
@@ -59,7 +61,7 @@ module _ (v0 v1 : View) (path : List ℕ) (changes : ChangesDrafts (v0.place pat
   others_left honest = λ place apart free. ap (λ (s : Slot). s.now) (changes.others honest place free)
 
   pub target_left : v1.honest → LeavesTarget path v0 v1
-  target_left honest = ap (λ (s : Slot). s.now) (changes.others honest (v0.place path) (target_apart (v0.place path)))
+  target_left honest = ap (λ (s : Slot). s.now) (kept_at v0 v1 path changes honest)
 
 -- the same view leaves all
 pub others_same : (v : View) (path : List ℕ) → LeavesOthers path v v
@@ -72,16 +74,18 @@ others_same v path place apart free = refl
 module _ (v0 v1 v2 : View) (path : List ℕ) (names : Option DraftNames) (changes : ChangesDrafts (v0.place path) v0 v1) (began : GoesOn v0 v1)
     (begun : v1.honest → IsBegunFor v1 path names) (ended : GoesOn v1 v2) where
   pub others_through : (v2.honest → IsBegunFor v1 path names → LeavesOthers path v1 v2) → v2.honest → LeavesOthers path v0 v2
-  others_through others honest = others_up v0 v1 v2 path changes began ended honest (others honest (begun (ended.honest honest)))
+  others_through others honest = λ place apart free.
+      other_up v0 v1 v2 path (kept_at v0 v1 path changes) began ended honest (others honest (begun (ended.honest honest))) place apart free
+      ∙ ap (λ (s : Slot). s.now) (changes.others (ended.honest honest) place free)
 
-module _ (v0 v1 v2 : View) (path : List ℕ) (names : Option DraftNames) (changes : ChangesDrafts (v0.place path) v0 v1) (began : GoesOn v0 v1)
+module _ (v0 v1 v2 : View) (path : List ℕ) (names : Option DraftNames) (kept : v1.honest → v1.slots (v0.place path) ≡ v0.slots (v0.place path)) (began : GoesOn v0 v1)
     (begun : v1.honest → IsBegunFor v1 path names) (ended : GoesOn v1 v2) (before after : Option (List ℕ)) (empty : v1.honest → before ≡ Some []) where
   known : (text : List ℕ) → Appends before after text → v2.honest → after ≡ Some text
   known text written honest = written_whole before after text (empty (ended.honest honest)) written
 
   pub text_saved : (sent : Holding) (text : List ℕ) → Appends before after text
       → ((text : List ℕ) → (v2.honest → after ≡ Some text) → (v1.honest → IsBegunFor v1 path names) → saved_in sent v1 v2 path text) → saved_in sent v0 v2 path text
-  text_saved sent text written saved = saved_up v0 v1 v2 path changes began ended sent text (saved text (known text written) begun)
+  text_saved sent text written saved = saved_up v0 v1 v2 path kept began ended sent text (saved text (known text written) begun)
 
   pub index_saved : (sent : Holding) (collection : Collection) → WritesIndexText before after collection
       → ((text : List ℕ) → (v2.honest → after ≡ Some text) → (v1.honest → IsBegunFor v1 path names) → saved_in sent v1 v2 path text) → SavesIndex (saved_in sent v0 v2) path collection
@@ -120,7 +124,7 @@ module _ (v0 v1 v2 : View) (path : List ℕ) (names : Option DraftNames) (change
       )
 
   stays : v2.honest → LeavesTarget path v1 v2 → LeavesTarget path v0 v2
-  stays honest same = target_up v0 v1 v2 path changes began ended honest same
+  stays honest same = target_up v0 v1 v2 path kept began ended honest same
 
   pub undone_through : {T U : Type 0} (Saved : Type 0) (result : Result T Refusal) (written : Result U Refusal) → OnOk written (v2.honest → Leaves Saved)
       → OnErr result (v2.honest → IsBegunFor v1 path names → (text : List ℕ) → OnOk written (after ≡ Some text) → LeavesTarget path v1 v2 ⊎ ((v2.slots (v1.place path)).now ≡ Kept text))
@@ -130,7 +134,7 @@ module _ (v0 v1 v2 : View) (path : List ℕ) (names : Option DraftNames) (change
       let left = leaves honest in
       elim (undone honest (begun (ended.honest honest)) left.0 left.1) [
         | inl same ↦ inl (stays honest same)
-        | inr there ↦ inr (left.2 (now_up v0 v1 v2 path changes began ended honest left.0 there))
+        | inr there ↦ inr (left.2 (now_up v0 v1 v2 path kept began ended honest left.0 there))
       ]
   undone_through Saved (Err told) (Err why) leaves undone = λ honest.
       let is = begun (ended.honest honest) in

@@ -7,7 +7,6 @@ use Rattle.ix_text.specs.CollectionText.{IsCollectionText}
 use Rattle.ix_build.specs.BuildErrors.{IsBuildRefusal, IsFolderRefusal}
 use Rattle.ix_build.specs.GivenBack.{GivesBlocksBack}
 use Rattle.ix_build.specs.Plans.{PlanValue}
-use Rattle.ix_build.specs.RunPaths.{run_path}
 use Rattle.ix_build.specs.declared.build_error.BuildError.{BuildError}
 use Rattle.ix_command.specs.AskedFiles.{IsStopHeld, RefusesStop}
 use Rattle.ix_ask.specs.Asking.{RefusesCollection}
@@ -30,7 +29,7 @@ pub record AreOfFiles (holds : Holding) (stop_file : Option (Bor Text)) (path : 
 pub data ComeBack (kept : Keeping) (plan : PlanValue) (stop : List Text) (documents : List NamedText) : Type 0 where
   of_memory : plan.folder ≡ None → ComeBack kept plan stop documents
   of_folder : (folder : Text) → plan.folder ≡ Some folder → kept.told
-      → GivesBlocksBack plan.cut documents stop (λ place. kept.back (run_path folder place)) → ComeBack kept plan stop documents
+      → GivesBlocksBack plan.cut documents stop kept.back → ComeBack kept plan stop documents
 
 -- The index text of version 2 of the collection of the collection file, without the terms of the stop file, was saved under
 -- this path, where the runs come back as they were made. Whatever comes back, that of one with the same stop terms, names and
@@ -57,18 +56,6 @@ abbrev pub IsUnbuilt : PlanValue → List NamedText → Text → Refusal → Typ
 IsUnbuilt plan documents path (refusal.Engine (engine.Build error)) = IsRefusalBy plan documents error
 IsUnbuilt plan documents path (refusal.Locked folder) = IsFolderLocked plan (refusal.Locked folder)
 IsUnbuilt plan documents path told = IsUnsaved path told
-
--- The index text of the collection of this text was saved so under this path.
-pub record BuildsText (saves : Holding) (kept : Keeping) (stop : List Text) (plan : PlanValue) (text output : Text) : Type 0 where
-  pub documents : List NamedText
-  pub read : IsCollectionText text documents
-  pub saved : ComeBack kept plan stop documents → SavesIndex saves output (collection_of stop documents)
-  pub alike : SavesAlike saves output (collection_of stop documents)
-
--- Why it was not, by this plan: the text is no collection text, or the index text cannot be built or saved.
-pub data RefusesText (plan : PlanValue) (text output : Text) : Refusal → Type 0 where
-  no_collection : {told : Refusal} → RefusesDocuments text told → RefusesText plan text output told
-  unbuilt_text : {told : Refusal} (documents : List NamedText) → IsCollectionText text documents → IsUnbuilt plan documents output told → RefusesText plan text output told
 
 -- Why `build` was refused, by this plan: the stop file is refused, the collection file cannot be read or holds no
 -- collection text, or the index text of what they hold cannot be built or saved.

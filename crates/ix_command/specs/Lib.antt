@@ -1,5 +1,6 @@
 pub mod AskedFiles
 pub mod BuiltIndexes
+pub mod BuiltRuns
 pub mod Files
 pub mod IndexFiles
 pub mod LiveScripts

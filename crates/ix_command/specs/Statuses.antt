@@ -11,6 +11,7 @@ use Rattle.clap.specs.declared.error.kind.ErrorKind.TheVariants.{DisplayHelp}
 use Rattle.ix_output.specs.Sinks.{AppendsFront}
 use Rattle.ix_command.specs.AskedFiles.{IsAnsweredFromFiles, IsAskRefused}
 use Rattle.ix_command.specs.BuiltIndexes.{IsBuilt, IsBuildRefused}
+use Rattle.ix_command.specs.BuiltRuns.{LeavesNoRuns}
 use Rattle.ix_line.specs.Commands.{ix_app}
 use Rattle.ix_command.specs.Files.{Holding, Keeping}
 use Rattle.ix_files.specs.Outputs.{LeavesOthers, LeavesTarget, now_in}
@@ -55,9 +56,11 @@ IsDone holds saves kept (Merge index inputs) old new count =
 IsDone holds saves kept (Upgrade old_file new_file) old new count =
     IsUpgraded holds saves old_file.now new_file.now × Keeps old new × (count ≡ 1)
 
--- The line changes the file that it asks for, and no other; if it asks for none, it changes none.
+-- The line changes the file that it asks for, and no other, but `build` those of its runs, of which none is left; if it asks for
+-- none, it changes none.
 abbrev pub LeavesFiles : Line → View → View → Type 0
-LeavesFiles (Build stop_file plan collection index) old new = LeavesOthers index.now old new
+LeavesFiles (Build stop_file plan collection index) old new =
+    LeavesOthers index.now old new ⊎ LeavesNoRuns stop_file plan collection.now index.now old new
 LeavesFiles (Run stop_file first collection run) old new = LeavesOthers run.now old new
 LeavesFiles (Merge index inputs) old new = LeavesOthers index.now old new
 LeavesFiles (Upgrade old_file new_file) old new = LeavesOthers new_file.now old new

@@ -25,7 +25,7 @@ mod upgrade;
 use crate::refusal::Refusal;
 use crate::refusing::refuse;
 use ix_ask::EngineRefusal;
-use ix_build::{RunFiles, Watch};
+use ix_build::Watch;
 use ix_files::Files;
 use ix_line::{Line, LineError, help_on, read_line, with_help_as_flag};
 use ix_output::{flush, put_all};
@@ -53,11 +53,10 @@ const ONE_FILE: usize = 1;
 /// `err`, and whether that line could be written is not answered. A refusal leaves `out` as it was,
 /// but where a write was refused: a beginning of the names, or of the help that was asked for, is
 /// out then.
-pub fn command_over<R: Threads + Wait + Sync, F: Files, S: RunFiles, V: Watch, W: Write, E: Write>(
+pub fn command_over<R: Threads + Wait + Sync, F: Files, V: Watch, W: Write, E: Write>(
     rt: &R,
     alloc: Global,
     files: &mut F,
-    runs: &S,
     watch: &V,
     words: &[&str],
     out: &mut W,
@@ -68,12 +67,12 @@ pub fn command_over<R: Threads + Wait + Sync, F: Files, S: RunFiles, V: Watch, W
         IsHelped (spelled words.now) (W.contents out.old) (W.contents out.new)
         ⊎ FindsSome (held_in (F.view files.old))
         (saved_in (F.sent files.new) (F.view files.old) (F.view files.new))
-        (keeping_of S.Reader.remaining (S.back runs.now)) (spelled words.now)
+        (keeping_of F.Shared.Reader.remaining F.Shared.shared F.Shared.back) (spelled words.now)
         (W.contents out.old) (W.contents out.new) }
     ensures nothing { result ≡ 1 →
         FindsNone (held_in (F.view files.old))
         (saved_in (F.sent files.new) (F.view files.old) (F.view files.new))
-        (keeping_of S.Reader.remaining (S.back runs.now)) (spelled words.now)
+        (keeping_of F.Shared.Reader.remaining F.Shared.shared F.Shared.back) (spelled words.now)
         (W.contents out.old) (W.contents out.new) }
     ensures quiet { result ≢ 2 → Keeps (E.contents err.old) (E.contents err.new) }
     ensures refused { result ≡ 2 →
@@ -84,25 +83,24 @@ pub fn command_over<R: Threads + Wait + Sync, F: Files, S: RunFiles, V: Watch, W
     ensures files { (F.view files.new).honest
         → LeavesFilesOf (spelled words.now) (F.view files.old) (F.view files.new) }
     ensures undone { result ≡ 2 → (F.view files.new).honest → AreUndone
-        (held_in (F.view files.old)) (keeping_of S.Reader.remaining (S.back runs.now))
+        (held_in (F.view files.old)) (keeping_of F.Shared.Reader.remaining F.Shared.shared F.Shared.back)
         (spelled words.now) (F.view files.old) (F.view files.new) }
 {
     let words = match with_help_as_flag(alloc, words) {
         Ok(words) => words,
         Err(AllocError) => return refuse(alloc, err, &Refusal::Engine(EngineRefusal::Memory)),
     };
-    match run(rt, alloc, files, runs, watch, words.as_slice(), out) {
+    match run(rt, alloc, files, watch, words.as_slice(), out) {
         Ok(status) => status,
         Err(refusal) => refuse(alloc, err, &refusal),
     }
 }
 
 /// Does what the words ask for, but for telling a refusal.
-fn run<'a, R: Threads + Wait + Sync, F: Files, S: RunFiles, V: Watch, W: Write>(
+fn run<'a, R: Threads + Wait + Sync, F: Files, V: Watch, W: Write>(
     rt: &R,
     alloc: Global,
     files: &mut F,
-    runs: &S,
     watch: &V,
     words: &'a [&'a str],
     out: &mut W,
@@ -112,12 +110,12 @@ fn run<'a, R: Threads + Wait + Sync, F: Files, S: RunFiles, V: Watch, W: Write>(
         IsHelped (texts_of words.entry.now) (W.contents out.old) (W.contents out.new)
         ⊎ FindsSome (held_in (F.view files.old))
         (saved_in (F.sent files.new) (F.view files.old) (F.view files.new))
-        (keeping_of S.Reader.remaining (S.back runs.now)) (texts_of words.entry.now)
+        (keeping_of F.Shared.Reader.remaining F.Shared.shared F.Shared.back) (texts_of words.entry.now)
         (W.contents out.old) (W.contents out.new)) }
     ensures nothing { IfOk result (λ status. status ≡ 1 →
         FindsNone (held_in (F.view files.old))
         (saved_in (F.sent files.new) (F.view files.old) (F.view files.new))
-        (keeping_of S.Reader.remaining (S.back runs.now)) (texts_of words.entry.now)
+        (keeping_of F.Shared.Reader.remaining F.Shared.shared F.Shared.back) (texts_of words.entry.now)
         (W.contents out.old) (W.contents out.new)) }
     ensures refused { IfErr result (IsRefusedFor (held_in (F.view files.old))
         (texts_of words.entry.now)
@@ -125,7 +123,7 @@ fn run<'a, R: Threads + Wait + Sync, F: Files, S: RunFiles, V: Watch, W: Write>(
     ensures files { (F.view files.new).honest
         → LeavesFilesOf (texts_of words.entry.now) (F.view files.old) (F.view files.new) }
     ensures undone { OnErr result ((F.view files.new).honest → AreUndone
-        (held_in (F.view files.old)) (keeping_of S.Reader.remaining (S.back runs.now))
+        (held_in (F.view files.old)) (keeping_of F.Shared.Reader.remaining F.Shared.shared F.Shared.back)
         (texts_of words.entry.now) (F.view files.old) (F.view files.new)) }
 {
     match read_line(alloc, words) {
@@ -133,7 +131,7 @@ fn run<'a, R: Threads + Wait + Sync, F: Files, S: RunFiles, V: Watch, W: Write>(
             if reads_input_twice(&line) {
                 return Err(Refusal::Arguments);
             }
-            let count = do_line(rt, alloc, files, runs, watch, line, out)?;
+            let count = do_line(rt, alloc, files, watch, line, out)?;
             Ok(if count == 0 { NOTHING } else { FOUND })
         }
         Err(error) => {
@@ -144,25 +142,24 @@ fn run<'a, R: Threads + Wait + Sync, F: Files, S: RunFiles, V: Watch, W: Write>(
 }
 
 /// Does a line that was read, and answers how much was found.
-fn do_line<'a, R: Threads + Wait + Sync, F: Files, S: RunFiles, V: Watch, W: Write>(
+fn do_line<'a, R: Threads + Wait + Sync, F: Files, V: Watch, W: Write>(
     rt: &R,
     alloc: Global,
     files: &mut F,
-    runs: &S,
     watch: &V,
     line: Line<'a>,
     out: &mut W,
 ) -> Result<usize, Refusal<'a>>
     ensures done { IfOk result (IsDone (held_in (F.view files.old))
         (saved_in (F.sent files.new) (F.view files.old) (F.view files.new))
-        (keeping_of S.Reader.remaining (S.back runs.now)) line.entry
+        (keeping_of F.Shared.Reader.remaining F.Shared.shared F.Shared.back) line.entry
         (W.contents out.old) (W.contents out.new)) }
     ensures refused { IfErr result (IsLineRefused (held_in (F.view files.old)) line.entry
         (W.contents out.old) (W.contents out.new)) }
     ensures files { (F.view files.new).honest
         → LeavesFiles line.entry (F.view files.old) (F.view files.new) }
     ensures undone { OnErr result ((F.view files.new).honest → IsUndone
-        (held_in (F.view files.old)) (keeping_of S.Reader.remaining (S.back runs.now))
+        (held_in (F.view files.old)) (keeping_of F.Shared.Reader.remaining F.Shared.shared F.Shared.back)
         line.entry (F.view files.old) (F.view files.new)) }
 {
     match line {
@@ -180,7 +177,7 @@ fn do_line<'a, R: Threads + Wait + Sync, F: Files, S: RunFiles, V: Watch, W: Wri
             collection,
             index,
         } => one_file(build::run(
-            rt, alloc, files, runs, watch, stop, &plan, collection, index,
+            rt, alloc, files, watch, stop, &plan, collection, index,
         )),
         Line::Live {
             stop,

@@ -101,42 +101,6 @@ pub fn keep_apart<'a, F: Files>(files: &F, input: &str, output: &'a str) -> Resu
     }
 }
 
-/// Returns an error if a path leads to a file that is called as those of runs are, in the folder of a plan. If there is no such
-/// folder, no run will be kept.
-pub fn keep_from_runs<'a, F: Files>(
-    alloc: Global,
-    files: &F,
-    plan: &Plan,
-    path: &'a str,
-) -> Result<(), Refusal<'a>>
-    ensures refused { IfErr result (IsSameOrUnsaved path.entry.now) }
-{
-    let Some(folder) = plan.folder() else {
-        return Ok(());
-    };
-    let Ok(run) = format!(in alloc; "{folder}/run-0000000000") else {
-        return Err(Refusal::Engine(EngineRefusal::Memory));
-    };
-    let Ok(run) = files.locate(run.as_str()) else {
-        return Ok(());
-    };
-    match files.locate(path) {
-        Ok(at) if at.folder() == run.folder() && is_run_name(at.name()) => {
-            Err(Refusal::Same(path))
-        }
-        Ok(_) => Ok(()),
-        Err(error) => Err(Refusal::unsaved(path, error)),
-    }
-}
-
-/// Whether files of runs are called like this: `run-` and ten digits.
-fn is_run_name(name: &str) -> bool {
-    match name.strip_prefix("run-") {
-        Some(number) => number.len() == 10 && number.bytes().all(|byte| byte.is_ascii_digit()),
-        None => false,
-    }
-}
-
 /// Locks the folder of a plan in which runs are kept. One that cannot be opened, or of a file system without locks, is left to the
 /// build.
 pub fn lock_runs<'a, F: Files>(

@@ -1,26 +1,27 @@
--- Drafts of a file come and go.
+-- Some names change, and all others stay.
 use Rattle.std.proofs.Common.{◌≡◌, ⊎_elim, inr, refl, sym, subst, ◌∙◌, arith}
-use Rattle.ix_files.specs.Drafts.{ChangesDrafts, IsDraftPlace, IsOld, StopsAt}
+use Rattle.ix_files.specs.Changes.{ChangesOnly, IsOld, StopsAt}
+use Rattle.ix_files.specs.Drafts.{IsDraftPlace}
 use Rattle.ix_files.specs.Slots.{IsSameBut, Nothing, Place, Slots, Stops}
 use Rattle.ix_files.specs.Steps.{Overwrites}
 use Rattle.ix_files.specs.Views.{Calls, GoesOn, View}
 use Rattle.ix_files.proofs.Moments.{Run, called, elsewhere, place_decided, started}
 
-pub unchanged : (target : Place) (old : View) → ((left : Slots) → old.left_since old.moment left → Stops old.slots left) → ChangesDrafts target old old
-unchanged target old only = record {
+pub unchanged : (Excepted : Place → Type 0) (old : View) → ((left : Slots) → old.left_since old.moment left → Stops old.slots left) → ChangesOnly Excepted old old
+unchanged Excepted old only = record {
   others = λ honest place other. refl;
   any_moment = λ honest.
-      let run : Run (λ place entry. ¬ (IsDraftPlace target place) → StopsAt (old.slots place) entry) old old = started old (λ place entry stop other. stop) only in
+      let run : Run (λ place entry. ¬ (Excepted place) → StopsAt (old.slots place) entry) old old = started old (λ place entry stop other. stop) only in
       run.moments;
 }
 
 -- one call more, of which it is known that answers are as the files were
-pub changed_if : {target : Place} {step : Slots → Slots → Type 0} {old mid new : View} → ChangesDrafts target old mid → Calls step mid new
-    → (new.honest → (slots : Slots) → step mid.slots slots → (place : Place) → ¬ (IsDraftPlace target place) → slots place ≡ mid.slots place) → ChangesDrafts target old new
-changed_if {target = target} {old = old} {mid} {new} changes calls same = record {
+pub changed_if : {Excepted : Place → Type 0} {step : Slots → Slots → Type 0} {old mid new : View} → ChangesOnly Excepted old mid → Calls step mid new
+    → (new.honest → (slots : Slots) → step mid.slots slots → (place : Place) → ¬ (Excepted place) → slots place ≡ mid.slots place) → ChangesOnly Excepted old new
+changed_if {Excepted = Excepted} {old = old} {mid} {new} changes calls same = record {
   others = λ honest place other. ⊎_elim (λ stays. stays place) (λ did. same honest new.slots did place other) (calls.passes honest).within ∙ changes.others (calls.honest honest) place other;
   any_moment = λ honest.
-      let run : Run (λ place entry. ¬ (IsDraftPlace target place) → StopsAt (old.slots place) entry) old mid = record {
+      let run : Run (λ place entry. ¬ (Excepted place) → StopsAt (old.slots place) entry) old mid = record {
         moments = changes.any_moment (calls.honest honest);
         now = λ place entry stop other. subst (λ slot. StopsAt slot entry) (changes.others (calls.honest honest) place other) stop;
       } in
@@ -28,19 +29,19 @@ changed_if {target = target} {old = old} {mid} {new} changes calls same = record
 }
 
 -- one call more
-pub changed : {target : Place} {step : Slots → Slots → Type 0} {old mid new : View} → ChangesDrafts target old mid → Calls step mid new
-    → ((slots : Slots) → step mid.slots slots → (place : Place) → ¬ (IsDraftPlace target place) → slots place ≡ mid.slots place) → ChangesDrafts target old new
+pub changed : {Excepted : Place → Type 0} {step : Slots → Slots → Type 0} {old mid new : View} → ChangesOnly Excepted old mid → Calls step mid new
+    → ((slots : Slots) → step mid.slots slots → (place : Place) → ¬ (Excepted place) → slots place ≡ mid.slots place) → ChangesOnly Excepted old new
 changed changes calls same = changed_if changes calls (λ honest. same)
 
 -- changes, and changes after them
-pub changed_again : {target : Place} {old mid new : View} → ChangesDrafts target old mid → ChangesDrafts target mid new → (new.honest → mid.honest)
-    → ChangesDrafts target old new
-changed_again {target = target} {old = old} {mid} {new} first next honest_before = record {
+pub changed_again : {Excepted : Place → Type 0} {old mid new : View} → ChangesOnly Excepted old mid → ChangesOnly Excepted mid new → (new.honest → mid.honest)
+    → ChangesOnly Excepted old new
+changed_again {Excepted = Excepted} {old = old} {mid} {new} first next honest_before = record {
   others = λ honest place other. next.others honest place other ∙ first.others (honest_before honest) place other;
   any_moment = λ honest.
       let early = first.any_moment (honest_before honest) in
       let late = next.any_moment honest in
-      let was_old : (left : Slots) → IsOld (IsDraftPlace target) mid.slots left → IsOld (IsDraftPlace target) old.slots left
+      let was_old : (left : Slots) → IsOld Excepted mid.slots left → IsOld Excepted old.slots left
       = λ left is_old place other. subst (λ slot. StopsAt slot (left place).now) (first.others (honest_before honest) place other) (is_old place other) in
       record {
         later = omega (arith, early.later, late.later);

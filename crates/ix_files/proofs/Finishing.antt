@@ -1,7 +1,7 @@
 -- A draft takes the place of a file.
 use Rattle.std.proofs.Common.{◌≡◌, ◌⊎◌, inl, inr, ⊎_elim, ℕ, List, [], Option, Some, Result, Ok, Err, OnErr, sym, ap, subst, ◌∙◌}
 use Rattle.std.specs.Prelude.{unwrap_or}
-use Rattle.ix_files.specs.Drafts.{StopsAt}
+use Rattle.ix_files.specs.Changes.{StopsAt}
 use Rattle.ix_files.specs.Slots.{Entry, Kept, Place, Slots, Stops, entered}
 use Rattle.ix_files.specs.Steps.{Removes, Renames, Settles, Syncs}
 use Rattle.ix_files.specs.Views.{Passes, View}

@@ -1,4 +1,5 @@
 pub mod Drafting
 pub mod Finishing
+pub mod Gone
 pub mod Moments
 pub mod Naming

@@ -2,7 +2,7 @@
 use Rattle.std.proofs.Common.{◌≡◌, ◌≢◌, ◌⊎◌, inl, inr, ⊎_elim, ℕ, List, [], ◌∷◌, bytes_eq, Bool, true, false, refl, sym, ap, subst, ◌∙◌, arith}
 use Rattle.std.proofs.lemmas.Slice.Eq.{bytes_eq-Decides}
 use Rattle.std.proofs.lemmas.Bool.Decides.{not_from_Decides}
-use Rattle.ix_files.specs.Drafts.{StopsAt}
+use Rattle.ix_files.specs.Changes.{StopsAt}
 use Rattle.ix_files.specs.Slots.{ComesBackAs, Entry, IsOneOf, Kept, MayLeave, Place, Slot, Slots, Stops, at_rest, entered}
 use Rattle.ix_files.specs.Slots.ComesBackAs.{kept}
 use Rattle.ix_files.specs.Slots.IsOneOf.{first, later}

@@ -1,9 +1,10 @@
 -- A new file beside the one that it will replace, and what a stop leaves of the one.
 use Rattle.std.specs.Prelude.{◌≡◌, ◌≢◌, ◌≤◌, ◌<◌, ◌+◌, ◌⊎◌, ℕ, List, ◌++◌, codes, decimal, length}
 use Rattle.std.specs.Io.{StartsWith}
+use Rattle.ix_files.specs.Changes.{ChangesOnly, StopsAt}
 use Rattle.ix_files.specs.Locations.{place_of}
-use Rattle.ix_files.specs.Slots.{Entry, Kept, MayLeave, Nothing, Place, Slot, Slots, at_rest}
-use Rattle.ix_files.specs.Views.{LeavesOnly, View}
+use Rattle.ix_files.specs.Slots.{Kept, Nothing, Place, Slots, at_rest}
+use Rattle.ix_files.specs.Views.{View}
 use Rattle.ix_files.specs.declared.draft.Draft.{Draft}
 
 -- The name of a draft, by its number, of a file of this name. It has only a beginning of the file's name if it would be too long.
@@ -36,23 +37,14 @@ target_of draft = place_of draft.target
 abbrev pub own_of : {W : Type 0} → Draft W → Place
 own_of draft = place_of draft.own
 
--- A stop of the program or of the machine may leave this at a name.
-abbrev pub StopsAt : Slot → Entry → Type 0
-StopsAt slot entry = (entry ≡ slot.now) ⊎ MayLeave slot entry
-
--- A stop left at each name but these what it could leave there before.
-abbrev pub IsOld : (Place → Type 0) → Slots → Slots → Type 0
-IsOld Excepted old left = (place : Place) → ¬ (Excepted place) → StopsAt (old place) (left place).now
-
--- The same, but the target may be the new text whole.
+-- A stop left at each name but these what it could leave there before, or the new text whole at the target.
 abbrev pub IsOldOrNew : (Place → Type 0) → Place → List ℕ → Slots → Slots → Type 0
 IsOldOrNew Excepted target text old left = (place : Place) → ¬ (Excepted place)
     → StopsAt (old place) (left place).now ⊎ ((place ≡ target) × ((left place).now ≡ Kept text))
 
--- So drafts of this file come and go: all other names stay, and a stop at any moment leaves at them what it could leave before.
-pub record ChangesDrafts (target : Place) (old new : View) : Type 0 where
-  pub others : new.honest → (place : Place) → ¬ (IsDraftPlace target place) → new.slots place ≡ old.slots place
-  pub any_moment : new.honest → LeavesOnly (IsOld (IsDraftPlace target) old.slots) old new
+-- Drafts of this file come and go; all other names stay.
+abbrev pub ChangesDrafts : Place → View → View → Type 0
+ChangesDrafts target = ChangesOnly (IsDraftPlace target)
 
 -- What the draft was to replace is the draft's text, on the disk, and no crash brings back what was there; the draft's own name is
 -- free.

@@ -1,3 +1,4 @@
+pub mod Changes
 pub mod Drafts
 pub mod Locations
 pub mod MemoryChanges

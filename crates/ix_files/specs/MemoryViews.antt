@@ -1,5 +1,5 @@
 -- What is known of files in memory.
-use Rattle.std.specs.Prelude.{◌≡◌, ◌≤◌, ◌<◌, ◌-◌, ◌^◌, List, [], ◌∷◌, ℕ, length, Option, IfSome, IsSome, Result, OnErr, OnOk}
+use Rattle.std.specs.Prelude.{◌≡◌, ◌≤◌, ◌<◌, ◌-◌, ◌^◌, List, [], ◌∷◌, ℕ, bytes_eq, codes, if◌then◌else◌, length, Option, IfSome, IsSome, Result, OnErr, OnOk}
 use Rattle.ix_files.specs.MemoryChanges.{StopsSince, after_change, after_changes}
 use Rattle.ix_files.specs.Slots.{Place, Slots}
 use Rattle.ix_files.specs.Views.{View}
@@ -10,12 +10,16 @@ use Rattle.ix_files.specs.declared.memory_files.MemoryFiles.{MemoryFiles}
 abbrev pub place_at : List ℕ → Place
 place_at path = record { folder = []; name = path }
 
+-- the folder to which a path of one leads: `.` is that of all files
+abbrev pub folder_of : List ℕ → List ℕ
+folder_of path = if bytes_eq path (codes ".") then [] else path
+
 -- They are honest until the count of faults is full, which it never is.
 abbrev pub view_after : List Change → ℕ → View
 view_after changes faults = record {
   honest = faults < 2 ^ 64 - 1;
   place = place_at;
-  folder = λ path. path;
+  folder = folder_of;
   slots = after_changes changes;
   moment = length changes;
   left_since = StopsSince changes;

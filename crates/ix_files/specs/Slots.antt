@@ -1,10 +1,14 @@
 -- What is at each name of each folder, and what a stop of the program or of the machine leaves there.
-use Rattle.std.specs.Prelude.{◌≡◌, ◌≢◌, ◌⊎◌, List, ℕ, [], ◌∷◌, Option, Some, None}
+use Rattle.std.specs.Prelude.{◌≡◌, ◌≢◌, ◌⊎◌, List, ℕ, [], ◌∷◌, Option, Some, None, slice_get}
 
 -- A name in a folder. A path leads to one, through links and dots.
 pub record Place : Type 0 where
   pub folder : List ℕ
   pub name : List ℕ
+
+-- It is one of these names.
+abbrev pub IsAmong : List Place → Place → Type 0
+IsAmong names place = (index : ℕ) × (slice_get names index ≡ Some place)
 
 -- What is at a name: no file, one that is being written, one with these bytes, and one whose bytes are on the disk.
 pub data Entry : Type 0 where

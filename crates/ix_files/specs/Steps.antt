@@ -1,6 +1,6 @@
 -- What a call does to the files: each step says what is new at which name, and that the others stay.
 use Rattle.std.specs.Prelude.{◌≡◌, ◌≢◌, List, ℕ, Option, Some}
-use Rattle.ix_files.specs.Slots.{Place, Slots, Growing, Kept, Nothing, IsSame, IsSameBut, at_rest, entered}
+use Rattle.ix_files.specs.Slots.{Place, Slots, Growing, Kept, Nothing, IsAmong, IsSame, IsSameBut, at_rest, entered}
 
 -- A new file is there, which is being written.
 pub record Creates (place : Place) (old new : Slots) : Type 0 where
@@ -36,6 +36,10 @@ pub record Overwrites (place : Place) (old new : Slots) : Type 0 where
   pub none : (old place).now ≡ Nothing → new place ≡ old place
   pub file : (old place).now ≢ Nothing → new place ≡ entered (old place) Growing
   pub elsewhere : IsSameBut place old new
+
+-- Nothing is known of what is at these names; all others stay.
+pub record Shares (names : List Place) (old new : Slots) : Type 0 where
+  pub elsewhere : (place : Place) → ¬ (IsAmong names place) → new place ≡ old place
 
 -- nothing
 abbrev pub Stays : Slots → Slots → Type 0

@@ -2,7 +2,8 @@
 
 ghost use Rattle.std.specs.Prelude.{◌≡◌, ◌≢◌, ◌<◌, ◌≤◌, ◌⊎◌, ℕ, List, [], Some, IfOk, IsErrOf, OnErr, OnOk, length, string_bytes};
 ghost use Rattle.std.specs.Io.{StartsWith};
-ghost use Rattle.ix_files.specs.Drafts.{ChangesDrafts, HasDraft, IsDraftName, IsDraftPlace, IsFinished, IsOld, IsOldOrNew, IsUnfinished, own_of, target_of};
+ghost use Rattle.ix_files.specs.Changes.{IsOld};
+ghost use Rattle.ix_files.specs.Drafts.{ChangesDrafts, HasDraft, IsDraftName, IsDraftPlace, IsFinished, IsOldOrNew, IsUnfinished, own_of, target_of};
 ghost use Rattle.ix_files.specs.Locations.{place_of};
 ghost use Rattle.ix_files.specs.Slots.{Growing, Nothing, Place};
 ghost use Rattle.ix_files.specs.Views.{GoesOn, HasCause, LeavesOnly};

@@ -1,16 +1,18 @@
 //! Files by their paths.
 
-ghost use Rattle.std.specs.Prelude.{◌≡◌, ◌≢◌, ◌≤◌, ◌<◌, ℕ, List, [], Some, false, IfErr, IfOk, IfSome, IsErrOf, OnErr, OnOk};
+ghost use Rattle.std.specs.Prelude.{◌≡◌, ◌≢◌, ◌≤◌, ◌<◌, ℕ, List, [], Some, false, map, IfErr, IfOk, IfSome, IsErrOf, OnErr, OnOk};
+ghost use Rattle.std.specs.String.{string_bytes};
 ghost use Rattle.ix_files.specs.Locations.{place_of};
 ghost use Rattle.ix_files.specs.Opened.{IsKindOf, IsOpened, IsReadError};
-ghost use Rattle.ix_files.specs.Slots.{Nothing, Slots, Stops};
-ghost use Rattle.ix_files.specs.Steps.{Creates, Overwrites, Removes, Renames, Settles, Stays, Syncs};
+ghost use Rattle.ix_files.specs.Slots.{IsSame, Nothing, Slots, Stops};
+ghost use Rattle.ix_files.specs.Steps.{Creates, Overwrites, Removes, Renames, Settles, Shares, Stays, Syncs};
 ghost use Rattle.ix_files.specs.Views.{Calls, HasCause, View};
-ghost use Rattle.ix_files.specs.declared.file_error.FileError.TheVariants.{Exists};
+ghost use Rattle.ix_files.specs.declared.file_error.FileError.TheVariants.{Exists, Memory};
 
 use crate::file_error::FileError;
 use crate::kind::Kind;
 use crate::location::Location;
+use crate::shared_files::SharedFiles;
 use std::io::{Read, Write};
 
 /// Files by their paths.
@@ -30,6 +32,9 @@ pub trait Files {
 
     /// A folder that is locked as long as this lives.
     type Lock: Drop;
+
+    /// Files that threads share.
+    type Shared: SharedFiles;
 
     // what is known of them
     ghost view: { Self → View };
@@ -56,6 +61,15 @@ pub trait Files {
     fn locate(&self, path: &str) -> Result<Location, FileError>
         ensures located { IfOk result (λ location. (view self.now).honest
             → place_of location ≡ (view self.now).place path.now) }
+        ensures cause { IfErr result (IsReadError (failed self.now path.now)) };
+
+    /// The folder that a path leads to, through links.
+    ///
+    /// # Errors
+    /// `Memory`; `Failed`, also if there is no such folder.
+    fn locate_folder(&self, path: &str) -> Result<String, FileError>
+        ensures located { IfOk result (λ folder. (view self.now).honest
+            → string_bytes folder ≡ (view self.now).folder path.now) }
         ensures cause { IfErr result (IsReadError (failed self.now path.now)) };
 
     /// Whether two paths lead to one file. One that leads to none leads to no other's.
@@ -153,6 +167,19 @@ pub trait Files {
         ensures call { Calls (Settles folder.now) (view self.old) (view self.new) }
         ensures cause { OnErr result ((view self.new).honest
             → (view self.old).faults < (view self.new).faults) };
+
+    /// Files of these names for threads to share. What is at these names is not known from now on, until it is changed by
+    /// another call.
+    ///
+    /// # Errors
+    /// `Memory`.
+    fn share(&mut self, names: Vec<Location>) -> Result<Self::Shared, FileError>
+        ensures shared { IfOk result (λ shared.
+            Self.Shared.shared shared ≡ map place_of names.items) }
+        ensures call { Calls (Shares (map place_of names.items)) (view self.old) (view self.new) }
+        ensures unshared { OnErr result ((view self.new).honest
+            → IsSame (view self.old).slots (view self.new).slots) }
+        ensures error { IfErr result (λ error. error ≡ Memory) };
 
     /// A writer into the device or the pipe that a path leads to; `-` is the standard output.
     ///

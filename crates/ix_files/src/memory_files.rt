@@ -3,6 +3,7 @@
 ghost use Rattle.std.specs.Prelude.{◌≡◌, ◌≢◌, Some, IfErr, IfOk, IfSome, OnOk};
 ghost use Rattle.std.specs.Io.Cursor.{cursor_remaining};
 ghost use Rattle.ix_files.specs.Locations.{place_of};
+ghost use Rattle.ix_files.specs.MemoryViews.{folder_of};
 ghost use Rattle.ix_files.specs.Opened.{IsReadError};
 ghost use Rattle.ix_files.specs.Steps.{Removes, Renames, Settles, Syncs};
 
@@ -11,13 +12,17 @@ use crate::files::Files;
 use crate::kind::Kind;
 use crate::location::Location;
 use crate::memory_changes::{Change, Found, again, found_at};
+use crate::memory_shared::{Failures, MemoryShared};
 use crate::memory_writer::MemoryWriter;
+use once_cell::race::OnceBox;
 use std::alloc::{AllocError, Global};
 use std::io::Cursor;
+use std::sync::Arc;
 use std::sync::atomic::{AtomicUsize, Ordering};
 
 /// Files in memory, of which all that [`Files`] promises is proved. Tests fill them, read them, and let a call fail. They are all
-/// in one folder: a path is a name in it. A file that is being written is locked until it is synced.
+/// in the folder `.`: a path is a name in it. A path with no `/` is that of another folder, too. A file that is being written is
+/// locked until it is synced.
 #[derive(Drop)]
 pub struct MemoryFiles {
     alloc: Global,
@@ -26,9 +31,14 @@ pub struct MemoryFiles {
     faults: u64,
     streams: Vec<Stream>,
     room: usize,
-    calls: AtomicUsize,
-    failing: usize,
-    starved: bool,
+    failures: Failures,
+}
+
+/// The folder to which a path of one leads.
+fn folder_at(path: &str) -> &str
+    ensures { result.now ≡ folder_of path.now }
+{
+    if path == "." { "" } else { path }
 }
 
 /// A device or a pipe: its path, and what it gives or was given last.
@@ -46,20 +56,23 @@ impl MemoryFiles {
     ghost use Rattle.ix_files.specs.declared.file_error.FileError.TheVariants.{Failed};
 
     /// No files.
-    pub fn new(alloc: Global) -> MemoryFiles
-        ensures honest { (memory_view result).honest }
-        ensures empty { IsSame no_files (memory_view result).slots }
+    pub fn new(alloc: Global) -> Result<MemoryFiles, AllocError>
+        ensures honest { IfOk result (λ files. (memory_view files).honest) }
+        ensures empty { IfOk result (λ files. IsSame no_files (memory_view files).slots) }
     {
-        MemoryFiles {
+        let calls = Arc::new(alloc, AtomicUsize::new(0))?;
+        Ok(MemoryFiles {
             alloc,
             changes: Vec::new(alloc),
             faults: 0,
             streams: Vec::new(alloc),
             room: usize::MAX,
-            calls: AtomicUsize::new(0),
-            failing: 0,
-            starved: false,
-        }
+            failures: Failures {
+                calls,
+                failing: 0,
+                starved: false,
+            },
+        })
     }
 
     /// Puts a file with these bytes at a path, on the disk.
@@ -95,14 +108,14 @@ impl MemoryFiles {
     pub fn fail_at(&mut self, number: usize, starved: bool)
         ensures { IsSame (memory_view self.old).slots (memory_view self.new).slots }
     {
-        self.calls = AtomicUsize::new(0);
-        self.failing = number;
-        self.starved = starved;
+        self.failures.calls.store(0, Ordering::SeqCst);
+        self.failures.failing = number;
+        self.failures.starved = starved;
     }
 
     /// How many calls there were since it was said which is to fail.
     pub fn calls(&self) -> usize {
-        self.calls.load(Ordering::SeqCst)
+        self.failures.calls.load(Ordering::SeqCst)
     }
 
     /// The bytes of the file at a path, if there is one that nobody writes.
@@ -124,12 +137,6 @@ impl MemoryFiles {
             }
         }
         None
-    }
-
-    /// Counts a call, and returns whether it is the one that is to fail.
-    fn is_failing(&self) -> bool {
-        let before = self.calls.fetch_add(1, Ordering::SeqCst);
-        before.wrapping_add(1) == self.failing
     }
 
     /// The name to which a path leads.
@@ -154,13 +161,7 @@ impl MemoryFiles {
             ≡ ((memory_view self.now).slots (place_at path.now)).now) }
         ensures cause { IfErr result (IsReadError (Unit {0})) }
     {
-        if self.is_failing() {
-            return Err(if self.starved {
-                FileError::Memory
-            } else {
-                FileError::Failed
-            });
-        }
+        self.failures.pass()?;
         Ok(found_at(&self.changes, "", path))
     }
 
@@ -191,7 +192,7 @@ impl MemoryFiles {
         let Some(change) = change else {
             return Err(self.fail());
         };
-        if self.is_failing() || self.changes.insert(0, change).is_err() {
+        if self.failures.is_next() || self.changes.insert(0, change).is_err() {
             return Err(self.fail());
         }
         Ok(())
@@ -252,6 +253,8 @@ impl Files for MemoryFiles {
 
     type Lock = ();
 
+    type Shared = MemoryShared;
+
     ghost view = { memory_view };
 
     ghost sent = { λ _. nothing_sent };
@@ -269,10 +272,18 @@ impl Files for MemoryFiles {
     }
 
     fn locate(&self, path: &str) -> Result<Location, FileError> {
-        if self.is_failing() {
+        if self.failures.is_next() {
             return Err(FileError::Failed);
         }
         Ok(self.location(path)?)
+    }
+
+    fn locate_folder(&self, path: &str) -> Result<String, FileError> {
+        self.failures.pass()?;
+        if path.contains('/') {
+            return Err(FileError::Failed);
+        }
+        Ok(String::from_str(self.alloc, folder_at(path))?)
     }
 
     fn is_same(&self, one: &str, other: &str) -> Result<bool, FileError> {
@@ -294,7 +305,7 @@ impl Files for MemoryFiles {
     }
 
     fn lock_folder(&self, _path: &str) -> Result<(), FileError> {
-        if self.is_failing() {
+        if self.failures.is_next() {
             return Err(FileError::Failed);
         }
         Ok(())
@@ -339,15 +350,36 @@ impl Files for MemoryFiles {
         self.make(change)
     }
 
+    fn share(&mut self, names: Vec<Location>) -> Result<MemoryShared, FileError> {
+        let mut files = Vec::new(self.alloc);
+        for _ in 0..names.len() {
+            if files.push(OnceBox::new(self.alloc)).is_err() {
+                return Err(FileError::Memory);
+            }
+        }
+        let failures = Failures {
+            calls: Arc::try_clone(&self.failures.calls)?,
+            failing: self.failures.failing,
+            starved: self.failures.starved,
+        };
+        Ok(MemoryShared {
+            alloc: self.alloc,
+            names,
+            files,
+            failures,
+            room: self.room,
+        })
+    }
+
     fn open_stream(&mut self, path: &str) -> Result<MemoryWriter, FileError> {
-        if self.is_failing() || self.stream_bytes(path).is_none() {
+        if self.failures.is_next() || self.stream_bytes(path).is_none() {
             return Err(self.fail());
         }
         Ok(MemoryWriter::new(self.alloc, self.room))
     }
 
     fn close_stream(&mut self, path: &str, writer: MemoryWriter) -> Result<(), FileError> {
-        if self.is_failing() {
+        if self.failures.is_next() {
             return Err(self.fail());
         }
         for stream in self.streams.iter_mut() {

@@ -9,6 +9,7 @@ use crate::file_error::FileError;
 use crate::files::Files;
 use crate::kind::Kind;
 use crate::location::{Location, split};
+use crate::system_shared::SystemShared;
 use std::fs::{File, Metadata, OpenOptions, Permissions, TryLockError};
 use std::io::{ErrorKind, Input, Print, Printer, Read, Write};
 use std::os::unix::fs::{FileTypeExt, MetadataExt, PermissionsExt, chown};
@@ -123,7 +124,7 @@ impl<R: rt::Files<File = File> + AllocGlobal> SystemFiles<'_, R> {
 
 impl<'r, R> Files for SystemFiles<'r, R>
 where
-    R: rt::Files<File = File> + Input + Print + AllocGlobal,
+    R: rt::Files<File = File> + Input + Print + AllocGlobal + Sync,
 {
     type Reader = SystemReader<R::Reader>;
 
@@ -132,6 +133,8 @@ where
     type Held = File;
 
     type Lock = File;
+
+    type Shared = SystemShared<'r, R>;
 
     ghost view = { λ _. system_view };
 
@@ -159,6 +162,10 @@ where
             }
         }
         Err(FileError::Failed)
+    }
+
+    fn locate_folder(&self, path: &str) -> Result<String, FileError> {
+        self.canonical(path)
     }
 
     fn is_same(&self, one: &str, other: &str) -> Result<bool, FileError> {
@@ -249,6 +256,10 @@ where
         }
     }
 
+    fn share(&mut self, names: Vec<Location>) -> Result<SystemShared<'r, R>, FileError> {
+        Ok(SystemShared { rt: self.rt, names })
+    }
+
     fn open_stream(&mut self, path: &str) -> Result<SystemWriter<'r, R>, FileError> {
         if path == STANDARD {
             return Ok(SystemWriter::Output(io::writer(self.rt)));
@@ -316,7 +327,7 @@ impl<R: Print> Write for SystemWriter<'_, R> {
 }
 
 /// What an error of the system is to a caller.
-fn fault(error: &io::Error) -> FileError
+pub(crate) fn fault(error: &io::Error) -> FileError
     ensures { IsReadError (Unit {0}) result }
 {
     if error.kind() == ErrorKind::OutOfMemory {

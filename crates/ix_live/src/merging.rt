@@ -8,7 +8,7 @@ ghost use Rattle.ix_live.specs.LiveErrors.{IsOfBuilding};
 ghost use Rattle.ix_live.specs.Segments.{of_documents};
 
 use crate::live_error::LiveError;
-use ix_build::{BuildError, Plan, build};
+use ix_build::{BuildError, Plan, build_in_memory};
 use ix_file::Volume;
 use ix_merge::{IndexSource, merge};
 use ix_text::{Collection as Documents, Memory, StopList};
@@ -30,7 +30,7 @@ pub fn build_volume<R: Threads + Wait + Sync>(
     ensures refused { IfErr result (IsOfBuilding plan.now.workers) }
 {
     let mut bytes = Vec::new(alloc);
-    match build(rt, alloc, documents, stop, plan, &mut bytes) {
+    match build_in_memory(rt, alloc, documents, stop, plan, &mut bytes) {
         Ok(()) => Ok(open_volume(alloc, bytes)?),
         Err(BuildError::Write) => Err(LiveError::Memory),
         Err(error) => Err(LiveError::Build(error)),

@@ -76,14 +76,31 @@ $ ix build --stop stop five stop
 ! ix: file 4: Same(stop)
 $ ix build --stop - - other
 ! ix: arguments refused
-$ put run-0000000003 a\tx\n
-$ ix build --runs=runs run-0000000003 other
-! ix: file 4: Same(run-0000000003)
-$ ix build --runs=runs five run-0000000003
-! ix: file 4: Same(run-0000000003)
-$ put run-0000000004 to\n
-$ ix build --runs=runs --stop run-0000000004 five other
+$ put run-0000000000 a\tx\n
+$ ix build --runs=. run-0000000000 other
+! ix: file 4: Same(run-0000000000)
+$ ix build --runs=. five run-0000000000
+! ix: file 4: Same(run-0000000000)
+$ ix build --runs=. --block=1 five run-0000000004
 ! ix: file 4: Same(run-0000000004)
+$ put run-0000000000 to\n
+$ ix build --runs=. --stop run-0000000000 five other
+! ix: file 4: Same(run-0000000000)
+$ size run-0000000000
+3
+$ size other
+no such file
+$ ix build --runs=. --block=1 five run-0000000005
+$ cmp run-0000000005 five2.ix
+$ size run-0000000000
+no such file
+$ ix build --runs=runs --block=2 --workers=3 five new
+$ cmp new five2.ix
+$ ix build --runs=runs --bytes=4 --workers=1 five new
+$ cmp new five2.ix
+$ ix build --stop=stop one stopped
+$ ix build --stop=stop one new --runs=runs
+$ cmp new stopped
 $ ix build --runs=no/such/folder five other
 ! ix: build 2: Spill(0)
 ";

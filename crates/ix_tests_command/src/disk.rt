@@ -16,11 +16,9 @@ pub struct Disk {
 
 impl Disk {
     /// No files.
-    pub(super) fn new(alloc: Global) -> Disk {
-        Disk {
-            alloc,
-            files: MemoryFiles::new(alloc),
-        }
+    pub(super) fn new(alloc: Global) -> Result<Disk, Fail> {
+        let files = MemoryFiles::new(alloc)?;
+        Ok(Disk { alloc, files })
     }
 
     /// Does what a command says of a path, or of a number, and what stands behind it: `put` gives the file spelled bytes, `cmp`

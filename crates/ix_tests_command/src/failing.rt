@@ -2,15 +2,15 @@
 
 use super::disk::Disk;
 use super::session::{FILES, play, tell, words_of};
-use ix_build::{RunFiles, SystemFiles};
 use std::process::Abort;
 use std::sync::Wait;
 use std::test::Fail;
 use std::thread::Threads;
 
 /// Lines that write `out`, in which there is something.
-const LINES: [&str; 6] = [
+const LINES: [&str; 7] = [
     "build five out",
+    "build --runs=runs --block=2 five out",
     "build --stop stop one out",
     "run ab out",
     "merge out 4.run 0.run 2.run",
@@ -19,24 +19,23 @@ const LINES: [&str; 6] = [
 ];
 
 /// More calls of files than a line has.
-const CALLS: usize = 24;
+const CALLS: usize = 48;
 
 /// A disk on which the call of this number fails, and what a line tells there.
-fn told_with<R: AllocGlobal + Abort + Threads + Wait + Sync, S: RunFiles>(
+fn told_with<R: AllocGlobal + Abort + Threads + Wait + Sync>(
     rt: &R,
-    runs: &S,
     number: usize,
     room: usize,
     line: &str,
     told: &mut String,
 ) -> Result<Disk, Fail> {
-    let mut disk = Disk::new(rt.alloc());
-    play(rt, &mut disk, runs, "", FILES)?;
+    let mut disk = Disk::new(rt.alloc())?;
+    play(rt, &mut disk, "", FILES)?;
     disk.files.put("out", b"old")?;
     disk.files.fail_at(number, false);
     disk.files.set_room(room);
     let words = words_of(rt.alloc(), line)?;
-    tell(rt, &mut disk, runs, &words, told)?;
+    tell(rt, &mut disk, &words, told)?;
     Ok(disk)
 }
 
@@ -51,15 +50,14 @@ fn keeps_others(disk: &Disk, other: &Disk) -> bool {
 
 #[test]
 fn a_call_that_fails_leaves_the_old_file(rt: HostRuntime) -> Result<(), Fail> {
-    let runs = SystemFiles { rt: &rt };
     for line in LINES {
         let mut told = String::new(rt.alloc());
-        let whole = told_with(&rt, &runs, 0, usize::MAX, line, &mut told)?;
+        let whole = told_with(&rt, 0, usize::MAX, line, &mut told)?;
         assert_eq!(rt; told.as_str(), "");
         let mut last_kept = 0;
         for number in 1..CALLS {
             let mut told = String::new(rt.alloc());
-            let disk = told_with(&rt, &runs, number, usize::MAX, line, &mut told)?;
+            let disk = told_with(&rt, number, usize::MAX, line, &mut told)?;
             let there = disk.files.bytes("out");
             if there == Some(b"old".as_slice()) {
                 assert!(rt; told.starts_with("! ix: "));
@@ -77,11 +75,10 @@ fn a_call_that_fails_leaves_the_old_file(rt: HostRuntime) -> Result<(), Fail> {
 
 #[test]
 fn a_write_that_fails_leaves_the_old_file(rt: HostRuntime) -> Result<(), Fail> {
-    let runs = SystemFiles { rt: &rt };
     for line in LINES {
         for room in 0..32 {
             let mut told = String::new(rt.alloc());
-            let disk = told_with(&rt, &runs, 0, room, line, &mut told)?;
+            let disk = told_with(&rt, 0, room, line, &mut told)?;
             assert!(rt; told.ends_with("Write\n") || told.ends_with("Write(out)\n"));
             assert!(rt; disk.files.bytes("out") == Some(b"old".as_slice()));
             assert!(rt; disk.files.bytes(".out.ix-1").is_none());

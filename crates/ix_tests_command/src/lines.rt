@@ -2,7 +2,6 @@
 
 use super::disk::Disk;
 use super::session::{tell, words_of};
-use ix_build::SystemFiles;
 use ix_line::{
     HELP, HELP_ON_ASK, HELP_ON_BUILD, HELP_ON_LIVE, HELP_ON_MERGE, HELP_ON_RUN, HELP_ON_SEARCH,
     HELP_ON_TERMS, HELP_ON_UPGRADE, Line, LineError, read_line,
@@ -91,11 +90,11 @@ const HELPS: [(&str, &str, &str); 11] = [
 
 #[test]
 fn help_of_the_program_and_of_each_command(rt: HostRuntime) -> Result<(), Fail> {
-    let mut disk = Disk::new(rt.alloc());
+    let mut disk = Disk::new(rt.alloc())?;
     for (line, text, part) in HELPS {
         let words = words_of(rt.alloc(), line)?;
         let mut told = String::new(rt.alloc());
-        tell(&rt, &mut disk, &SystemFiles { rt: &rt }, &words, &mut told)?;
+        tell(&rt, &mut disk, &words, &mut told)?;
         assert_eq!(rt; told.as_str(), text);
         assert!(rt; text.contains(part), "{part}");
     }

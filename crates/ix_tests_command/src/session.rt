@@ -11,7 +11,7 @@ use super::disk::{Disk, Narrow};
 use super::live::LIVE;
 use super::merging::{MERGING, UPGRADING};
 use super::questions::{OF_FIVE, REFUSED, TERMS, WORKED};
-use ix_build::{RunFiles, SystemFiles, Unwatched};
+use ix_build::Unwatched;
 use ix_command::command_over;
 use std::alloc::Global;
 use std::io::Write;
@@ -22,10 +22,9 @@ use std::thread::Threads;
 
 /// Runs the program, and answers its status. It has no contract, so that what a command promises is in view in none of its
 /// callers.
-fn status_of<R: AllocGlobal + Threads + Wait + Sync, S: RunFiles, W: Write, E: Write>(
+fn status_of<R: AllocGlobal + Threads + Wait + Sync, W: Write, E: Write>(
     rt: &R,
     disk: &mut Disk,
-    runs: &S,
     words: &[&str],
     out: &mut W,
     err: &mut E,
@@ -34,7 +33,6 @@ fn status_of<R: AllocGlobal + Threads + Wait + Sync, S: RunFiles, W: Write, E: W
         rt,
         rt.alloc(),
         &mut disk.files,
-        runs,
         &Unwatched,
         words,
         out,
@@ -43,16 +41,15 @@ fn status_of<R: AllocGlobal + Threads + Wait + Sync, S: RunFiles, W: Write, E: W
 }
 
 /// Runs the program, and tells what it prints and its status.
-pub(super) fn tell<R: AllocGlobal + Threads + Wait + Sync, S: RunFiles>(
+pub(super) fn tell<R: AllocGlobal + Threads + Wait + Sync>(
     rt: &R,
     disk: &mut Disk,
-    runs: &S,
     words: &[&str],
     told: &mut String,
 ) -> Result<(), Fail> {
     let mut out = Vec::new(rt.alloc());
     let mut err = Vec::new(rt.alloc());
-    let status = status_of(rt, disk, runs, words, &mut out, &mut err);
+    let status = status_of(rt, disk, words, &mut out, &mut err);
     tell_bytes(&out, told)?;
     if !err.is_empty() {
         told.push_str("! ")?;
@@ -102,10 +99,9 @@ pub(super) fn words_of<'a>(alloc: Global, line: &'a str) -> Result<Vec<&'a str>,
 }
 
 /// Does what one line says, and tells what comes of it. A line that says nothing is one that was printed.
-fn step<R: AllocGlobal + Threads + Wait + Sync, S: RunFiles>(
+fn step<R: AllocGlobal + Threads + Wait + Sync>(
     rt: &R,
     disk: &mut Disk,
-    runs: &S,
     before: &str,
     line: &str,
     told: &mut String,
@@ -121,28 +117,27 @@ fn step<R: AllocGlobal + Threads + Wait + Sync, S: RunFiles>(
     if mark == "?" {
         let mut words = words_of(rt.alloc(), before)?;
         words.push(typed)?;
-        return tell(rt, disk, runs, &words, told);
+        return tell(rt, disk, &words, told);
     }
     let (command, rest) = typed.split_once(' ').unwrap_or((typed, ""));
     if command == "ix" {
         let words = words_of(rt.alloc(), rest)?;
-        tell(rt, disk, runs, &words, told)
+        tell(rt, disk, &words, told)
     } else {
         disk.tell(command, rest, told)
     }
 }
 
-/// Plays a session over a disk again, with these words before each that stands behind `? `, and with runs in these files.
-pub(super) fn play<R: AllocGlobal + Abort + Threads + Wait + Sync, S: RunFiles>(
+/// Plays a session over a disk again, with these words before each that stands behind `? `.
+pub(super) fn play<R: AllocGlobal + Abort + Threads + Wait + Sync>(
     rt: &R,
     disk: &mut Disk,
-    runs: &S,
     before: &str,
     session: &str,
 ) -> Result<(), Fail> {
     let mut told = String::new(rt.alloc());
     for line in session.lines() {
-        step(rt, disk, runs, before, line, &mut told)?;
+        step(rt, disk, before, line, &mut told)?;
     }
     assert_eq!(rt; told.as_str(), session);
     Ok(())
@@ -179,29 +174,28 @@ $ put cut-head.run PIIXRUN1\0\0\0\0
 #[test]
 fn sessions(rt: HostRuntime) -> Result<(), Fail> {
     for session in [WORKED, TERMS, REFUSED, BUILDING, MERGING, UPGRADING, LIVE] {
-        let mut disk = Disk::new(rt.alloc());
-        play(&rt, &mut disk, &SystemFiles { rt: &rt }, "", FILES)?;
-        play(&rt, &mut disk, &SystemFiles { rt: &rt }, "", session)?;
+        let mut disk = Disk::new(rt.alloc())?;
+        play(&rt, &mut disk, "", FILES)?;
+        play(&rt, &mut disk, "", session)?;
     }
     Ok(())
 }
 
 #[test]
 fn queries_of_five_documents(rt: HostRuntime) -> Result<(), Fail> {
-    let mut disk = Disk::new(rt.alloc());
-    play(&rt, &mut disk, &SystemFiles { rt: &rt }, "", FILES)?;
+    let mut disk = Disk::new(rt.alloc())?;
+    play(&rt, &mut disk, "", FILES)?;
     for before in ["ask five", "search five.ix", "search five2.ix"] {
-        play(&rt, &mut disk, &SystemFiles { rt: &rt }, before, OF_FIVE)?;
+        play(&rt, &mut disk, before, OF_FIVE)?;
     }
     Ok(())
 }
 
 /// Runs the program if its standard output is refused, and then if its error output is too, and tells both statuses and the
 /// error output of the first.
-fn tell_refused_writes<R: AllocGlobal + Threads + Wait + Sync, S: RunFiles>(
+fn tell_refused_writes<R: AllocGlobal + Threads + Wait + Sync>(
     rt: &R,
     disk: &mut Disk,
-    runs: &S,
     line: &str,
     told: &mut String,
 ) -> Result<(), Fail> {
@@ -209,17 +203,16 @@ fn tell_refused_writes<R: AllocGlobal + Threads + Wait + Sync, S: RunFiles>(
     let mut err = Vec::new(rt.alloc());
     let mut full = Narrow::new(rt.alloc(), 0);
     let mut other = Narrow::new(rt.alloc(), 0);
-    let status = status_of(rt, disk, runs, &words, &mut full, &mut err);
-    let both = status_of(rt, disk, runs, &words, &mut full, &mut other);
+    let status = status_of(rt, disk, &words, &mut full, &mut err);
+    let both = status_of(rt, disk, &words, &mut full, &mut other);
     told.push_str(&format!(in rt.alloc(); "{status} {both} ")?)?;
     tell_bytes(&err, told)
 }
 
 #[test]
 fn writes_that_are_refused(rt: HostRuntime) -> Result<(), Fail> {
-    let mut disk = Disk::new(rt.alloc());
-    let runs = SystemFiles { rt: &rt };
-    play(&rt, &mut disk, &runs, "", FILES)?;
+    let mut disk = Disk::new(rt.alloc())?;
+    play(&rt, &mut disk, "", FILES)?;
     for line in [
         "ask five y",
         "search five.ix y",
@@ -227,7 +220,7 @@ fn writes_that_are_refused(rt: HostRuntime) -> Result<(), Fail> {
         "--help",
     ] {
         let mut told = String::new(rt.alloc());
-        tell_refused_writes(&rt, &mut disk, &runs, line, &mut told)?;
+        tell_refused_writes(&rt, &mut disk, line, &mut told)?;
         assert_eq!(rt; told.as_str(), "2 2 ix: file 2: Write(-)\n");
     }
     Ok(())

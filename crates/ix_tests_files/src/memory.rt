@@ -11,7 +11,7 @@ const CALLS: usize = 8;
 
 /// A file, two drafts of it that were left, and another file.
 fn four_files(alloc: Global) -> Result<MemoryFiles, Fail> {
-    let mut files = MemoryFiles::new(alloc);
+    let mut files = MemoryFiles::new(alloc)?;
     files.put("out", b"old")?;
     files.put(".out.ix-1", b"left")?;
     files.put(".out.ix-2", b"left")?;
@@ -55,7 +55,7 @@ fn a_full_disk_leaves_the_old_file(rt: HostRuntime) -> Result<(), Fail> {
 
 #[test]
 fn a_stream_is_written_as_it_is(rt: HostRuntime) -> Result<(), Fail> {
-    let mut files = MemoryFiles::new(rt.alloc());
+    let mut files = MemoryFiles::new(rt.alloc())?;
     files.put_stream("-", b"given")?;
     assert!(rt; files.kind("-")? == Kind::Stream);
     let mut given = Vec::new(rt.alloc());

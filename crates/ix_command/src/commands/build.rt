@@ -4,18 +4,19 @@ ghost use Rattle.std.specs.Prelude.{◌⊎◌, ℕ, List, IfOk, IfErr, OnErr, On
 ghost use Rattle.ix_text.specs.Collections.{NamedText, collection_of};
 ghost use Rattle.ix_text.specs.CollectionText.{IsCollectionText};
 ghost use Rattle.ix_build.specs.Plans.{PlanValue};
+ghost use Rattle.ix_build.specs.RunNames.{IsRunOf};
 ghost use Rattle.ix_build.specs.RunPieces.{AreRunsOfTexts};
-ghost use Rattle.ix_command.specs.BuiltIndexes.{BuildsText, ComeBack, IsBuildRefused, IsBuilt};
-ghost use Rattle.ix_command.specs.BuiltIndexes.{IsUnbuilt, RefusesDocuments, RefusesText};
+ghost use Rattle.ix_command.specs.BuiltIndexes.{AreOfFiles, ComeBack, IsBuildRefused, IsBuilt, IsUnbuilt, RefusesDocuments};
+ghost use Rattle.ix_command.specs.BuiltRuns.{IsOfRuns, LeavesNoRuns, RemovesRuns};
 ghost use Rattle.ix_command.specs.Files.{held_in, keeping_of};
 ghost use Rattle.ix_command.specs.SavedIndexes.{SavesAlike, SavesIndex};
 ghost use Rattle.ix_files.specs.Outputs.{LeavesOthers, LeavesTarget, now_in, saved_in};
 
 use crate::commands::ask::{read_file, read_stop_list};
-use crate::outputs::{begin, check_output, end, keep_apart, keep_from_runs, lock_runs};
+use crate::outputs::{begin, check_output, end, keep_apart, lock_runs};
 use crate::refusal::Refusal;
 use ix_ask::EngineRefusal;
-use ix_build::{InvertedBlocks, Plan, RunFiles, Watch, build_with_files, invert_all};
+use ix_build::{InvertedBlocks, Plan, Watch, build, invert_all, is_run_of};
 use ix_files::Files;
 use ix_text::{Collection, StopList};
 use std::alloc::Global;
@@ -23,16 +24,14 @@ use std::sync::Wait;
 use std::thread::Threads;
 
 /// Builds an index file of version 2 of the collection of a collection file, whatever the plan. The
-/// words of the stop file, where one is named, are left out. Where the plan names a folder, it is
-/// one of `runs`.
+/// words of the stop file, if one is named, are left out.
 ///
 /// What is at the output's path is untouched until the output ends. If the runs are kept in memory, the collection is let go
 /// before they are merged, and the output begins then.
-pub fn run<'a, R: Threads + Wait + Sync, F: Files, S: RunFiles, V: Watch>(
+pub fn run<'a, R: Threads + Wait + Sync, F: Files, V: Watch>(
     rt: &R,
     alloc: Global,
     files: &mut F,
-    runs: &S,
     watch: &V,
     stop: Option<&'a str>,
     plan: &Plan,
@@ -41,67 +40,36 @@ pub fn run<'a, R: Threads + Wait + Sync, F: Files, S: RunFiles, V: Watch>(
 ) -> Result<(), Refusal<'a>>
     ensures built { OnOk result (IsBuilt (held_in (F.view files.old))
         (saved_in (F.sent files.new) (F.view files.old) (F.view files.new))
-        (keeping_of S.Reader.remaining (S.back runs.now))
+        (keeping_of F.Shared.Reader.remaining F.Shared.shared F.Shared.back)
         stop.entry plan.now collection.entry.now output.entry.now) }
     ensures refused { IfErr result (IsBuildRefused (held_in (F.view files.old))
         stop.entry plan.now collection.entry.now output.entry.now) }
 
-    // No other file changes, and after an error there is what was there, or the folder could not be synced.
+    // No other file changes but those of the runs, of which none is left; and after an error there is what was there, or the folder
+    // could not be synced.
     ensures others { (F.view files.new).honest
-        → LeavesOthers output.entry.now (F.view files.old) (F.view files.new) }
+        → LeavesOthers output.entry.now (F.view files.old) (F.view files.new)
+        ⊎ LeavesNoRuns stop.entry plan.now collection.entry.now output.entry.now (F.view files.old)
+        (F.view files.new) }
     ensures undone { OnErr result ((F.view files.new).honest
         → LeavesTarget output.entry.now (F.view files.old) (F.view files.new)
         ⊎ IsBuilt (held_in (F.view files.old)) (now_in (F.view files.old) (F.view files.new))
-        (keeping_of S.Reader.remaining (S.back runs.now))
+        (keeping_of F.Shared.Reader.remaining F.Shared.shared F.Shared.back)
         stop.entry plan.now collection.entry.now output.entry.now) }
 {
     let stop_list = read_stop_list(alloc, files, stop)?;
     let text = read_file(alloc, files, collection)?;
     if let Some(path) = stop {
         keep_apart(files, path, output)?;
-        keep_from_runs(alloc, files, plan, path)?;
     }
     keep_apart(files, collection, output)?;
-    keep_from_runs(alloc, files, plan, collection)?;
-    keep_from_runs(alloc, files, plan, output)?;
     check_output(files, output)?;
-    build_text(
-        rt, alloc, files, runs, watch, text, &stop_list, plan, output,
-    )
-}
-
-/// Builds an index file of the collection of a text, by runs in a folder if the plan says so.
-fn build_text<'a, R: Threads + Wait + Sync, F: Files, S: RunFiles, V: Watch>(
-    rt: &R,
-    alloc: Global,
-    files: &mut F,
-    runs: &S,
-    watch: &V,
-    text: Vec<u8>,
-    stop: &StopList,
-    plan: &Plan,
-    output: &'a str,
-) -> Result<(), Refusal<'a>>
-    ensures built { OnOk result (BuildsText
-        (saved_in (F.sent files.new) (F.view files.old) (F.view files.new))
-        (keeping_of S.Reader.remaining (S.back runs.now))
-        stop.now plan.now text.items output.entry.now) }
-    ensures refused { IfErr result (RefusesText plan.now text.items output.entry.now) }
-    ensures others { (F.view files.new).honest
-        → LeavesOthers output.entry.now (F.view files.old) (F.view files.new) }
-    ensures undone { OnErr result ((F.view files.new).honest
-        → LeavesTarget output.entry.now (F.view files.old) (F.view files.new)
-        ⊎ BuildsText (now_in (F.view files.old) (F.view files.new))
-        (keeping_of S.Reader.remaining (S.back runs.now))
-        stop.now plan.now text.items output.entry.now) }
-{
     let documents = documents_of(alloc, &text)?;
     if plan.folder().is_some() {
-        return save(
-            rt, alloc, files, runs, watch, &documents, stop, plan, output,
-        );
+        keep_from_runs(alloc, files, &documents, plan, stop, collection, output)?;
+        return save(rt, alloc, files, watch, &documents, &stop_list, plan, output);
     }
-    let blocks = invert(rt, alloc, watch, &documents, stop, plan)?;
+    let blocks = invert(rt, alloc, watch, &documents, &stop_list, plan)?;
     // The text is most of what is held, and the runs have nothing of it.
     drop(documents);
     drop(text);
@@ -116,6 +84,50 @@ fn documents_of<'t, 'a>(alloc: Global, text: &'t [u8]) -> Result<Collection<'t>,
     match Collection::read(alloc, text) {
         Ok(documents) => Ok(documents),
         Err(error) => Err(Refusal::Engine(EngineRefusal::Collection(error))),
+    }
+}
+
+/// Returns an error if the stop file, the collection file or the output is a run of the plan.
+fn keep_from_runs<'a, F: Files>(
+    alloc: Global,
+    files: &F,
+    documents: &Collection<'_>,
+    plan: &Plan,
+    stop: Option<&'a str>,
+    collection: &'a str,
+    output: &'a str,
+) -> Result<(), Refusal<'a>>
+    ensures apart { OnOk result ((F.view files.now).honest → ¬ (IsRunOf plan.now documents.now
+        (F.view files.now) ((F.view files.now).place output.entry.now))) }
+    ensures refused { (terms : List (List ℕ)) → AreOfFiles (held_in (F.view files.now)) stop.entry
+        collection.entry.now terms documents.now
+        → IfErr result (IsBuildRefused (held_in (F.view files.now)) stop.entry plan.now
+        collection.entry.now output.entry.now) }
+{
+    if let Some(path) = stop {
+        keep_from(alloc, files, documents, plan, path)?;
+    }
+    keep_from(alloc, files, documents, plan, collection)?;
+    keep_from(alloc, files, documents, plan, output)
+}
+
+/// Returns an error if a path leads to a run of the plan.
+fn keep_from<'a, F: Files>(
+    alloc: Global,
+    files: &F,
+    documents: &Collection<'_>,
+    plan: &Plan,
+    path: &'a str,
+) -> Result<(), Refusal<'a>>
+    ensures apart { OnOk result ((F.view files.now).honest → ¬ (IsRunOf plan.now documents.now
+        (F.view files.now) ((F.view files.now).place path.entry.now))) }
+    ensures refused { IfErr result (IsOfRuns (F.view files.now) plan.now documents.now
+        path.entry.now) }
+{
+    match is_run_of(alloc, files, documents, plan, path) {
+        Ok(false) => Ok(()),
+        Ok(true) => Err(Refusal::Same(path)),
+        Err(error) => Err(Refusal::Engine(EngineRefusal::Build(error))),
     }
 }
 
@@ -166,19 +178,23 @@ fn save_merged<'a, F: Files>(
     end(files, path, output, written)
 }
 
-/// Saves the index text of the collection of these documents, by runs in a folder that the plan names.
-fn save<'a, R: Threads + Wait + Sync, F: Files, S: RunFiles, V: Watch>(
+/// Saves the index text of the collection of these documents, by runs in a folder that the plan names. The path is that of no
+/// run.
+fn save<'a, R: Threads + Wait + Sync, F: Files, V: Watch>(
     rt: &R,
     alloc: Global,
     files: &mut F,
-    runs: &S,
     watch: &V,
     documents: &Collection<'_>,
     stop: &StopList,
     plan: &Plan,
     path: &'a str,
 ) -> Result<(), Refusal<'a>>
-    ensures saved { OnOk result (ComeBack (keeping_of S.Reader.remaining (S.back runs.now))
+    requires apart { (F.view files.old).honest
+        → ¬ (IsRunOf plan.now documents.now (F.view files.old)
+        ((F.view files.old).place path.now)) }
+    ensures saved { OnOk result (ComeBack
+        (keeping_of F.Shared.Reader.remaining F.Shared.shared F.Shared.back)
         plan.now stop.now documents.now
         → SavesIndex (saved_in (F.sent files.new) (F.view files.old) (F.view files.new))
         path.entry.now (collection_of stop.now documents.now)) }
@@ -187,10 +203,11 @@ fn save<'a, R: Threads + Wait + Sync, F: Files, S: RunFiles, V: Watch>(
         (collection_of stop.now documents.now)) }
     ensures refused { IfErr result (IsUnbuilt plan.now documents.now path.entry.now) }
     ensures others { (F.view files.new).honest
-        → LeavesOthers path.entry.now (F.view files.old) (F.view files.new) }
+        → LeavesOthers path.entry.now (F.view files.old) (F.view files.new)
+        ⊎ RemovesRuns plan.now documents.now path.entry.now (F.view files.old) (F.view files.new) }
     ensures undone { OnErr result ((F.view files.new).honest
         → LeavesTarget path.entry.now (F.view files.old) (F.view files.new)
-        ⊎ ((ComeBack (keeping_of S.Reader.remaining (S.back runs.now))
+        ⊎ ((ComeBack (keeping_of F.Shared.Reader.remaining F.Shared.shared F.Shared.back)
         plan.now stop.now documents.now
         → SavesIndex (now_in (F.view files.old) (F.view files.new))
         path.entry.now (collection_of stop.now documents.now))
@@ -200,7 +217,7 @@ fn save<'a, R: Threads + Wait + Sync, F: Files, S: RunFiles, V: Watch>(
     let lock = lock_runs(alloc, files, plan)?;
     let mut output = begin(alloc, files, path)?;
     let out = &mut output.writer;
-    let written = match build_with_files(rt, alloc, runs, documents, stop, plan, watch, out) {
+    let written = match build(rt, alloc, files, documents, stop, plan, watch, out) {
         Ok(()) => Ok(()),
         Err(error) => Err(Refusal::Engine(EngineRefusal::Build(error))),
     };

@@ -8,7 +8,7 @@ ghost use Rattle.ix_command.specs.LiveScripts.{IsStoppedTold};
 ghost use Rattle.ix_command.specs.Refusals.{IsUnread};
 
 use crate::commands::ask::{ROOM, read_file, read_stop_list};
-use crate::reading::read_front;
+use crate::reading::read_up_to;
 use crate::refusal::Refusal;
 use ix_ask::EngineRefusal;
 use ix_build::Plan;
@@ -127,7 +127,12 @@ impl<F: Files> CollectionFiles for Added<'_, F> {
     ghost holds = { λ added. held_in (F.view added.files.now) };
 
     fn read(&self, path: &str) -> Result<Vec<u8>, FileFault> {
-        match read_front(self.alloc, self.files, path, ROOM) {
+        let reader = match self.files.open(path) {
+            Ok(reader) => reader,
+            Err(FileError::Memory) => return Err(FileFault::Memory),
+            Err(_) => return Err(FileFault::Refused),
+        };
+        match read_up_to(self.alloc, reader, ROOM) {
             Ok(bytes) => {
                 if bytes.len() == ROOM {
                     return Err(FileFault::TooLarge);

@@ -5,7 +5,7 @@ use Rattle.ix_text.specs.Collections.{collection_of}
 use Rattle.ix_file.specs.Endings.{WritesIndexText}
 use Rattle.ix_command.proofs.BuildLemmas.{merging_refused, unbuilt_unsaved}
 use Rattle.ix_command.proofs.FileLemmas.{handed_up}
-use Rattle.ix_command.proofs.Saving.{if_unwritten, if_written, index_left, index_saved, on_err, on_unwritten, on_written, others_left, others_through, refused_by, saved_by, target_left, undone_through}
+use Rattle.ix_command.proofs.Saving.{if_unwritten, if_written, index_left, index_saved, kept_at, on_err, on_unwritten, on_written, others_left, others_through, refused_by, saved_by, target_left, undone_through}
 use Rattle.ix_command.proofs.commands.build.save_merged.Goals.{in-Ok, in-Err}
 use Rattle.ix_command.proofs.commands.build.save_merged.Goals as goal
 
@@ -24,7 +24,7 @@ returns-clause-saved g c = λ stop documents are.
     let wrote : OnOk c.match-merge_into.written (WritesIndexText (g.F.Writer.Write.contents c.in_ok-output.output.writer) (g.F.Writer.Write.contents c.merge_into.new.out) (collection_of stop documents)) =
     elim c.match-merge_into.branch [ in-Ok w ↦ on_written c.match-merge_into.written (w.in-Ok.ensures.written stop documents are) | in-Err w ↦ on_unwritten _ c.match-merge_into.written _ w.written-is ] in
     saved_by _ _ _ c.end.result c.match-merge_into.written c.end.ensures.written wrote c.end.ensures.saved
-    (λ writes saved. index_saved _ _ _ _ _ c.begin.ensures.changes c.begin.ensures.goes_on c.in_ok-output.ensures.begun c.end.ensures.goes_on _ _ c.in_ok-output.ensures.empty _ _ writes saved)
+    (λ writes saved. index_saved _ _ _ _ _ (kept_at _ _ _ c.begin.ensures.changes) c.begin.ensures.goes_on c.in_ok-output.ensures.begun c.end.ensures.goes_on _ _ c.in_ok-output.ensures.empty _ _ writes saved)
 
 pub returns-clause-refused : goal.returns-clause-refused
 returns-clause-refused g c = λ plan documents.
@@ -41,5 +41,5 @@ pub returns-clause-undone : goal.returns-clause-undone
 returns-clause-undone g c = λ stop documents are.
     let wrote : OnOk c.match-merge_into.written (WritesIndexText (g.F.Writer.Write.contents c.in_ok-output.output.writer) (g.F.Writer.Write.contents c.merge_into.new.out) (collection_of stop documents)) =
     elim c.match-merge_into.branch [ in-Ok w ↦ on_written c.match-merge_into.written (w.in-Ok.ensures.written stop documents are) | in-Err w ↦ on_unwritten _ c.match-merge_into.written _ w.written-is ] in
-    undone_through _ _ _ _ _ c.begin.ensures.changes c.begin.ensures.goes_on c.in_ok-output.ensures.begun c.end.ensures.goes_on _ _ c.in_ok-output.ensures.empty _ c.end.result c.match-merge_into.written
-    (on_ok_weaker c.match-merge_into.written (λ writes honest. index_left _ _ _ _ _ c.begin.ensures.changes c.begin.ensures.goes_on c.in_ok-output.ensures.begun c.end.ensures.goes_on _ _ c.in_ok-output.ensures.empty _ writes honest) wrote) c.end.ensures.undone
+    undone_through _ _ _ _ _ (kept_at _ _ _ c.begin.ensures.changes) c.begin.ensures.goes_on c.in_ok-output.ensures.begun c.end.ensures.goes_on _ _ c.in_ok-output.ensures.empty _ c.end.result c.match-merge_into.written
+    (on_ok_weaker c.match-merge_into.written (λ writes honest. index_left _ _ _ _ _ (kept_at _ _ _ c.begin.ensures.changes) c.begin.ensures.goes_on c.in_ok-output.ensures.begun c.end.ensures.goes_on _ _ c.in_ok-output.ensures.empty _ writes honest) wrote) c.end.ensures.undone

@@ -5,7 +5,7 @@ use Rattle.ix_merge.specs.AnySources.{SourceMayYield, heading_of_source}
 use Rattle.ix_merge.specs.Pieces.{WritesConcatenation}
 use Rattle.ix_command.proofs.FileLemmas.{handed_up}
 use Rattle.ix_command.proofs.MergedFileLemmas.{refuses_unsaved}
-use Rattle.ix_command.proofs.Saving.{if_unwritten, if_written, index_left, index_saved, on_err, on_unwritten, on_written, others_left, others_through, refused_by, saved_by, target_left, undone_through}
+use Rattle.ix_command.proofs.Saving.{if_unwritten, if_written, index_left, index_saved, kept_at, on_err, on_unwritten, on_written, others_left, others_through, refused_by, saved_by, target_left, undone_through}
 use Rattle.ix_command.proofs.commands.merge.save.Goals.{in-Ok, in-Err}
 use Rattle.ix_command.proofs.commands.merge.save.Goals as goal
 
@@ -27,7 +27,7 @@ returns-clause-saved g c =
       yielded = writes.yielded;
       whole = writes.whole;
       concatenation = writes.concatenation;
-      saved = index_saved _ _ _ _ _ c.begin.ensures.changes c.begin.ensures.goes_on c.in_ok-output.ensures.begun c.end.ensures.goes_on _ _ c.in_ok-output.ensures.empty _ writes.whole writes.written saved;
+      saved = index_saved _ _ _ _ _ (kept_at _ _ _ c.begin.ensures.changes) c.begin.ensures.goes_on c.in_ok-output.ensures.begun c.end.ensures.goes_on _ _ c.in_ok-output.ensures.empty _ writes.whole writes.written saved;
     })
 
 pub returns-clause-refused : goal.returns-clause-refused
@@ -42,8 +42,8 @@ pub returns-clause-undone : goal.returns-clause-undone
 returns-clause-undone g c =
     let wrote : OnOk c.match-merge.written (WritesConcatenation (SourceMayYield g.R.Read.remaining) heading_of_source c.args.sources.items (g.F.Writer.Write.contents c.in_ok-output.output.writer) (g.F.Writer.Write.contents c.merge.new.out)) =
     elim c.match-merge.branch [ in-Ok w ↦ on_written c.match-merge.written w.in-Ok.ensures.written | in-Err w ↦ on_unwritten _ c.match-merge.written _ w.written-is ] in
-    undone_through _ _ _ _ _ c.begin.ensures.changes c.begin.ensures.goes_on c.in_ok-output.ensures.begun c.end.ensures.goes_on _ _ c.in_ok-output.ensures.empty _ c.end.result c.match-merge.written
+    undone_through _ _ _ _ _ (kept_at _ _ _ c.begin.ensures.changes) c.begin.ensures.goes_on c.in_ok-output.ensures.begun c.end.ensures.goes_on _ _ c.in_ok-output.ensures.empty _ c.end.result c.match-merge.written
     (on_ok_weaker c.match-merge.written (λ writes honest.
-    let left = index_left _ _ _ _ _ c.begin.ensures.changes c.begin.ensures.goes_on c.in_ok-output.ensures.begun c.end.ensures.goes_on _ _ c.in_ok-output.ensures.empty writes.whole writes.written honest in
+    let left = index_left _ _ _ _ _ (kept_at _ _ _ c.begin.ensures.changes) c.begin.ensures.goes_on c.in_ok-output.ensures.begun c.end.ensures.goes_on _ _ c.in_ok-output.ensures.empty writes.whole writes.written honest in
     (left.0, left.1, λ there. record { pieces = writes.pieces; yielded = writes.yielded; whole = writes.whole; concatenation = writes.concatenation; saved = left.2 there })) wrote)
     c.end.ensures.undone
