@@ -17,7 +17,7 @@ use Rattle.ix_live.specs.declared.segment.Segment.{Segment}
 use Rattle.ix_live.specs.Segments.{AreSegmentsOf, IsSegmentOf, joined, of_documents, rows_at, rows_in}
 use Rattle.ix_live.specs.StateScans.{IsStateScan}
 use Rattle.ix_live.specs.Findings.{AreFound, FindsIn, is_kept, kept_from, with_removed}
-use Rattle.ix_live.proofs.Members.{none_in_nil, in_filtered, filtered_has, in_shifted, shifted_has, shifted_increasing, increasing_joined, kept_where_not_removed, not_kept_where_removed}
+use Rattle.ix_live.proofs.Members.{in_filtered, filtered_has, in_shifted, shifted_has, shifted_increasing, increasing_joined, kept_where_not_removed, not_kept_where_removed}
 
 -- ---- where documents follow documents
 

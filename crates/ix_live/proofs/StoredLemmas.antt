@@ -20,11 +20,11 @@ use Rattle.ix_live.specs.declared.segment.Segment.{Segment}
 use Rattle.ix_live.specs.Growing.{Grows, documents_under, tokens_of}
 use Rattle.ix_live.specs.LiveErrors.{IsOfBuilding, RefusesAddition, RefusesDocuments}
 use Rattle.ix_live.specs.Operations.{Operation, Add, Remove, added, addition_of, documents_added, numbers_removed, removed}
-use Rattle.ix_live.specs.Pieces.{Falls, Piece, piece_at, pieces_in}
+use Rattle.ix_live.specs.Pieces.{Falls, Piece, after_adding, piece_at, pieces_in}
 use Rattle.ix_live.specs.Segments.{AreSegmentsOf, IsSegmentOf, joined, of_documents, rows_at, rows_in}
 use Rattle.ix_live.specs.Versions.{IsStored, entry_of}
 use Rattle.ix_live.proofs.Beginnings.{joined_push}
-use Rattle.ix_live.proofs.Falling.{falls_few, few_generations}
+use Rattle.ix_live.proofs.Falling.{falls_after, falls_few, few_generations}
 use Rattle.ix_live.proofs.FoundLemmas.{rows_of_all}
 
 -- a collection is its stop set and its documents
@@ -73,6 +73,13 @@ removed_then operations number = flat_map-append removed operations (Remove numb
 tokens_together : (xs ys : List Document) → tokens_in (map row_of (xs ++ ys)) ≡ tokens_of xs + tokens_of ys
 tokens_together xs ys = ap tokens_in (map-append row_of xs ys) ∙ sum_by-append (λ (row : DocumentRow). row.tokens) (map row_of xs) (map row_of ys)
 
+-- the pieces of a table with documents more
+pub pieces_grown : (stop : List (List ℕ)) (segments : List (Option Segment)) (documents : List Document) (left : ℕ) (place : Option Segment) → Grows stop segments documents left place
+    → pieces_in (take left segments ++ place ∷ []) ≡ after_adding (length documents) (pieces_in segments)
+pieces_grown stop segments documents left place grows =
+    map_push piece_at (take left segments) place ∙ ap (λ (l : List Piece). l ++ piece_at place ∷ []) (sym (take-map piece_at left segments))
+    ∙ ap (λ (p : Option Segment). take left (pieces_in segments) ++ piece_at p ∷ []) grows.is ∙ grows.pieces
+
 module _ (stop : List (List ℕ)) (segments : List (Option Segment)) (entries : List Entry) (gone : List ℕ) (count tokens : ℕ) (operations : List Operation)
     (stored : IsStored stop segments entries gone count tokens operations) where
   rows_all : rows_in segments ≡ map row_of (joined stored.lists)
@@ -88,8 +95,6 @@ module _ (stop : List (List ℕ)) (segments : List (Option Segment)) (entries : 
       let all = joined_parts stored.lists left documents in
       let rows : rows_in (take left segments ++ place ∷ []) ≡ map row_of (joined stored.lists ++ documents) = rows_of_all stop (take left segments ++ place ∷ []) lists indexed ∙ ap (map row_of) all in
       let before = ap length rows_all ∙ length-map (joined stored.lists) row_of in
-      let pieces : pieces_in (take left segments ++ place ∷ []) ≡ take left (pieces_in segments) ++ piece_at (Some grows.segment) ∷ [] =
-      map_push piece_at (take left segments) place ∙ ap (λ (l : List Piece). l ++ piece_at place ∷ []) (sym (take-map piece_at left segments)) ∙ ap (λ (p : Option Segment). take left (pieces_in segments) ++ piece_at p ∷ []) grows.is in
       record {
         lists = lists;
         indexed = indexed;
@@ -101,7 +106,7 @@ module _ (stop : List (List ℕ)) (segments : List (Option Segment)) (entries : 
         few = few;
         tokens_counted = omega (arith, stored.tokens_counted, ap tokens_in rows_all, ap tokens_in rows, tokens_together (joined stored.lists) documents, counted);
         few_tokens = few_tokens;
-        falling = subst Falls (sym pieces) grows.falls;
+        falling = subst Falls (sym (pieces_grown stop segments documents left place grows)) (falls_after (length documents) (pieces_in segments) stored.falling);
       }
 
   pub stored_removed : (number : ℕ) (now : List ℕ) → IsStrictlyIncreasing now → ((m : ℕ) → Contains now m ↔ (Contains gone m ⊎ (number ≡ m)))

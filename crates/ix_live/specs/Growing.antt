@@ -5,7 +5,7 @@ use Rattle.ix_text.specs.Parts.{row_of}
 use Rattle.ix_file.specs.Opened.{IsIndexOf}
 use Rattle.ix_file.specs.Sections.{FrontCoded}
 use Rattle.ix_merge.specs.Rows.{tokens_in}
-use Rattle.ix_live.specs.Pieces.{Falls, piece_at, pieces_in}
+use Rattle.ix_live.specs.Pieces.{after_adding, piece_at, pieces_in}
 use Rattle.ix_live.specs.Segments.{AreSegmentsOf, joined, of_documents}
 use Rattle.ix_live.specs.declared.segment.Segment.{Segment}
 
@@ -22,7 +22,7 @@ pub record Grows (stop : List (List ℕ)) (segments : List (Option Segment)) (do
   pub segment : Segment
   pub is : place ≡ Some segment
   pub within : left ≤ length segments
-  pub falls : Falls (take left (pieces_in segments) ++ piece_at (Some segment) ∷ [])
+  pub pieces : take left (pieces_in segments) ++ piece_at (Some segment) ∷ [] ≡ after_adding (length documents) (pieces_in segments)
   pub merged : (lists : List (List Document)) → AreSegmentsOf stop segments lists → IsIndexOf segment.volume FrontCoded (of_documents stop (joined (drop left lists) ++ documents))
 
 -- how many tokens documents have, entries that are nothing included

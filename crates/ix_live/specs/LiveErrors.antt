@@ -1,4 +1,4 @@
--- The errors of operations on a live index: their numbers, their names, as they are printed, and for what each one stands.
+-- The errors of operations on a live index: their numbers, their names, as they are printed, and when each one comes.
 use Rattle.std.specs.Prelude.{◌≡◌, ◌≢◌, ℕ, ◌+◌, ◌^◌, ◌<◌, ◌≤◌, ◌⊎◌, List, ◌++◌, length, codes, decimal}
 use Rattle.ix_text.specs.Collections.{Document}
 use Rattle.ix_build.specs.BuildErrors.{IsBuildRefusal, build_error_name}
@@ -23,30 +23,31 @@ live_error_name TooLarge = codes "TooLarge"
 live_error_name Memory = codes "Memory"
 live_error_name (Number document) = codes "Number(" ++ (decimal document ++ codes ")")
 
--- so many workers did not build documents into memory for this reason, which is no refused write
+-- this many workers did not build documents into memory for this reason, which is no failed write
 abbrev pub RefusesBuilding : ℕ → BuildError → Type 0
 RefusesBuilding workers error = IsBuildRefusal workers error × (error ≢ Write)
 
--- documents are not built by so many workers
+-- documents are not built by this many workers
 abbrev pub IsOfBuilding : ℕ → LiveError → Type 0
 IsOfBuilding workers (Build error) = RefusesBuilding workers error
 IsOfBuilding workers TooLarge = ⊥
 IsOfBuilding workers Memory = Unit {0}
 IsOfBuilding workers (Number document) = ⊥
 
--- documents are not added by so many workers to so many documents of so many tokens for this reason: they are not built,
--- or would be too many, or have too many tokens, or memory was refused
+-- documents are not added by this many workers to a number of documents with a number of tokens for this reason: they are
+-- not built, or would be too many, or have too many tokens, or the call was out of memory
 abbrev pub RefusesDocuments : ℕ → ℕ → ℕ → List Document → LiveError → Type 0
 RefusesDocuments workers count tokens documents (Build error) = RefusesBuilding workers error
 RefusesDocuments workers count tokens documents TooLarge = (2 ^ 28 < count + length documents) ⊎ (2 ^ 28 < tokens + tokens_of documents)
 RefusesDocuments workers count tokens documents Memory = Unit {0}
 RefusesDocuments workers count tokens documents (Number document) = ⊥
 
--- documents are not added by so many workers behind those of operations for this reason
+-- documents are not added by this many workers behind those of operations for this reason
 abbrev pub RefusesAddition : ℕ → List Operation → List Document → LiveError → Type 0
 RefusesAddition workers operations documents = RefusesDocuments workers (length (documents_added operations)) (tokens_of (documents_added operations)) documents
 
--- a number is not removed from so many documents for this reason: there is none of that number, or memory was refused
+-- a number is not removed from this many documents for this reason: there is none of that number, or the call was out of
+-- memory
 abbrev pub RefusesRemoval : ℕ → ℕ → LiveError → Type 0
 RefusesRemoval count number (Build error) = ⊥
 RefusesRemoval count number TooLarge = ⊥

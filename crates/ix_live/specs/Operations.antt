@@ -7,7 +7,7 @@ pub data Operation : Type 0 where
   Add : List Document → Operation
   Remove : ℕ → Operation
 
--- the addition of documents, or nothing where there are none
+-- the addition of documents, or nothing if there are none
 abbrev pub addition_of : List Document → List Operation
 addition_of [] = []
 addition_of (document ∷ documents) = Add (document ∷ documents) ∷ []

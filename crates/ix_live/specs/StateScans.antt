@@ -14,6 +14,6 @@ pub record IsStateScan (state : State) (query : Tree) (numbers : List ℕ) : Typ
 abbrev pub HasOneStateScan : Type 0
 HasOneStateScan = (state : State) (query : Tree) (numbers others : List ℕ) → IsStateScan state query numbers → IsStateScan state query others → numbers ≡ others
 
--- where nothing is removed, it is the collection's own
+-- if nothing is removed, it is the collection's own
 abbrev pub IsScanWhereNoneIsRemoved : Type 0
 IsScanWhereNoneIsRemoved = (state : State) (query : Tree) (numbers : List ℕ) → state.removed ≡ [] → IsStateScan state query numbers ↔ IsScan state.collection query numbers

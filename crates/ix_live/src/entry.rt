@@ -3,7 +3,7 @@
 /// An operation without its documents.
 #[derive(Clone, Copy)]
 pub enum Entry {
-    /// So many documents were added.
+    /// This many documents were added.
     Added(u32),
     /// The document of a number was removed.
     Removed(u32),

@@ -4,12 +4,11 @@ ghost use Rattle.ix_text.specs.PartsLaws.{AreLawful};
 ghost use Rattle.ix_merge.specs.Rows.{tokens_in};
 ghost use Rattle.ix_live.specs.Growing.{Grows, HaveDocuments, documents_under, tokens_of};
 ghost use Rattle.ix_live.specs.LiveErrors.{RefusesDocuments};
-ghost use Rattle.ix_live.specs.Pieces.{Falls, pieces_in};
 ghost use Rattle.ix_live.specs.Segments.{rows_in};
 
 use crate::live_error::LiveError;
 use crate::merging::build_volume;
-use crate::segment::Place;
+use crate::segment::{Place, Segment};
 use crate::table::merge_alike;
 use ix_build::Plan;
 use ix_file::Volume;
@@ -39,7 +38,7 @@ pub fn grow<R: Threads + Wait + Sync>(
     documents: &Collection<'_>,
     plan: &Plan,
 ) -> Result<Grown, LiveError>
-    requires falls { Falls (pieces_in table.now) }
+    requires short { length table.now ≤ 32 }
     requires indexed { HaveDocuments stop.now table.now }
     requires some { 0 < length documents.now }
     requires few { length (rows_in table.now) + length documents.now ≤ 2 ^ 28 }
@@ -60,7 +59,11 @@ pub fn grow<R: Threads + Wait + Sync>(
     if more > MAX_TOKENS - tokens {
         return Err(LiveError::TooLarge);
     }
-    let (left, segment) = merge_alike(alloc, table, volume)?;
+    let segment = Segment {
+        generation: 0,
+        volume,
+    };
+    let (left, segment) = merge_alike(alloc, table, segment)?;
     let place = Place::new(alloc, segment)?;
     Ok(Grown {
         left,

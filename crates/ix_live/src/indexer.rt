@@ -5,7 +5,7 @@ ghost use Rattle.ix_live.specs.Identities.{shown_in};
 ghost use Rattle.ix_live.specs.Indexers.{IsAhead, indexer_of};
 ghost use Rattle.ix_live.specs.LiveErrors.{RefusesAddition, RefusesRemoval};
 ghost use Rattle.ix_live.specs.Operations.{Remove, addition_of, documents_added};
-ghost use Rattle.ix_live.specs.Pieces.{Falls};
+ghost use Rattle.ix_live.specs.Pieces.{Falls, after_adding};
 ghost use Rattle.ix_live.specs.Segments.{joined};
 ghost use Rattle.ix_live.specs.declared.live_error.LiveError.TheVariants.{Memory};
 
@@ -75,7 +75,7 @@ impl Indexer {
     /// changes nothing.
     ///
     /// `Build` if the documents are not built, `TooLarge` if there would be more than 2^28 documents or tokens, and
-    /// `Memory` if memory is refused. All is then as it was.
+    /// `Memory` if out of memory. All is then as it was.
     pub fn add<R: Threads + Wait + Sync>(
         &mut self,
         rt: &R,
@@ -86,6 +86,8 @@ impl Indexer {
             × (self.new.published ≡ self.old.published) }
         ensures added { OnOk result (self.new.pending
             ≡ self.old.pending ++ addition_of (documents_under self.old.stop documents.now)) }
+        ensures pieces { OnOk result
+            (self.new.pieces ≡ after_adding (length documents.now) self.old.pieces) }
         ensures kept { OnErr result (self.new ≡ self.old) }
         ensures error { IfErr result (RefusesAddition plan.now.workers
             (joined self.old.published ++ self.old.pending)
@@ -97,7 +99,7 @@ impl Indexer {
     /// Removes the document of a number; the removal is pending until it is published. The document keeps its number
     /// and its name. A second removal changes nothing but the history.
     ///
-    /// `Number` if there is no such document, and `Memory` if memory is refused. All is then as it was.
+    /// `Number` if there is no such document, and `Memory` if out of memory. All is then as it was.
     pub fn remove(&mut self, number: u32) -> Result<(), LiveError>
         ensures same { (self.new.stop ≡ self.old.stop) × (self.new.book ≡ self.old.book)
             × (self.new.published ≡ self.old.published) × (self.new.pieces ≡ self.old.pieces) }
@@ -115,7 +117,7 @@ impl Indexer {
     /// Publishes all that is pending at once, at the end of the history. It waits for the searchers that still take the
     /// edition from before the last publish, but for no query.
     ///
-    /// `Memory` if memory is refused. All is then as it was, and no searcher sees what is pending.
+    /// `Memory` if out of memory. All is then as it was, and no searcher sees what is pending.
     pub fn publish<R: Wait>(&mut self, rt: &R) -> Result<News, LiveError>
         ensures same { (self.new.stop ≡ self.old.stop) × (self.new.book ≡ self.old.book)
             × (self.new.pieces ≡ self.old.pieces) }
@@ -153,7 +155,7 @@ impl Indexer {
     /// from now on.
     ///
     /// There is no clause: the indexer is gone and nothing comes back, so a clause would have no value to speak of. That
-    /// a searcher finds no version any more is for its own call to tell, which then answers `Memory`.
+    /// a searcher finds no version any more is for its own call to say, which then returns `Memory`.
     pub fn close<R: Wait>(self, rt: &R) {
         let Self {
             writer,

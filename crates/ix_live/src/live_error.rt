@@ -1,18 +1,18 @@
-//! Why a live index refuses an operation.
+//! Why an operation on a live index fails.
 ghost use Rattle.std.specs.Prelude.{◌≡◌};
 
 use ix_build::BuildError;
 use std::alloc::AllocError;
 use std::{error, fmt};
 
-/// Why a live index refuses an operation. All is then as it was before.
+/// Why an operation on a live index fails. All is then as it was before.
 #[derive(Clone, Copy, Debug, PartialEq, Eq)]
 pub enum LiveError {
     /// The documents were not built into an index text.
     Build(BuildError),
     /// With the documents there would be more than 2^28 of them, or more than 2^28 tokens.
     TooLarge,
-    /// Memory was refused, also for the bytes of an index text.
+    /// Out of memory, also for the bytes of an index text.
     Memory,
     /// There is no document of this number.
     Number(u32),

@@ -9,7 +9,7 @@ use std::{error, fmt};
 pub enum NameError {
     /// The number at this place of the list, from 0, is no document's.
     Number(usize),
-    /// Memory was refused.
+    /// Out of memory.
     Memory,
 }
 

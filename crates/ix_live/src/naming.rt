@@ -11,7 +11,7 @@ use std::alloc::Global;
 
 /// The names of the documents of these numbers, one each.
 ///
-/// `Number` with the place of a number that is no document's; `Memory` where memory is refused.
+/// `Number` with the place of a number that is no document's; `Memory` if out of memory.
 pub fn find_names(
     alloc: Global,
     segments: &[Place],
@@ -34,7 +34,7 @@ pub fn find_names(
     Ok(names)
 }
 
-/// The name of the document of a number, or none where there is none.
+/// The name of the document of a number, or none if there is no such document.
 fn find_name(segments: &[Place], number: u32) -> Option<&str>
     ensures { MatchOption result (length (rows_in segments.now) ≤ number)
         (λ name. name_in_rows (rows_in segments.now) number ≡ Some name.now) }

@@ -17,7 +17,7 @@ use std::sync::{Arc, Wait};
 
 /// A live index without documents, and 1 to 64 searchers of it.
 ///
-/// `Memory` if memory is refused.
+/// `Memory` if out of memory.
 pub fn live<R: Wait>(
     rt: &R,
     alloc: Global,
@@ -48,7 +48,7 @@ pub fn live<R: Wait>(
     }
 }
 
-/// So many searchers of the live index that a writer knows, each of which knows of the edition that is shown.
+/// `count` searchers of the live index that a writer knows, which know of the edition that is shown.
 fn make_searchers(
     alloc: Global,
     writer: &mut EditionWriter,

@@ -2,7 +2,7 @@
 ghost use Rattle.std.specs.Prelude.{◌≡◌, ◌<◌, ◌⊎◌, ◌↔◌, ℕ, Contains, vec_capacity, vec_len};
 ghost use Rattle.std.specs.List.Sorted.{IsStrictlyIncreasing};
 
-/// Puts a number into an ascending list that has room for it, where it is not there yet.
+/// Puts a number into an ascending list that has room for it, if it is not there yet.
 pub fn insert_number(numbers: &mut Vec<u32>, number: u32)
     requires ascending { IsStrictlyIncreasing numbers.old.items }
     requires room { vec_len numbers.old < vec_capacity numbers.old }

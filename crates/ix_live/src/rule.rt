@@ -39,7 +39,7 @@ impl Protocol<Shown, Option<Told>> for Rises {
     ghost first = { None };
 }
 
-/// A look tells the history that is shown, and a change of what is shown tells it to the writer.
+/// Who looks knows from then on the history that is shown, and so does the writer who changes what is shown.
 pub struct Looking;
 
 impl Outcome<Shown, Option<Told>> for Looking {
@@ -48,7 +48,7 @@ impl Outcome<Shown, Option<Told>> for Looking {
     ghost then = { Finds };
 }
 
-/// What the writer knows, it tells and keeps.
+/// What the writer knows, it passes on and keeps.
 pub struct Copied;
 
 impl Split<Option<Told>> for Copied {
@@ -57,7 +57,7 @@ impl Split<Option<Told>> for Copied {
     ghost right = { λ known. known };
 }
 
-/// A reader takes what it is told.
+/// A reader takes what it is given.
 pub struct Taken;
 
 impl Join<Option<Told>> for Taken {

@@ -64,7 +64,7 @@ impl Place {
         }
     }
 
-    /// The segment, or none where the place is empty.
+    /// The segment, or none if the place is empty.
     pub fn segment(&self) -> Option<&Segment>
         ensures { MatchOption result (self.now ≡ None) (λ segment. self.now ≡ Some segment.now) }
     {
@@ -74,7 +74,7 @@ impl Place {
         }
     }
 
-    /// The generation of the segment, 0 where the place is empty.
+    /// The generation of the segment, 0 if the place is empty.
     pub fn generation(&self) -> u32
         ensures { result ≡ generation_at self.now }
     {

@@ -12,7 +12,7 @@ use ix_text::Memory;
 use std::alloc::{AllocError, Global};
 use std::sync::{Arc, Wait};
 
-/// Two copies that show an edition, with room for so many readers.
+/// Two copies that show an edition, with room for that many readers.
 pub fn open_copies<R: Wait>(
     rt: &R,
     alloc: Global,
@@ -32,7 +32,7 @@ pub fn open_copies<R: Wait>(
         current: Arc::try_clone(edition)?,
     };
     let writer = EditionWriter::new(alloc, first, second, readers)?;
-    // Nothing is new to show: it tells the writer which history it is.
+    // Nothing is new to show: from this the writer knows which history it is.
     let (writer, done) = writer.publish_as::<Looking, R>(rt);
     if let Err(error) = done {
         writer.take(rt);

@@ -8,7 +8,7 @@ ghost use Rattle.ix_live.specs.LiveErrors.{RefusesAddition, RefusesRemoval};
 ghost use Rattle.ix_live.specs.NameErrors.{RefusesNames};
 ghost use Rattle.ix_live.specs.Names.{AreNamesOf};
 ghost use Rattle.ix_live.specs.Operations.{Remove, addition_of, documents_added, state_after};
-ghost use Rattle.ix_live.specs.Pieces.{Falls};
+ghost use Rattle.ix_live.specs.Pieces.{Falls, after_adding};
 ghost use Rattle.ix_live.specs.StateScans.{IsStateScan};
 
 use crate::entry::Entry;
@@ -111,7 +111,7 @@ impl Version {
     /// Adds documents behind all others. A collection without documents changes nothing.
     ///
     /// `Build` if the documents are not built, `TooLarge` if there would be more than 2^28 documents or tokens, and
-    /// `Memory` if memory is refused. All is then as it was.
+    /// `Memory` if out of memory. All is then as it was.
     pub fn add<R: Threads + Wait + Sync>(
         &mut self,
         rt: &R,
@@ -122,6 +122,8 @@ impl Version {
         ensures same { self.new.stop ≡ self.old.stop }
         ensures added { OnOk result (self.new.past ≡ waiting self.old.past
             (addition_of (documents_under self.old.stop documents.now))) }
+        ensures pieces { OnOk result
+            (self.new.pieces ≡ after_adding (length documents.now) self.old.pieces) }
         ensures kept { OnErr result (self.new ≡ self.old) }
         ensures error { IfErr result (RefusesAddition plan.now.workers
             (operations_of self.old.past) (documents_under self.old.stop documents.now)) }
@@ -151,7 +153,7 @@ impl Version {
     /// Removes the document of a number, which keeps its number and its name. A second removal changes nothing but
     /// what was done.
     ///
-    /// `Number` if there is no such document, and `Memory` if memory is refused. All is then as it was.
+    /// `Number` if there is no such document, and `Memory` if out of memory. All is then as it was.
     pub fn remove(&mut self, number: u32) -> Result<(), LiveError>
         ensures same { (self.new.stop ≡ self.old.stop) × (self.new.pieces ≡ self.old.pieces) }
         ensures removed { OnOk result

@@ -2,7 +2,7 @@ pub mod BitLemmas
 pub mod ClosePositions
 pub mod FindLemmas
 pub mod MatchLemmas
-pub mod MeetLemmas
+pub mod IntersectionLemmas
 pub mod PartLemmas
 pub mod PassLemmas
 pub mod PhraseLemmas

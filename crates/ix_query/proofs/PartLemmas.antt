@@ -13,11 +13,11 @@ use Rattle.ix_file.proofs.Gaps.{Ascends-rising}
 use Rattle.ix_file.specs.Postings.{Posting, documents_of}
 use Rattle.ix_text.specs.Collections.{Collection, Document}
 use Rattle.ix_text.specs.Parts.{Parts, ArePartsOf}
-use Rattle.ix_query.specs.declared.answers.leaf.Leaf.{Leaf}
+use Rattle.ix_query.specs.declared.answers.doc_stream.DocStream.{DocStream}
 use Rattle.ix_query_text.specs.declared.tree.Tree.{Tree}
 use Rattle.ix_query_text.specs.declared.tree.Tree.TheVariants as asks
 use Rattle.ix_query.specs.Finding.{AnswersNothing, AreFound, AreNumbersOf, AreEvery, AreOfTerm}
-use Rattle.ix_query.specs.Leaves.{HasNumber, HasMeet}
+use Rattle.ix_query.specs.DocStreams.{HasNumber, IsInIntersection}
 use Rattle.ix_query.specs.Satisfaction.{Satisfies}
 use Rattle.ix_query.specs.Scans.{IsScan, SatisfiesAt}
 use Rattle.ix_query.specs.Streams.{Have, HaveAll, HasOne, AreAll}
@@ -39,69 +39,69 @@ each_last : {X : Type 0} (P : X → Type 0) (xs : List X) (i : ℕ) (x : X) → 
 each_last P xs i x within is each = subst P (sym is) (each i x (omega arith) within)
 
 -- streams with one more
-have_more : (leaves : List Leaf) (leaf : Leaf) (n : ℕ) → HaveAll HasNumber (leaves ++ leaf ∷ []) n ↔ (HaveAll HasNumber leaves n × Have (HasNumber leaf) n)
-have_more leaves leaf n = (
-  λ all. (λ k one at. all k one (get_left leaves leaf k one at), all (length leaves) leaf (get_last leaves leaf)),
-  λ (all, last) k one at. elim (get_cases leaves leaf k one at) [
+have_more : (leaves : List DocStream) (stream : DocStream) (n : ℕ) → HaveAll HasNumber (leaves ++ stream ∷ []) n ↔ (HaveAll HasNumber leaves n × Have (HasNumber stream) n)
+have_more leaves stream n = (
+  λ all. (λ k one at. all k one (get_left leaves stream k one at), all (length leaves) stream (get_last leaves stream)),
+  λ (all, last) k one at. elim (get_cases leaves stream k one at) [
     | inl left ↦ all k one left
-    | inr (_, same) ↦ subst (λ (l : Leaf). Have (HasNumber l) n) same last
+    | inr (_, same) ↦ subst (λ (l : DocStream). Have (HasNumber l) n) same last
   ],
 )
 
-one_more : (leaves : List Leaf) (leaf : Leaf) (n : ℕ) → HasOne HasNumber (leaves ++ leaf ∷ []) n ↔ (HasOne HasNumber leaves n ⊎ Have (HasNumber leaf) n)
-one_more leaves leaf n = (
-  λ (k, one, at, has). elim (get_cases leaves leaf k one at) [
+one_more : (leaves : List DocStream) (stream : DocStream) (n : ℕ) → HasOne HasNumber (leaves ++ stream ∷ []) n ↔ (HasOne HasNumber leaves n ⊎ Have (HasNumber stream) n)
+one_more leaves stream n = (
+  λ (k, one, at, has). elim (get_cases leaves stream k one at) [
     | inl left ↦ inl (k, one, left, has)
-    | inr (_, same) ↦ inr (subst (λ (l : Leaf). Have (HasNumber l) n) (sym same) has)
+    | inr (_, same) ↦ inr (subst (λ (l : DocStream). Have (HasNumber l) n) (sym same) has)
   ],
   λ h. elim h [
-    | inl (k, one, at, has) ↦ (k, one, get_left leaves leaf k one at, has)
-    | inr has ↦ (length leaves, leaf, get_last leaves leaf, has)
+    | inl (k, one, at, has) ↦ (k, one, get_left leaves stream k one at, has)
+    | inr has ↦ (length leaves, stream, get_last leaves stream, has)
   ],
 )
 
 -- ---- AND
 
 -- what was gathered of the parts before a place: those that are to be present, and those that are to be absent
-pub record Gathered (parts : Parts) (trees : List Tree) (i : ℕ) (present absent : List Leaf) : Type 0 where
+pub record Gathered (parts : Parts) (trees : List Tree) (i : ℕ) (present absent : List DocStream) : Type 0 where
   pub same : (collection : Collection) → ArePartsOf collection parts → (n : ℕ) (document : Document) → slice_get collection.documents n ≡ Some document
       → (HaveAll HasNumber present n × ¬ (HasOne HasNumber absent n)) ↔ EachBefore (Satisfies document.tokens) trees i
-  pub bounded : (collection : Collection) → ArePartsOf collection parts → (k : ℕ) (leaf : Leaf) → slice_get present k ≡ Some leaf → (n : ℕ) → Have (HasNumber leaf) n → HasDocument collection n
+  pub bounded : (collection : Collection) → ArePartsOf collection parts → (k : ℕ) (stream : DocStream) → slice_get present k ≡ Some stream → (n : ℕ) → Have (HasNumber stream) n → HasDocument collection n
 
-pub gathered_present : (parts : Parts) (trees : List Tree) (i : ℕ) (present absent : List Leaf) (tree : Tree) (leaf : Leaf) → i < length trees → tree ≡ get_or trees i tree → AreFound parts tree (Have (HasNumber leaf)) → Gathered parts trees i present absent → Gathered parts trees (i + 1) (present ++ leaf ∷ []) absent
-gathered_present parts trees i present absent tree leaf within is found before = record {
+pub gathered_present : (parts : Parts) (trees : List Tree) (i : ℕ) (present absent : List DocStream) (tree : Tree) (stream : DocStream) → i < length trees → tree ≡ get_or trees i tree → AreFound parts tree (Have (HasNumber stream)) → Gathered parts trees i present absent → Gathered parts trees (i + 1) (present ++ stream ∷ []) absent
+gathered_present parts trees i present absent tree stream within is found before = record {
   same = λ collection of n document at.
       let told = before.same collection of n document at in
       let here = satisfied_at collection tree n document at in (
         λ (all, lacks).
-            let both = (have_more present leaf n).0 all in
+            let both = (have_more present stream n).0 all in
             each_more (Satisfies document.tokens) trees i tree within is (here.0 ((found collection of n).0 both.1)) (told.0 (both.0, lacks)),
         λ each.
             let earlier = told.1 (each_less (Satisfies document.tokens) trees i each) in
             let last = (found collection of n).1 (here.1 (each_last (Satisfies document.tokens) trees i tree within is each)) in
-            ((have_more present leaf n).1 (earlier.0, last), earlier.1),
+            ((have_more present stream n).1 (earlier.0, last), earlier.1),
       );
-  bounded = λ collection of k one at n has. elim (get_cases present leaf k one at) [
+  bounded = λ collection of k one at n has. elim (get_cases present stream k one at) [
     | inl left ↦ before.bounded collection of k one left n has
-    | inr (_, same) ↦ let satisfied = (found collection of n).0 (subst (λ (l : Leaf). Have (HasNumber l) n) (sym same) has) in (satisfied.document, satisfied.numbered)
+    | inr (_, same) ↦ let satisfied = (found collection of n).0 (subst (λ (l : DocStream). Have (HasNumber l) n) (sym same) has) in (satisfied.document, satisfied.numbered)
   ];
 }
 
-pub gathered_absent : (parts : Parts) (trees : List Tree) (i : ℕ) (present absent : List Leaf) (tree denied : Tree) (leaf : Leaf) → i < length trees → tree ≡ get_or trees i tree → tree ≡ asks.Not denied → AreFound parts denied (Have (HasNumber leaf)) → Gathered parts trees i present absent → Gathered parts trees (i + 1) present (absent ++ leaf ∷ [])
-gathered_absent parts trees i present absent tree denied leaf within is form found before = record {
+pub gathered_absent : (parts : Parts) (trees : List Tree) (i : ℕ) (present absent : List DocStream) (tree denied : Tree) (stream : DocStream) → i < length trees → tree ≡ get_or trees i tree → tree ≡ asks.Not denied → AreFound parts denied (Have (HasNumber stream)) → Gathered parts trees i present absent → Gathered parts trees (i + 1) present (absent ++ stream ∷ [])
+gathered_absent parts trees i present absent tree denied stream within is form found before = record {
   same = λ collection of n document at.
       let told = before.same collection of n document at in
       let here = satisfied_at collection denied n document at in
       let asks_not = satisfies-Not document.tokens denied in (
         λ (all, lacks).
-            let none = λ (one : HasOne HasNumber absent n). lacks ((one_more absent leaf n).1 (inl one)) in
-            let not_here : ¬ (Satisfies document.tokens denied) = λ holds. lacks ((one_more absent leaf n).1 (inr ((found collection of n).1 (here.1 holds)))) in
+            let none = λ (one : HasOne HasNumber absent n). lacks ((one_more absent stream n).1 (inl one)) in
+            let not_here : ¬ (Satisfies document.tokens denied) = λ holds. lacks ((one_more absent stream n).1 (inr ((found collection of n).1 (here.1 holds)))) in
             each_more (Satisfies document.tokens) trees i tree within is (subst (λ (t : Tree). Satisfies document.tokens t) (sym form) (asks_not.1 not_here)) (told.0 (all, none)),
         λ each.
             let earlier = told.1 (each_less (Satisfies document.tokens) trees i each) in
             let last = asks_not.0 (subst (λ (t : Tree). Satisfies document.tokens t) form (each_last (Satisfies document.tokens) trees i tree within is each)) in (
               earlier.0,
-              λ one. elim ((one_more absent leaf n).0 one) [
+              λ one. elim ((one_more absent stream n).0 one) [
                 | inl early ↦ earlier.1 early
                 | inr has ↦ last (here.0 ((found collection of n).0 has))
               ],
@@ -111,14 +111,14 @@ gathered_absent parts trees i present absent tree denied leaf within is form fou
 }
 
 -- what is found where some are present and some absent: one of all documents where none is to be present
-abbrev pub IsMeetOf : Parts → List Leaf → List Leaf → (ℕ → Type 0) → Type 0
+abbrev pub IsMeetOf : Parts → List DocStream → List DocStream → (ℕ → Type 0) → Type 0
 IsMeetOf parts present absent there = (n : ℕ) → there n ↔ (HaveAll HasNumber present n × (present ≡ [] → n < length parts.rows) × ¬ (HasOne HasNumber absent n))
 
-some_document : (parts : Parts) (trees : List Tree) (i : ℕ) (present absent : List Leaf) (n : ℕ) (collection : Collection) → ArePartsOf collection parts → Gathered parts trees i present absent → HaveAll HasNumber present n → (present ≡ [] → n < length parts.rows) → HasDocument collection n
+some_document : (parts : Parts) (trees : List Tree) (i : ℕ) (present absent : List DocStream) (n : ℕ) (collection : Collection) → ArePartsOf collection parts → Gathered parts trees i present absent → HaveAll HasNumber present n → (present ≡ [] → n < length parts.rows) → HasDocument collection n
 some_document parts trees i [] absent n collection of gathered all below = (document_below collection parts n of).1 (below refl)
-some_document parts trees i (leaf ∷ present) absent n collection of gathered all below = gathered.bounded collection of 0 leaf refl n (all 0 leaf refl)
+some_document parts trees i (stream ∷ present) absent n collection of gathered all below = gathered.bounded collection of 0 stream refl n (all 0 stream refl)
 
-pub each_found : (parts : Parts) (trees : List Tree) (i : ℕ) (present absent : List Leaf) (there : ℕ → Type 0) → length trees ≤ i → Gathered parts trees i present absent → IsMeetOf parts present absent there → AreFound parts (asks.And trees) there
+pub each_found : (parts : Parts) (trees : List Tree) (i : ℕ) (present absent : List DocStream) (there : ℕ → Type 0) → length trees ≤ i → Gathered parts trees i present absent → IsMeetOf parts present absent there → AreFound parts (asks.And trees) there
 each_found parts trees i present absent there all gathered meet collection of n = (
   λ has.
       let (have, below, lacks) = (meet n).0 has in
@@ -132,34 +132,34 @@ each_found parts trees i present absent there all gathered meet collection of n 
 )
 
 -- the last of those that are to be present is the first to be asked
-pub meet_some : (parts : Parts) (present others absent : List Leaf) (first : Leaf) → present ≡ others ++ first ∷ [] → IsMeetOf parts present absent (HasMeet first others absent)
+pub meet_some : (parts : Parts) (present others absent : List DocStream) (first : DocStream) → present ≡ others ++ first ∷ [] → IsMeetOf parts present absent (IsInIntersection first others absent)
 meet_some parts present others absent first is n =
     let more = have_more others first n in (
       λ ((one, all), lacks). (
-        subst (λ (ls : List Leaf). HaveAll HasNumber ls n) (sym is) (more.1 (all, one)),
+        subst (λ (ls : List DocStream). HaveAll HasNumber ls n) (sym is) (more.1 (all, one)),
         (λ none. absurd (let a = ap length is ∙ length-append others (first ∷ []) in let b = ap length none in omega arith)),
         lacks,
       ),
-      λ (all, below, lacks). let both = more.0 (subst (λ (ls : List Leaf). HaveAll HasNumber ls n) is all) in ((both.1, both.0), lacks),
+      λ (all, below, lacks). let both = more.0 (subst (λ (ls : List DocStream). HaveAll HasNumber ls n) is all) in ((both.1, both.0), lacks),
     )
 
-pub meet_none : (parts : Parts) (present others absent : List Leaf) (first : Leaf) → length present ≡ 0 → length others ≡ 0 → AreEvery parts (Have (HasNumber first)) → IsMeetOf parts present absent (HasMeet first others absent)
+pub meet_none : (parts : Parts) (present others absent : List DocStream) (first : DocStream) → length present ≡ 0 → length others ≡ 0 → AreEvery parts (Have (HasNumber first)) → IsMeetOf parts present absent (IsInIntersection first others absent)
 meet_none parts [] [] absent first empty none every n = (
-  λ ((one, all), lacks). ((λ k leaf at. absurd (cc)), (λ _. (every n).0 one), lacks),
-  λ (all, below, lacks). (((every n).1 (below refl), λ k leaf at. absurd (cc)), lacks),
+  λ ((one, all), lacks). ((λ k stream at. absurd (cc)), (λ _. (every n).0 one), lacks),
+  λ (all, below, lacks). (((every n).1 (below refl), λ k stream at. absurd (cc)), lacks),
 )
 meet_none parts (x ∷ present) others absent first empty none every n = absurd (omega arith)
 meet_none parts [] (x ∷ others) absent first empty none every n = absurd (omega arith)
 
 -- ---- NOT
 
-pub others_found : (parts : Parts) (tree : Tree) (leaf : Leaf) (there : ℕ → Type 0) → AreFound parts tree (Have (HasNumber leaf)) → IsMeetOf parts [] (leaf ∷ []) there → AreFound parts (asks.Not tree) there
-others_found parts tree leaf there found meet collection of n = (
+pub others_found : (parts : Parts) (tree : Tree) (stream : DocStream) (there : ℕ → Type 0) → AreFound parts tree (Have (HasNumber stream)) → IsMeetOf parts [] (stream ∷ []) there → AreFound parts (asks.Not tree) there
+others_found parts tree stream there found meet collection of n = (
   λ has.
       let (have, below, lacks) = (meet n).0 has in
       let (document, at) = (document_below collection parts n of).1 (below refl) in
       (satisfied_at collection (asks.Not tree) n document at).1 ((satisfies-Not document.tokens tree).1 (λ holds.
-      lacks (0, leaf, refl, (found collection of n).1 ((satisfied_at collection tree n document at).1 holds)))),
+      lacks (0, stream, refl, (found collection of n).1 ((satisfied_at collection tree n document at).1 holds)))),
   λ satisfied. (meet n).1 (
     (λ k one none. absurd (cc)),
     (λ _. satisfied_below collection parts (asks.Not tree) n of satisfied),
@@ -167,8 +167,8 @@ others_found parts tree leaf there found meet collection of n = (
   ),
 )
   where
-    only : (k : ℕ) (one : Leaf) → slice_get (leaf ∷ []) k ≡ Some one → Have (HasNumber one) n → Have (HasNumber leaf) n
-    only zero one at has = let same : one ≡ leaf = cc in subst (λ (l : Leaf). Have (HasNumber l) n) same has
+    only : (k : ℕ) (one : DocStream) → slice_get (stream ∷ []) k ≡ Some one → Have (HasNumber one) n → Have (HasNumber stream) n
+    only zero one at has = let same : one ≡ stream = cc in subst (λ (l : DocStream). Have (HasNumber l) n) same has
     only (suc k) one at has = absurd (cc)
 
 -- ---- OR
@@ -177,8 +177,8 @@ others_found parts tree leaf there found meet collection of n = (
 abbrev pub OneBefore : Parts → List Tree → ℕ → (ℕ → Type 0) → Type 0
 OneBefore parts trees i holds = (collection : Collection) → ArePartsOf collection parts → (n : ℕ) → holds n ↔ ((k : ℕ) × (tree : Tree) × (k < i) × (slice_get trees k ≡ Some tree) × SatisfiesAt collection tree n)
 
-pub one_marked_more : (parts : Parts) (trees : List Tree) (i count : ℕ) (holds more : ℕ → Type 0) (tree : Tree) (leaf : Leaf) → i < length trees → tree ≡ get_or trees i tree → count ≡ length parts.rows → AreFound parts tree (Have (HasNumber leaf)) → ((n : ℕ) → more n ↔ (holds n ⊎ (Have (HasNumber leaf) n × (n < count)))) → OneBefore parts trees i holds → OneBefore parts trees (i + 1) more
-one_marked_more parts trees i count holds more tree leaf within is long found told before collection of n = (
+pub one_marked_more : (parts : Parts) (trees : List Tree) (i count : ℕ) (holds more : ℕ → Type 0) (tree : Tree) (stream : DocStream) → i < length trees → tree ≡ get_or trees i tree → count ≡ length parts.rows → AreFound parts tree (Have (HasNumber stream)) → ((n : ℕ) → more n ↔ (holds n ⊎ (Have (HasNumber stream) n × (n < count)))) → OneBefore parts trees i holds → OneBefore parts trees (i + 1) more
+one_marked_more parts trees i count holds more tree stream within is long found told before collection of n = (
   λ has. elim ((told n).0 has) [
     | inl was ↦ let (k, one, below, at, satisfied) = (before collection of n).0 was in (k, one, omega arith, at, satisfied)
     | inr (here, _) ↦ (i, tree, omega arith, slice_get_read trees (length trees) i tree refl within is, (found collection of n).0 here)

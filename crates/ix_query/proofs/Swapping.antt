@@ -6,9 +6,9 @@ use Rattle.std.proofs.lemmas.List.{get_or_append_left, get_or_past}
 use Rattle.std.proofs.lemmas.List.Edits.{Swapped}
 use Rattle.std.proofs.lemmas.Option.{slice_get_within, slice_get-get_or, get_or_from_slice_get}
 use Rattle.ix_query.specs.Finding.{ArePlaced}
-use Rattle.ix_query.specs.Leaves.{HasNumber}
+use Rattle.ix_query.specs.DocStreams.{HasNumber}
 use Rattle.ix_query.specs.Streams.{HaveAll}
-use Rattle.ix_query.specs.declared.answers.leaf.Leaf.{Leaf}
+use Rattle.ix_query.specs.declared.answers.doc_stream.DocStream.{DocStream}
 use Rattle.ix_query.proofs.PartLemmas.{IsMeetOf}
 use Rattle.ix_text.specs.Parts.{Parts, Posting}
 
@@ -115,14 +115,14 @@ placed_swapped parts entries end lists news places others a b one two placed = r
       (m, list, new, new_place, of_it);
 }
 
-have_swapped : (leaves news : List Leaf) (a b n : ℕ) → AreSwapped leaves news a b → HaveAll HasNumber news n → HaveAll HasNumber leaves n
-have_swapped leaves news a b n swapped all k leaf at =
+have_swapped : (leaves news : List DocStream) (a b n : ℕ) → AreSwapped leaves news a b → HaveAll HasNumber news n → HaveAll HasNumber leaves n
+have_swapped leaves news a b n swapped all k stream at =
     let back = swapped_back leaves news a b swapped in
-    let (m, here, _) = moved news leaves news leaves a b back back k leaf leaf at at in
-    all m leaf here
+    let (m, here, _) = moved news leaves news leaves a b back back k stream stream at at in
+    all m stream here
 
 -- the parts that are to be present with two of them exchanged
-pub meet_swapped : (parts : Parts) (present news absent : List Leaf) (there : ℕ → Type 0) (a b : ℕ) → AreSwapped present news a b → IsMeetOf parts news absent there → IsMeetOf parts present absent there
+pub meet_swapped : (parts : Parts) (present news absent : List DocStream) (there : ℕ → Type 0) (a b : ℕ) → AreSwapped present news a b → IsMeetOf parts news absent there → IsMeetOf parts present absent there
 meet_swapped parts present news absent there a b swapped meet n = (
   λ has.
       let (all, below, lacks) = (meet n).0 has in

@@ -1,4 +1,4 @@
--- What an index tells of a query, of each collection that its parts are those of.
+-- What an index says of a query, of each collection that its parts are those of.
 use Rattle.std.specs.Prelude.{◌≡◌, ℕ, ◌+◌, ◌<◌, ◌-◌, ◌^◌, ◌↔◌, List, Option, Some, length, slice_get, Contains}
 use Rattle.ix_text.specs.Collections.{Collection, HasPosting}
 use Rattle.ix_text.specs.Parts.{Parts, Posting, ArePartsOf, HasPosition}

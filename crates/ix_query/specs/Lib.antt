@@ -1,5 +1,5 @@
 pub mod Finding
-pub mod Leaves
+pub mod DocStreams
 pub mod Marked
 pub mod Marking
 pub mod Meetings

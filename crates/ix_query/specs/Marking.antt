@@ -7,7 +7,7 @@ use Rattle.ix_file.specs.Gaps.{Ascends, next_after}
 abbrev pub IsBitFrom : ℕ → ℕ → ℕ → Type 0
 IsBitFrom word start n = (start ≤ n) × (bit_at word (n - start) ≡ 1)
 
--- the places may stand behind what was found before
+-- the places may follow what was found before
 pub record CanAddBits (found : List ℕ) (word start : ℕ) : Type 0 where
   pub ascending : Ascends 0 (2 ^ 32 - 1) found
   pub behind : next_after 0 found ≤ start

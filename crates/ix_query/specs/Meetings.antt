@@ -14,12 +14,12 @@ pub record AreClose (first second : List ℕ) (distance : ℕ) : Type 0 where
   pub apart : 1 ≤ distance_between one other
   pub near : distance_between one other ≤ distance
 
--- a position differs from another by 1 to the distance, or, where the two are one, from the first behind that
+-- a position differs from another by 1 to the distance, or, if the two are one, from the first behind that
 abbrev pub IsCloseTo : ℕ → ℕ → List ℕ → ℕ → Type 0
 IsCloseTo one other behind distance =
     ((one ≢ other) × (distance_between one other ≤ distance)) ⊎ ((one ≡ other) × IsSomeAnd (first_of behind) (λ next. next - one ≤ distance))
 
--- the terms stand at two positions of the document that differ by 1 to the distance
+-- the terms are at two positions of the document that differ by 1 to the distance
 pub record HasNear (first second : List Posting) (distance number : ℕ) : Type 0 where
   pub one : ℕ
   pub other : ℕ
@@ -28,7 +28,7 @@ pub record HasNear (first second : List Posting) (distance number : ℕ) : Type 
   pub apart : 1 ≤ distance_between one other
   pub near : distance_between one other ≤ distance
 
--- The terms of a phrase stand in the document, each as far behind one start as its place in the phrase: the first at
+-- The terms of a phrase are in the document, each as far behind one start as its place in the phrase: the first at
 -- `place`, and the others at `places`.
 pub record HasPhraseIn (first : List Posting) (place : ℕ) (others : List (List Posting)) (places : List ℕ) (number : ℕ) : Type 0 where
   pub start : ℕ

@@ -15,7 +15,7 @@ StandsAt tokens position term = slice_get tokens position ≡ Some (Some term)
 abbrev pub HasPhraseAt : List Entry → ℕ → List (Option (List ℕ)) → Type 0
 HasPhraseAt tokens start parts = (i : ℕ) (term : List ℕ) → slice_get parts i ≡ Some (Some term) → StandsAt tokens (start + i) term
 
--- the phrase stands somewhere
+-- the phrase is somewhere
 abbrev pub HasPhrase : List Entry → List (Option (List ℕ)) → Type 0
 HasPhrase tokens parts = (start : ℕ) × HasPhraseAt tokens start parts
 
@@ -23,7 +23,7 @@ HasPhrase tokens parts = (start : ℕ) × HasPhraseAt tokens start parts
 abbrev pub distance_between : ℕ → ℕ → ℕ
 distance_between p q = (p - q) + (q - p)
 
--- the two terms stand at two positions that differ by no more than the limit
+-- the two terms are at two positions that differ by no more than the limit
 abbrev pub AreNear : List Entry → List ℕ → List ℕ → ℕ → Type 0
 AreNear tokens first second limit =
     (p : ℕ) × (q : ℕ) × StandsAt tokens p first × StandsAt tokens q second × (1 ≤ distance_between p q) × (distance_between p q ≤ limit)
@@ -37,7 +37,7 @@ abbrev pub HoldsOfOne : {X : Type 0} → (X → Type 0) → List X → Type 0
 HoldsOfOne P [] = ⊥
 HoldsOfOne P (x ∷ xs) = P x ⊎ HoldsOfOne P xs
 
--- what a query asks, where it is known what each of its parts asks
+-- what a query asks, if it is known what each of its parts asks
 abbrev pub IsAsked : List Entry → (X : Type 0) → (X → Tree) → (X → Type 0) → Tree-F X → Type 0
 IsAsked tokens X whole asked (Tree-F.Phrase parts) = HasPhrase tokens parts
 IsAsked tokens X whole asked (Tree-F.Near first second limit) = AreNear tokens first second limit

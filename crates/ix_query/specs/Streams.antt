@@ -16,7 +16,7 @@ pub record IsFirst (there : Pairs) (number : ℕ) : Type 0 where
   pub first : (n place : ℕ) → there n place → number ≤ n
   pub below : number < 2 ^ 32 - 1
 
--- A stream was asked for the first number that is not below `low`: all below it are gone, nothing else is, and the
+-- A stream sought the first number that is not below `low`: all below it are gone, nothing else is, and the
 -- answer is the first of what is left.
 pub record Reaches (old new : Pairs) (low : ℕ) (answer : Option ℕ) : Type 0 where
   pub kept : (n place : ℕ) → new n place ↔ (old n place × (low ≤ n))
@@ -62,7 +62,7 @@ module _ {N : Type 0} (has : N → Pairs) where
   AreSameFrom olds news number = (k : ℕ) (old new : N) → slice_get olds k ≡ Some old → slice_get news k ≡ Some new → IsSameFrom (has old) (has new) number
 
   -- The streams were asked, one after another, for what is not below a number, up to the first that answered another
-  -- one: `high` is that answer, or the number itself where each has it.
+  -- one: `high` is that answer, or the number itself if each has it.
   pub record IsPass (olds news : List N) (number high : ℕ) : Type 0 where
     pub above : number ≤ high
     pub kept : AreSameFrom olds news high
@@ -74,7 +74,7 @@ module _ {N : Type 0} (has : N → Pairs) where
     pub before : (n : ℕ) → HaveAll has olds n → ¬ (number ≤ n)
     pub after : (n : ℕ) → ¬ (HaveAll has news n)
 
-  -- each stream stands at the number, which they have in common
+  -- the number is the current one of each stream
   pub record IsCommon (first_old first_new : N) (olds news : List N) (number : ℕ) : Type 0 where
     pub first : IsPassed (has first_old) (has first_new) number
     pub others : ArePassed olds news number

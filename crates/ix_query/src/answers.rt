@@ -11,12 +11,12 @@ ghost use Rattle.ix_query.specs.Scans.{IsScan, SatisfiesAt};
 
 mod collect;
 mod common;
+mod doc_list;
+mod doc_stream;
 mod find;
-mod leaf;
-mod listed;
+mod intersection;
 mod marks;
 mod matches;
-mod meet;
 mod near;
 mod numbers;
 mod order;
@@ -36,7 +36,7 @@ use std::alloc::Global;
 /// [`scan`](crate::scan) finds in its collection.
 ///
 /// # Errors
-/// `Memory` where memory is refused. A query that is one NEAR which no document satisfies asks for none.
+/// `Memory` if out of memory. A query that is one NEAR which no document satisfies allocates nothing.
 pub fn answer(alloc: Global, index: &Index<'_>, query: &Query) -> Result<Vec<u32>, Memory>
     ensures scan { IfOk result (λ numbers. (version : Version) (collection : Collection)
         → IsIndexOf index.now version collection → IsScan collection query.now numbers.items) }

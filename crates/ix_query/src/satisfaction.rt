@@ -72,7 +72,7 @@ fn satisfies_one(tokens: &[Option<String>], parts: &[Tree]) -> bool
     false
 }
 
-/// Whether the parts stand one after another from some token on.
+/// Whether the parts follow one another from some token on.
 fn has_phrase(tokens: &[Option<String>], parts: &[Option<Term>]) -> bool
     ensures { IsTrue result ↔ HasPhrase (map (option_map string_bytes) tokens.now) parts.now }
 {
@@ -98,7 +98,7 @@ fn begins_with(tokens: &[Option<String>], parts: &[Option<Term>]) -> bool
     true
 }
 
-/// Whether the term stands at the position.
+/// Whether the term is at the position.
 fn stands_at(tokens: &[Option<String>], position: usize, term: &str) -> bool
     ensures { IsTrue result ↔
         StandsAt (map (option_map string_bytes) tokens.now) position term.now }
@@ -118,8 +118,8 @@ fn is_term(entry: &Option<String>, term: &str) -> bool
     }
 }
 
-/// Whether the two terms stand at two positions that differ by no more than the limit. One pass
-/// over the tokens.
+/// Whether the two terms are at two positions that differ by no more than the limit. One pass over
+/// the tokens.
 fn are_near(tokens: &[Option<String>], first: &str, second: &str, limit: u32) -> bool
     ensures { IsTrue result ↔
         AreNear (map (option_map string_bytes) tokens.now) first.now second.now limit }

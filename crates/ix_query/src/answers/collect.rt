@@ -11,21 +11,21 @@ use ix_file::Postings;
 use ix_text::Memory;
 use std::alloc::Global;
 
-/// All numbers of a stream, in memory. `Memory` where memory is refused, which none is asked for where there is no number.
+/// All numbers of a stream, in memory. `Memory` if out of memory; a stream without numbers allocates nothing.
 pub(crate) fn collect<N: Numbers>(alloc: Global, list: &mut N) -> Result<Vec<u32>, Memory>
     ensures all { IfOk result (λ numbers. AreAll (Have (N.has list.old)) numbers.items) }
     ensures none { ((n place : ℕ) → ¬ (N.has list.old n place)) → IsOk result }
 {
     let mut found = Vec::new(alloc);
     let mut low = 0;
-    while let Some(number) = list.reach(low) {
+    while let Some(number) = list.seek(low) {
         found.push(number)?;
         low = number + 1;
     }
     Ok(found)
 }
 
-/// The documents of a term, in memory that is asked for once. `Memory` where it is refused.
+/// The documents of a term, in one allocation. `Memory` if out of memory.
 pub(crate) fn documents(alloc: Global, postings: Postings<'_>) -> Result<Vec<u32>, Memory>
     ensures { IfOk result (λ numbers. numbers.items ≡ documents_of postings.entry) }
 {
@@ -43,7 +43,7 @@ pub(crate) fn mark<N: Numbers>(list: &mut N, marks: &mut Marks)
     ensures count { marks.new.count ≡ marks.old.count }
 {
     let mut low = 0;
-    while let Some(number) = list.reach(low) {
+    while let Some(number) = list.seek(low) {
         marks.mark(number);
         low = number + 1;
     }

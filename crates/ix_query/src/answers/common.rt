@@ -5,8 +5,8 @@ ghost use Rattle.ix_query.specs.Streams.{AreSameFrom, HasOne, HaveBoth, IsCommon
 
 use crate::answers::numbers::Numbers;
 
-/// The first number not below `low` that the first stream and all others have. Each stream is asked for what is not
-/// below the answer of another, so that none is walked further than the one that is furthest.
+/// The first number not below `low` that the first stream and all others have. Each stream seeks the number of another, so
+/// that none is read further than the furthest.
 #[inline]
 pub(crate) fn common<N: Numbers>(first: &mut N, others: &mut [N], low: u32) -> Option<u32>
     ensures reached { Reaches
@@ -17,7 +17,7 @@ pub(crate) fn common<N: Numbers>(first: &mut N, others: &mut [N], low: u32) -> O
 {
     let mut least = low;
     loop {
-        let Some(number) = first.reach(least) else {
+        let Some(number) = first.seek(least) else {
             return None;
         };
         let Some(high) = pass(others, number) else {
@@ -42,10 +42,10 @@ pub(crate) fn common_of_two<N: Numbers>(first: &mut N, second: &mut N, low: u32)
 {
     let mut least = low;
     loop {
-        let Some(number) = first.reach(least) else {
+        let Some(number) = first.seek(least) else {
             return None;
         };
-        let Some(high) = second.reach(number) else {
+        let Some(high) = second.seek(number) else {
             return None;
         };
         if high == number {
@@ -55,14 +55,14 @@ pub(crate) fn common_of_two<N: Numbers>(first: &mut N, second: &mut N, low: u32)
     }
 }
 
-/// The first answer above the number when the streams are asked for it in turn, or the number itself where each has it.
+/// The first number above this one that a stream has instead of it, in order, or the number itself if each has it.
 #[inline]
 fn pass<N: Numbers>(lists: &mut [N], number: u32) -> Option<u32>
     ensures passed { IfSome result (IsPass N.has lists.old lists.new number) }
     ensures ended { IfNone result (IsPassEnded N.has lists.old lists.new number) }
 {
     for list in lists.iter_mut() {
-        let Some(found) = list.reach(number) else {
+        let Some(found) = list.seek(number) else {
             return None;
         };
         if found > number {
@@ -79,7 +79,7 @@ pub(crate) fn is_in_one<N: Numbers>(lists: &mut [N], number: u32) -> bool
     ensures kept { AreSameFrom N.has lists.old lists.new number }
 {
     for list in lists.iter_mut() {
-        if let Some(found) = list.reach(number)
+        if let Some(found) = list.seek(number)
             && found == number
         {
             return true;

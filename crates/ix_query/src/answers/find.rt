@@ -6,16 +6,16 @@ ghost use Rattle.ix_text.specs.Parts.{ArePartsOf};
 ghost use Rattle.ix_file.specs.Gaps.{Ascends};
 ghost use Rattle.ix_query_text.specs.declared.tree.Tree.TheVariants as asks;
 ghost use Rattle.ix_query.specs.Finding.{AreFound, AreNumbersOf};
-ghost use Rattle.ix_query.specs.Leaves.{HasMeet, HasNumber};
+ghost use Rattle.ix_query.specs.DocStreams.{IsInIntersection, HasNumber};
 ghost use Rattle.ix_query.specs.Scans.{SatisfiesAt};
 ghost use Rattle.ix_query.specs.Streams.{HasOne, Have, HaveAll};
 
 use crate::answers::collect::{collect, documents, mark};
-use crate::answers::leaf::Leaf;
-use crate::answers::listed::Listed;
+use crate::answers::doc_list::DocList;
+use crate::answers::doc_stream::DocStream;
+use crate::answers::intersection::Intersection;
 use crate::answers::marks::Marks;
 use crate::answers::matches::find_matches;
-use crate::answers::meet::Meet;
 use crate::answers::order::fewest;
 use crate::answers::terms::{
     every_document, find_near, find_phrase, nothing, only_term, postings_of,
@@ -47,7 +47,7 @@ pub(crate) fn find_numbers(
     }
 }
 
-/// The numbers of the documents in which two terms are near. No memory is asked for where there is none.
+/// The numbers of the documents in which two terms are near. Allocates nothing if there are none.
 pub(crate) fn near_numbers(
     alloc: Global,
     index: &Index<'_>,
@@ -99,8 +99,8 @@ fn word_numbers(alloc: Global, index: &Index<'_>, term: &Term) -> Result<Vec<u32
 
 /// The documents that a part of a query finds, as a stream: those of a term, a phrase or a NEAR without a list of them.
 #[cycle(find)]
-fn find<'a>(alloc: Global, index: &'a Index<'_>, query: &Tree) -> Result<Leaf<'a>, Memory>
-    ensures { IfOk result (λ leaf. AreFound index.now.parts query.now (Have (HasNumber leaf))) }
+fn find<'a>(alloc: Global, index: &'a Index<'_>, query: &Tree) -> Result<DocStream<'a>, Memory>
+    ensures { IfOk result (λ stream. AreFound index.now.parts query.now (Have (HasNumber stream))) }
 {
     match query {
         Tree::Phrase(parts) => find_phrase(alloc, index, parts.as_slice()),
@@ -131,7 +131,7 @@ fn find_each(alloc: Global, index: &Index<'_>, parts: &[Tree]) -> Result<Vec<u32
             present.push(find(alloc, index, part)?)?;
         }
     }
-    collect(alloc, &mut meet_of(index, present, absent))
+    collect(alloc, &mut intersect(index, present, absent))
 }
 
 /// The documents that one of the parts finds.
@@ -156,19 +156,23 @@ fn find_others(alloc: Global, index: &Index<'_>, part: &Tree) -> Result<Vec<u32>
 {
     let mut absent = Vec::new(alloc);
     absent.push(find(alloc, index, part)?)?;
-    collect(alloc, &mut meet_of(index, Vec::new(alloc), absent))
+    collect(alloc, &mut intersect(index, Vec::new(alloc), absent))
 }
 
-/// The documents that each present part finds and no absent one. Where there is no present part, they are among all.
-fn meet_of<'a>(index: &'a Index<'_>, present: Vec<Leaf<'a>>, absent: Vec<Leaf<'a>>) -> Meet<'a>
-    ensures { (n : ℕ) → HasMeet result.first result.others.items result.absent.items n
+/// The documents that each present part finds and no absent one. If there is no present part, they are among all.
+fn intersect<'a>(
+    index: &'a Index<'_>,
+    present: Vec<DocStream<'a>>,
+    absent: Vec<DocStream<'a>>,
+) -> Intersection<'a>
+    ensures { (n : ℕ) → IsInIntersection result.first result.others.items result.absent.items n
         ↔ (HaveAll HasNumber present.entry.items n
         × (present.entry.items ≡ [] → n < length index.now.parts.rows)
         × ¬ (HasOne HasNumber absent.entry.items n)) }
 {
     let mut others = present;
     if others.is_empty() {
-        return Meet {
+        return Intersection {
             first: every_document(index),
             others,
             absent,
@@ -176,7 +180,7 @@ fn meet_of<'a>(index: &'a Index<'_>, present: Vec<Leaf<'a>>, absent: Vec<Leaf<'a
     }
     let lead = fewest(others.as_slice());
     let first = others.swap_remove(lead);
-    Meet {
+    Intersection {
         first,
         others,
         absent,
@@ -184,20 +188,25 @@ fn meet_of<'a>(index: &'a Index<'_>, present: Vec<Leaf<'a>>, absent: Vec<Leaf<'a
 }
 
 /// The documents in which two terms are near.
-fn near_or_nothing<'a>(index: &'a Index<'_>, first: &Term, second: &Term, distance: u32) -> Leaf<'a>
+fn near_or_nothing<'a>(
+    index: &'a Index<'_>,
+    first: &Term,
+    second: &Term,
+    distance: u32,
+) -> DocStream<'a>
     ensures { AreFound index.now.parts (asks.Near first.now second.now distance)
         (Have (HasNumber result)) }
 {
     match find_near(index, first, second, distance) {
-        Some(near) => Leaf::Near(near),
+        Some(near) => DocStream::Near(near),
         None => nothing(),
     }
 }
 
 /// Numbers that were found, as a stream.
-fn list_found<'a>(numbers: Vec<u32>) -> Leaf<'a>
+fn list_found<'a>(numbers: Vec<u32>) -> DocStream<'a>
     requires { Ascends 0 (2 ^ 32 - 1) numbers.items }
     ensures { (n : ℕ) → Have (HasNumber result) n ↔ Contains numbers.items n }
 {
-    Leaf::Listed(Listed::new(numbers))
+    DocStream::DocList(DocList::new(numbers))
 }

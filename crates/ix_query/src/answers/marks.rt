@@ -32,7 +32,7 @@ impl Marks {
         Ok(Marks { words, count })
     }
 
-    /// Marks the number where it is below the count.
+    /// Marks the number if it is below the count.
     #[inline]
     pub(crate) fn mark(&mut self, number: u32)
         ensures marked { (n : ℕ) → IsMarked self.new n

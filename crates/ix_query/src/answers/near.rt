@@ -10,7 +10,7 @@ use crate::answers::numbers::Numbers;
 use crate::answers::reader::Reader;
 use ix_file::Positions;
 
-/// The documents in which two terms stand at positions that differ by 1 to `distance`, either way round.
+/// The documents that have two terms at positions that differ by 1 to `distance`, either way round.
 #[derive(Drop)]
 pub(crate) struct Near<'a> {
     pub(crate) first: Reader<'a>,
@@ -24,7 +24,7 @@ impl<'a> Numbers for Near<'a> {
     ghost has = { λ near number place. HasNear near.first near.second near.distance number };
 
     #[inline]
-    fn reach(&mut self, low: u32) -> Option<u32> {
+    fn seek(&mut self, low: u32) -> Option<u32> {
         first_near(&mut self.first, &mut self.second, self.distance, low)
     }
 }
@@ -53,7 +53,7 @@ fn first_near<'a>(
     }
 }
 
-/// Whether the terms are near in the document that both stand at.
+/// Whether the terms are near in the document that is the current one of both.
 #[inline]
 fn stand_near(first: &Reader<'_>, second: &Reader<'_>, distance: u32) -> bool
     ensures { (n : ℕ) → IsFirst (HasPosition first.now) n → IsFirst (HasPosition second.now) n
@@ -109,7 +109,7 @@ fn take_first(positions: &mut Positions<'_>) -> Option<u32>
     positions.next()
 }
 
-/// Whether a position differs from another by 1 to `distance`, or, where the two are one, from the next behind that.
+/// Whether a position differs from another by 1 to `distance`, or, if the two are one, from the next behind that.
 #[inline]
 fn has_close(one: u32, other: u32, behind: &Positions<'_>, distance: u32) -> bool
     ensures { IsTrue result ↔ IsCloseTo one other behind.now distance }

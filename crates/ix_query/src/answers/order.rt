@@ -1,15 +1,14 @@
-//! Which of several streams is asked first.
+//! Which of several streams leads.
 
 ghost use Rattle.std.specs.Prelude.{◌<◌, length};
 
-use crate::answers::leaf::Leaf;
+use crate::answers::doc_stream::DocStream;
 use crate::answers::reader::Reader;
 
-/// A stream that tells about how many numbers it has left.
+/// A stream that estimates how many numbers it has left.
 pub(crate) trait Counted {
-    /// About how many numbers are left, the one at hand among them, as far as is told without a walk: of a phrase and of a
-    /// NEAR, how many documents one of its terms has left. It is a hint. No clause says how near it comes, and none rests on
-    /// it: only the order of work does.
+    /// About how many numbers are left, the current one included, without a walk: for a phrase and a NEAR, how many
+    /// documents one of its terms has left. It is a hint, on which the order of work rests, and no clause.
     fn estimate(&self) -> usize;
 }
 
@@ -20,21 +19,21 @@ impl<'a> Counted for Reader<'a> {
     }
 }
 
-impl<'a> Counted for Leaf<'a> {
+impl<'a> Counted for DocStream<'a> {
     #[inline]
     fn estimate(&self) -> usize {
         match self {
-            Leaf::Word(word) => word.len(),
-            Leaf::Near(near) => near.first.len().min(near.second.len()),
-            Leaf::Phrase(phrase) => phrase.first.len(),
-            Leaf::Listed(listed) => listed.len(),
-            Leaf::Span(span) => span.len(),
+            DocStream::Word(word) => word.len(),
+            DocStream::Near(near) => near.first.len().min(near.second.len()),
+            DocStream::Phrase(phrase) => phrase.first.len(),
+            DocStream::DocList(list) => list.len(),
+            DocStream::DocRange(range) => range.len(),
         }
     }
 }
 
-/// The place of a stream that is to be asked first, the others only for what it has: the first of those whose estimate is
-/// the lowest. That it is one of the streams is all that its clause says.
+/// The place of the stream that leads, so that the others are read only at its numbers: the first of those with the lowest
+/// estimate. Its clause says no more than that it is one of the streams.
 pub(crate) fn fewest<N: Counted>(lists: &[N]) -> usize
     requires { 0 < length lists.now }
     ensures { result < length lists.now }

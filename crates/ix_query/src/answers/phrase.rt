@@ -10,14 +10,14 @@ use crate::answers::numbers::Numbers;
 use crate::answers::reader::Reader;
 use crate::answers::start::Start;
 
-/// The documents in which the terms of a phrase stand, each as far behind one start as its place in the phrase.
+/// The documents that have the terms of a phrase, each as far behind one start as its place in the phrase.
 #[derive(Drop)]
 pub(crate) struct Phrase<'a> {
     pub(crate) first: Reader<'a>,
     pub(crate) offset: u32,
     pub(crate) others: Vec<Reader<'a>>,
     pub(crate) offsets: Vec<u32>,
-    // where each of the others lets the phrase start: room that is used again for each document
+    // the starts that each of the others allows: room that is used again for each document
     pub(crate) starts: Vec<Start<'a>>,
     ghost each_placed: { length offsets.items ≡ length others.items },
     ghost each_started: { length starts.items ≡ length others.items },
@@ -28,7 +28,7 @@ impl<'a> Numbers for Phrase<'a> {
         phrase.first phrase.offset phrase.others.items phrase.offsets.items number };
 
     #[inline]
-    fn reach(&mut self, low: u32) -> Option<u32> {
+    fn seek(&mut self, low: u32) -> Option<u32> {
         first_phrase(
             &mut self.first,
             self.offset,
@@ -40,7 +40,7 @@ impl<'a> Numbers for Phrase<'a> {
     }
 }
 
-/// The first document not below `low` in which the terms stand together.
+/// The first document not below `low` that has the phrase.
 fn first_phrase<'a>(
     first: &mut Reader<'a>,
     offset: u32,
@@ -68,7 +68,8 @@ fn first_phrase<'a>(
     }
 }
 
-/// Whether the terms stand together in the document that all stand at. What `starts` holds is of no account.
+/// Whether the phrase is in the document that is the current one of all terms. `starts` is room; what it holds before is not
+/// read.
 fn stand_together<'a>(
     first: &Reader<'a>,
     offset: u32,
@@ -92,7 +93,7 @@ fn stand_together<'a>(
     common(&mut start, starts, 0).is_some()
 }
 
-/// Puts down where each term lets the phrase start in the document that it stands at. False where one stands at none.
+/// Sets the starts that each term allows in its current document. False if a term has no document left.
 #[inline]
 fn read_starts<'a>(lists: &[Reader<'a>], offsets: &[u32], starts: &mut [Start<'a>]) -> bool
     requires placed { length offsets.now ≡ length lists.now }

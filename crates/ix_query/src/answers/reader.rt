@@ -1,4 +1,4 @@
-//! The postings of a term, the first of them at hand.
+//! The postings of a term, of which the current one is read.
 
 ghost use Rattle.std.specs.Prelude.{◌≡◌, ℕ, List, ◌-◌, ◌^◌, option_map, IsTrue, IsSomeAnd, ◌↔◌, ◌≤◌};
 ghost use Rattle.ix_file.specs.Postings.{ArePostings};
@@ -43,7 +43,7 @@ impl<'a> Reader<'a> {
         Reader { current, rest }
     }
 
-    /// How many postings are left, the one at hand among them.
+    /// How many postings are left, the current one included.
     #[inline]
     pub(crate) fn len(&self) -> usize {
         match &self.current {
@@ -77,7 +77,7 @@ impl<'a> Reader<'a> {
 
     /// Whether the first document that is left is not below `low`.
     #[inline]
-    fn stands_from(&self, low: u32) -> bool
+    fn is_from(&self, low: u32) -> bool
         ensures { IsTrue result ↔ IsSomeAnd (first_of self.now) (λ posting. low ≤ posting.0) }
     {
         match &self.current {
@@ -93,8 +93,8 @@ impl<'a> Numbers for Reader<'a> {
     ghost has = { HasPosition };
 
     #[inline]
-    fn reach(&mut self, low: u32) -> Option<u32> {
-        if !self.stands_from(low) {
+    fn seek(&mut self, low: u32) -> Option<u32> {
+        if !self.is_from(low) {
             self.current = self.rest.seek(low);
         }
         self.document()

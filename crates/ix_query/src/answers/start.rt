@@ -1,4 +1,4 @@
-//! Where a phrase may start in a document, by one of its terms.
+//! The positions at which a phrase may start in a document, by one of its terms.
 
 ghost use Rattle.std.specs.Prelude.{◌≡◌, ◌-◌, ◌++◌, [], None, option_map, option_to_list};
 ghost use Rattle.ix_query.specs.Meetings.{IsStart};
@@ -66,14 +66,14 @@ impl<'a> Numbers for Start<'a> {
     ghost has = { λ start number place. Contains start.1 (number + start.0) };
 
     #[inline]
-    fn reach(&mut self, low: u32) -> Option<u32> {
+    fn seek(&mut self, low: u32) -> Option<u32> {
         let position = low.saturating_add(self.offset);
         self.current = advance(self.current, &mut self.rest, position);
         start_of(self.current, self.offset)
     }
 }
 
-/// Where the phrase starts whose term at the offset stands at the position.
+/// The start of the phrase whose term at the offset is at the position.
 #[inline]
 fn start_of(position: Option<u32>, offset: u32) -> Option<u32>
     ensures { result ≡ option_map (λ p. p - offset) position }
@@ -84,7 +84,7 @@ fn start_of(position: Option<u32>, offset: u32) -> Option<u32>
     }
 }
 
-/// The first position that is not below `low`, of the one at hand and those behind it.
+/// The first position that is not below `low`, the current one included.
 #[inline]
 fn advance(current: Option<u32>, rest: &mut Positions<'_>, low: u32) -> Option<u32>
     ensures passed { option_to_list result ++ rest.new

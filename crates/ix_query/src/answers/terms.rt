@@ -3,12 +3,12 @@
 ghost use Rattle.std.specs.Prelude.{◌≡◌, ◌∷◌, [], ℕ, List, Option, Some, ◌↔◌, length, IfOk, IfSome, MatchOption};
 ghost use Rattle.ix_query_text.specs.declared.tree.Tree.TheVariants as asks;
 ghost use Rattle.ix_query.specs.Finding.{AreFound, AreOfTerm, ArePlaced, AreEvery, AnswersNothing, IsBeyond, IsNowhere};
-ghost use Rattle.ix_query.specs.Leaves.{HasNumber};
+ghost use Rattle.ix_query.specs.DocStreams.{HasNumber};
 ghost use Rattle.ix_query.specs.Meetings.{HasNear};
 ghost use Rattle.ix_query.specs.Streams.{Have};
 
-use crate::answers::leaf::Leaf;
-use crate::answers::listed::Span;
+use crate::answers::doc_list::DocRange;
+use crate::answers::doc_stream::DocStream;
 use crate::answers::near::Near;
 use crate::answers::order::fewest;
 use crate::answers::phrase::Phrase;
@@ -20,7 +20,7 @@ use ix_query_text::Term;
 use ix_text::Memory;
 use std::alloc::Global;
 
-/// The postings of a term, or none where no document has it.
+/// The postings of a term, or none if no document has it.
 pub(crate) fn postings_of<'a>(index: &'a Index<'_>, term: &Term) -> Option<Postings<'a>>
     ensures { MatchOption result
         (IsNowhere index.now.parts term.now)
@@ -36,23 +36,23 @@ pub(crate) fn postings_of<'a>(index: &'a Index<'_>, term: &Term) -> Option<Posti
 }
 
 /// No document.
-pub(crate) fn nothing<'a>() -> Leaf<'a>
+pub(crate) fn nothing<'a>() -> DocStream<'a>
     ensures { (n : ℕ) → ¬ (Have (HasNumber result) n) }
 {
-    Leaf::Span(Span { next: 0, end: 0 })
+    DocStream::DocRange(DocRange { next: 0, end: 0 })
 }
 
 /// Every document of the index.
-pub(crate) fn every_document<'a>(index: &'a Index<'_>) -> Leaf<'a>
+pub(crate) fn every_document<'a>(index: &'a Index<'_>) -> DocStream<'a>
     ensures { AreEvery index.now.parts (Have (HasNumber result)) }
 {
-    Leaf::Span(Span {
+    DocStream::DocRange(DocRange {
         next: 0,
         end: index.doc_count(),
     })
 }
 
-/// The documents in which two terms are near, or none where a term is in no document.
+/// The documents in which two terms are near, or none if a term is in no document.
 pub(crate) fn find_near<'a>(
     index: &'a Index<'_>,
     first: &Term,
@@ -73,7 +73,7 @@ pub(crate) fn find_near<'a>(
     Some(order_near(Reader::new(first), Reader::new(second), distance))
 }
 
-/// The documents in which two terms are near: those of the rarer one are asked for first.
+/// The documents in which two terms are near: the rarer one leads.
 fn order_near<'a>(first: Reader<'a>, second: Reader<'a>, distance: u32) -> Near<'a>
     ensures { (n : ℕ) → HasNear result.first result.second result.distance n
         ↔ HasNear first.entry second.entry distance n }
@@ -94,12 +94,12 @@ fn order_near<'a>(first: Reader<'a>, second: Reader<'a>, distance: u32) -> Near<
 }
 
 /// The documents of a term.
-pub(crate) fn find_word<'a>(index: &'a Index<'_>, term: &Term) -> Leaf<'a>
+pub(crate) fn find_word<'a>(index: &'a Index<'_>, term: &Term) -> DocStream<'a>
     ensures { AreFound index.now.parts (asks.Phrase (Some term.now ∷ []))
         (Have (HasNumber result)) }
 {
     match postings_of(index, term) {
-        Some(postings) => Leaf::Word(Word::new(postings)),
+        Some(postings) => DocStream::Word(Word::new(postings)),
         None => nothing(),
     }
 }
@@ -124,14 +124,14 @@ pub(crate) struct Placed<'a> {
     ghost each_started: { length starts.items ≡ length lists.items },
 }
 
-/// The documents of a phrase. `Memory` where memory is refused for its parts.
+/// The documents of a phrase. `Memory` if out of memory for its parts.
 pub(crate) fn find_phrase<'a>(
     alloc: Global,
     index: &'a Index<'_>,
     parts: &[Option<Term>],
-) -> Result<Leaf<'a>, Memory>
-    ensures { IfOk result (λ leaf.
-        AreFound index.now.parts (asks.Phrase parts.now) (Have (HasNumber leaf))) }
+) -> Result<DocStream<'a>, Memory>
+    ensures { IfOk result (λ stream.
+        AreFound index.now.parts (asks.Phrase parts.now) (Have (HasNumber stream))) }
 {
     if let Some(term) = only_term(parts) {
         return Ok(find_word(index, term));
@@ -142,8 +142,8 @@ pub(crate) fn find_phrase<'a>(
     }
 }
 
-/// The terms of a phrase with their places, or none where a term is in no document, or stands so far behind the first
-/// that no position is there.
+/// The terms of a phrase with their places, or none if a term is in no document, or its place is higher than any
+/// position.
 fn place_terms<'a>(
     alloc: Global,
     index: &'a Index<'_>,
@@ -175,8 +175,8 @@ fn place_terms<'a>(
     }))
 }
 
-/// The postings of a term of a phrase, its place, and room for where it lets the phrase start. None where no document
-/// has the term so far from its start.
+/// The postings of a term of a phrase, its place, and room for the starts that it allows. None if no document has the
+/// term at a position as high as its place.
 fn place_term<'a>(
     index: &'a Index<'_>,
     term: &Term,
@@ -199,8 +199,8 @@ fn place_term<'a>(
     Some((list, place, start))
 }
 
-/// The documents in which the terms stand together: all documents where the phrase has no term.
-fn join_terms<'a>(index: &'a Index<'_>, placed: Placed<'a>) -> Leaf<'a>
+/// The documents that have the terms at their places: all documents if the phrase has no term.
+fn join_terms<'a>(index: &'a Index<'_>, placed: Placed<'a>) -> DocStream<'a>
     ensures { (entries : List (Option (List ℕ)))
         → ArePlaced index.now.parts entries (length entries)
         placed.entry.lists.items placed.entry.places.items
@@ -218,7 +218,7 @@ fn join_terms<'a>(index: &'a Index<'_>, placed: Placed<'a>) -> Leaf<'a>
     let lead = fewest(lists.as_slice());
     let first = lists.swap_remove(lead);
     let offset = places.swap_remove(lead);
-    Leaf::Phrase(Phrase {
+    DocStream::Phrase(Phrase {
         first,
         offset,
         others: lists,

@@ -43,7 +43,7 @@ impl<'a> Word<'a> {
         }
     }
 
-    /// How many documents are left, the one at hand among them.
+    /// How many documents are left, the current one included.
     #[inline]
     pub(crate) fn len(&self) -> usize {
         match self.current {
@@ -59,13 +59,13 @@ impl<'a> Numbers for Word<'a> {
     ghost has = { λ word number place. Contains word number };
 
     #[inline]
-    fn reach(&mut self, low: u32) -> Option<u32> {
+    fn seek(&mut self, low: u32) -> Option<u32> {
         self.current = advance(self.current, &mut self.rest, low);
         self.current
     }
 }
 
-/// The first document that is not below `low`, of the one at hand and those of the postings behind it.
+/// The first document that is not below `low`, the current one included.
 #[inline(always)]
 fn advance(current: Option<u32>, rest: &mut Postings<'_>, low: u32) -> Option<u32>
     ensures passed { option_to_list result ++ documents_of rest.new

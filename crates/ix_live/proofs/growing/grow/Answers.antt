@@ -1,21 +1,16 @@
-use Rattle.std.proofs.Common.{arith, length, subst}
+use Rattle.std.proofs.Common.{ℕ, ap, arith, length, subst, ◌∙◌}
 use Rattle.ix_file.specs.Opened.{IsIndexOf}
 use Rattle.ix_file.specs.Sections.{FrontCoded}
 use Rattle.ix_live.specs.Growing.{documents_under}
+use Rattle.ix_live.specs.Pieces.{pieces_in, with_piece}
 use Rattle.ix_live.specs.Segments.{rows_in}
+use Rattle.ix_live.proofs.Falling.{after_some}
 use Rattle.ix_live.proofs.StoredLemmas.{documents_counted, of_its_documents, refused_by_building}
 use Rattle.ix_live.proofs.TableLemmas.{rows_counted}
 use Rattle.ix_live.proofs.growing.grow.Goals as goal
 
 pub returns-in-Err-clause-refused : goal.returns-in-Err-clause-refused
 returns-in-Err-clause-refused g c = refused_by_building c.args.plan.now.workers (length (rows_in c.args.table.now)) c.args.tokens (documents_under c.args.stop.now c.args.documents.now) c.in-Err.error c.in-Err.ensures.refused
-
-pub merge_alike-requires-clause-some : goal.merge_alike-requires-clause-some
-merge_alike-requires-clause-some g c =
-    let stop = c.args.stop.now in
-    let texts = c.args.documents.now in
-    let built = subst (IsIndexOf c.in-Ok.volume FrontCoded) (of_its_documents stop texts) c.in-Ok.ensures.built in
-    omega (arith, rows_counted c.in-Ok.volume stop (documents_under stop texts) built, documents_counted stop texts, c.requires.some)
 
 pub merge_alike-requires-clause-few : goal.merge_alike-requires-clause-few
 merge_alike-requires-clause-few g c =
@@ -45,6 +40,7 @@ returns-clause-grown g c =
       segment = c.in_ok-left.segment;
       is = c.in_ok-place.ensures;
       within = c.in_ok-left.ensures.left;
-      falls = c.in_ok-left.ensures.falls;
+      pieces = c.in_ok-left.ensures.pieces ∙ ap (λ (n : ℕ). with_piece (pieces_in c.args.table.now) (record { generation = 0; documents = n })) (rows_counted c.in-Ok.volume stop (documents_under stop texts) built)
+          ∙ after_some (length (documents_under stop texts)) (pieces_in c.args.table.now) (omega (arith, documents_counted stop texts, c.requires.some));
       merged = λ lists are. c.in_ok-left.ensures.merges stop lists (documents_under stop texts) are built;
     }

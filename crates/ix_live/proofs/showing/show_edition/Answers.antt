@@ -1,4 +1,4 @@
-use Rattle.std.proofs.Common.{◌≡◌, ◌∙◌, ap, drop, refl, sym}
+use Rattle.std.proofs.Common.{◌≡◌, ◌∙◌, ap, drop, refl}
 use Rattle.std.specs.Arc.{arc_value}
 use Rattle.std.proofs.lemmas.Result.{MatchResult-weaker}
 use Rattle.ix_live.specs.Identities.{shown_in}

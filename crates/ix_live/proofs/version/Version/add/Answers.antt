@@ -1,4 +1,4 @@
-use Rattle.std.proofs.Common.{rules, ◌≡◌, ◌+◌, ◌<◌, ◌≤◌, ◌^◌, ◌∙◌, List, [], ◌∷◌, ◌++◌, ap, arith, inl, length, take}
+use Rattle.std.proofs.Common.{rules, ◌≡◌, ℕ, ◌+◌, ◌<◌, ◌≤◌, ◌^◌, ◌∙◌, List, [], ◌∷◌, ◌++◌, ap, arith, inl, length, take}
 use Rattle.std.specs.Arc.{arc_value}
 use Rattle.std.proofs.lemmas.List.{length-map}
 use Rattle.ix_text.specs.Docs.{named_text}
@@ -9,9 +9,11 @@ use Rattle.ix_live.specs.declared.segment.Segment.{Segment}
 use Rattle.ix_live.specs.Histories.{operations_of, waiting}
 use Rattle.ix_live.specs.Operations.{Add}
 use Rattle.ix_live.specs.Growing.{documents_under}
+use Rattle.ix_live.specs.Pieces.{after_adding, pieces_in}
 use Rattle.ix_live.specs.Segments.{rows_in}
+use Rattle.ix_live.proofs.Falling.{after_none}
 use Rattle.ix_live.proofs.Pasts.{none_waiting, operations_waiting}
-use Rattle.ix_live.proofs.StoredLemmas.{addition_some, documents_counted, refused_addition, room_left, stored_is, stored_more, too_many}
+use Rattle.ix_live.proofs.StoredLemmas.{addition_some, documents_counted, pieces_grown, refused_addition, room_left, stored_is, stored_more, too_many}
 use Rattle.ix_live.proofs.version.Version.add.Goals as goal
 
 pub returns-then-count-eq0-clause-added : goal.returns-then-count-eq0-clause-added
@@ -76,3 +78,17 @@ returns-clause-added g c =
     omega (arith, c.if-count-eq0.false, documents_counted stop texts, ap length c.docs-count.ensures.documents, length-map c.docs-count.result.now named_text) in
     let past : c.with_addition.result ≡ waiting v.past (Add documents ∷ []) = rw c.deref-2.ensures at c.with_addition.ensures in
     rw (← c.self.view_is) (past ∙ ap (waiting v.past) (addition_some documents some))
+
+pub returns-then-count-eq0-clause-pieces : goal.returns-then-count-eq0-clause-pieces
+returns-then-count-eq0-clause-pieces g c = after_none _ _ (omega (arith, c.if-count-eq0.true, ap length c.docs-count.ensures.documents, length-map c.docs-count.result.now named_text))
+
+pub returns-clause-pieces : goal.returns-clause-pieces
+returns-clause-pieces g c =
+    let v = c.self.inside in
+    let stop = arc_value v.stop in
+    let texts = c.args.documents.now in
+    let grows = rw (c.deref.ensures, c.as_slice-table.ensures.value) at c.in-Ok.ensures.grown in
+    let segments : c.push.new.self.items ≡ take c.in-Ok.grown.left v.segments.items ++ c.in-Ok.grown.place ∷ [] =
+    c.push.ensures.items ∙ ap (λ (l : List (Option Segment)). l ++ c.in-Ok.grown.place ∷ []) c.truncate.ensures.items in
+    rw (← c.self.view_is)
+    (ap pieces_in segments ∙ pieces_grown stop v.segments.items (documents_under stop texts) c.in-Ok.grown.left c.in-Ok.grown.place grows ∙ ap (λ (n : ℕ). after_adding n (pieces_in v.segments.items)) (documents_counted stop texts))

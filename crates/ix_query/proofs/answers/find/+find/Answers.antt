@@ -36,7 +36,7 @@ find_each-loop-part-preserved t c = elim c.match-part.branch [
 pub find_each-returns : goal.find_each-returns
 find_each-returns t c =
     ok_more _ _ _ c.collect.ensures.all (λ numbers all. numbers_found _ _ _ _
-    (any_place _ _ _ (each_found c.args.index.now.parts c.args.parts.now c.loop-part.part-index _ _ _ (omega arith) c.loop-part.invariant c.meet_of.ensures)) all)
+    (any_place _ _ _ (each_found c.args.index.now.parts c.args.parts.now c.loop-part.part-index _ _ _ (omega arith) c.loop-part.invariant c.intersect.ensures)) all)
 
 pub find_one-loop-part-preserved : goal.find_one-loop-part-preserved
 find_one-loop-part-preserved t c = record {
@@ -50,6 +50,6 @@ find_one-returns t c =
 
 pub find_others-returns : goal.find_others-returns
 find_others-returns t c =
-    let meet = rw (c.new.ensures.items, c.in_ok-push.ensures.items, c.new-absent.ensures.items) at c.meet_of.ensures in
+    let meet = rw (c.new.ensures.items, c.in_ok-push.ensures.items, c.new-absent.ensures.items) at c.intersect.ensures in
     ok_more _ _ _ c.collect.ensures.all (λ numbers all. numbers_found _ _ _ _
     (any_place _ _ _ (others_found c.args.index.now.parts c.args.part.now _ _ c.in_ok-find.ensures meet)) all)
