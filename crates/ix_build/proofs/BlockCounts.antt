@@ -50,10 +50,10 @@ module _ (cut : Cut) where
       let one_way = no_longer x behind_x y behind_y both (All-head (IsFullNoSooner cut) x (ones ++ one ∷ []) sooner) (All-head (IsFull cut) y others also) in
       let other_way = no_longer y behind_y x behind_x (sym both) (All-head (IsFullNoSooner cut) y (others ++ other ∷ []) later) (All-head (IsFull cut) x ones full) in
       let long : length x ≡ length y = omega (arith, one_way, other_way) in
-      let rest : behind_x ≡ behind_y = sym (drop_at x behind_x (length x) refl) ∙ ap (drop (length x)) both ∙ drop_at y behind_y (length x) long in
+      let rest : behind_x ≡ behind_y = sym (drop_at x behind_x (length x) refl) ∙ ap (drop (length x)) both ∙ drop_at y behind_y (length x) (sym long) in
       let counted = same_count ones others one other rest (All-tail (IsFull cut) x ones full) (All-tail (IsFull cut) y others also)
-          (All-tail (IsFullNoSooner cut) x (ones ++ one ∷ []) sooner) (All-tail (IsFullNoSooner cut) y (others ++ other ∷ []) later)
-          (λ is. some (omega arith)) (λ is. more (omega arith)) in
+      (All-tail (IsFullNoSooner cut) x (ones ++ one ∷ []) sooner) (All-tail (IsFullNoSooner cut) y (others ++ other ∷ []) later)
+      (λ is. some (omega arith)) (λ is. more (omega arith)) in
       omega (arith, counted)
 
 module _ (cut : Cut) (texts : List NamedText) where
@@ -69,7 +69,7 @@ module _ (cut : Cut) (texts : List NamedText) where
   pub same_number : (ones others : List (List NamedText)) → AreBlocks cut texts ones → AreBlocks cut texts others → length ones ≡ length others
   same_number ones others are also =
       let counted = same_count cut are.before also.before are.last also.last (parts ones are ∙ sym (parts others also)) are.full also.full
-          (subst (All (IsFullNoSooner cut)) are.in_order are.no_sooner) (subst (All (IsFullNoSooner cut)) also.in_order also.no_sooner) (last_some ones are) (last_some others also) in
+      (subst (All (IsFullNoSooner cut)) are.in_order are.no_sooner) (subst (All (IsFullNoSooner cut)) also.in_order also.no_sooner) (last_some ones are) (last_some others also) in
       let one = ap length are.in_order in
       let other = ap length also.in_order in
       let one_more = length-append are.before (are.last ∷ []) in

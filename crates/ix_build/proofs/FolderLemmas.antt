@@ -9,25 +9,20 @@ use Rattle.ix_files.specs.Changes.{AreGone, ChangesOnly}
 use Rattle.ix_files.specs.Slots.{IsAmong, Place, Slots, Stops}
 use Rattle.ix_files.specs.Steps.{Shares}
 use Rattle.ix_files.specs.Views.{Calls, GoesOn, View}
-use Rattle.ix_files.specs.declared.file_error.FileError.{FileError}
-use Rattle.ix_files.specs.declared.file_error.FileError.TheVariants as file
-use Rattle.ix_files.proofs.Drafting.{changed_again, changed_if, standing, unchanged, went_on}
+use Rattle.ix_files.proofs.Drafting.{changed_again, changed_if, unchanged}
 use Rattle.ix_text.specs.Collections.{NamedText}
 use Rattle.ix_run.specs.Heads.{Heading}
-use Rattle.ix_build.specs.Blocks.{AreBounds, IsBlockPlace}
-use Rattle.ix_build.specs.BuildErrors.{IsFolderRefusal, told_of_folder}
+use Rattle.ix_build.specs.Blocks.{AreBounds}
 use Rattle.ix_build.specs.FolderStores.{GivesBack, files_of}
 use Rattle.ix_build.specs.GivenBack.{GivesBlocksBack}
 use Rattle.ix_build.specs.Plans.{PlanValue}
 use Rattle.ix_build.specs.ReadBack.{TellsCause, TellsUnread}
 use Rattle.ix_build.specs.RunNames.{AreRunNames, AreRunNamesOf, HasNoRuns, IsRunOf, run_place}
 use Rattle.ix_build.specs.declared.build_error.BuildError.{BuildError}
-use Rattle.ix_build.specs.declared.build_error.BuildError.TheVariants.{Thread, Spill, Write, Memory}
 use Rattle.ix_build.specs.declared.folder_store.FolderStore.{FolderStore}
 use Rattle.ix_build.specs.declared.plan.Cut.{Cut}
 use Rattle.ix_build.proofs.BlockCounts.{block_place, place_within}
 use Rattle.ix_build.proofs.UnreadLemmas.{tells_cause, told_unread}
-use Rattle.ix_build.proofs.WholeOver.{keeps_itself}
 
 -- ---- stores
 
@@ -54,13 +49,6 @@ module _ {F : Type 0} (back : F → ℕ → List ℕ → Type 0) (files : F) (st
       before now error told))
       (caused first.0 first.1)
 
--- before a byte is written
-pub unwritten_unread : {R : Type 0} (remaining : R → Option (List ℕ)) (back : ℕ → List ℕ → Type 0) (before : Option (List ℕ)) (error : BuildError) → TellsUnread remaining back before before error
-unwritten_unread remaining back before (Thread worker) = tt
-unwritten_unread remaining back before (Spill place) = inl (keeps_itself before)
-unwritten_unread remaining back before Write = tt
-unwritten_unread remaining back before Memory = tt
-
 pub on_ok : {T E P : Type 0} (result : Result T E) → P → OnOk result P
 on_ok (Ok done) holds = holds
 on_ok (Err error) holds = tt
@@ -84,29 +72,24 @@ excepted_more changes more = record {
       };
 }
 
-pub folder_refused : (plan : PlanValue) (texts : List NamedText) → IsBlockPlace plan.cut texts 0 → (error : FileError) → IsFolderRefusal plan texts (told_of_folder error)
-folder_refused plan texts first file.Memory = tt
-folder_refused plan texts first file.Failed = first
-folder_refused plan texts first file.Exists = first
-folder_refused plan texts first file.Locked = first
-
 module _ (plan : PlanValue) (texts : List NamedText) where
   -- names for as many runs as there are blocks are those of the plan
   pub named_for_plan : (view : View) (path folder : List ℕ) (names : List Place) (bounds : List ℕ) → plan.folder ≡ Some path → folder ≡ view.folder path → AreRunNames folder names
       → AreBounds plan.cut texts bounds → length names + 1 ≡ length bounds → AreRunNamesOf plan texts view names
-  named_for_plan view path folder names bounds is_folder located named are size place =
-      (λ among. record {
-        folder = path;
-        is_folder = is_folder;
-        block = among.0;
-        of_block = block_place plan.cut texts bounds are (length names) size among.0 (slice_get_within names among.0 place among.1);
-        named = named among.0 place among.1 ∙ ap (λ f. run_place f among.0) located;
-      },
-      λ is.
-      let same = same_Some path is.folder (sym is_folder ∙ is.is_folder) in
-      let at = get-within names is.block (place_within plan.cut texts bounds are (length names) size is.block is.of_block) in
-      let here : at.0 ≡ place = named is.block at.0 at.1 ∙ ap (λ f. run_place f is.block) (located ∙ ap view.folder same) ∙ sym is.named in
-      (is.block, at.1 ∙ ap (λ (p : Place). Some p) here))
+  named_for_plan view path folder names bounds is_folder located named are size place = (
+    λ among. record {
+      folder = path;
+      is_folder = is_folder;
+      block = among.0;
+      of_block = block_place plan.cut texts bounds are (length names) size among.0 (slice_get_within names among.0 place among.1);
+      named = named among.0 place among.1 ∙ ap (λ f. run_place f among.0) located;
+    },
+    λ is.
+        let same = same_Some path is.folder (sym is_folder ∙ is.is_folder) in
+        let at = get-within names is.block (place_within plan.cut texts bounds are (length names) size is.block is.of_block) in
+        let here : at.0 ≡ place = named is.block at.0 at.1 ∙ ap (λ f. run_place f is.block) (located ∙ ap view.folder same) ∙ sym is.named in
+        (is.block, at.1 ∙ ap (λ (p : Place). Some p) here),
+  )
 
   -- names that are shared
   module _ (old new : View) (names : List Place) (runs : old.honest → AreRunNamesOf plan texts old names) (call : Calls (Shares names) old new)
@@ -114,9 +97,6 @@ module _ (plan : PlanValue) (texts : List NamedText) where
     pub shared_changes : ChangesOnly (IsRunOf plan texts old) old new
     shared_changes = changed_if (unchanged (IsRunOf plan texts old) old only) call
         (λ honest slots did place other. did.elsewhere place (λ among. other ((runs (call.honest honest) place).0 among)))
-
-    pub shared_on : GoesOn old new
-    shared_on = went_on (standing old) call
 
   -- and removed
   module _ (old mid new : View) (names : List Place) (runs : mid.honest → AreRunNamesOf plan texts old names) (on : GoesOn old mid) (later : GoesOn mid new) where

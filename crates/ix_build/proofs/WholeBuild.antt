@@ -1,16 +1,13 @@
 -- Work on the blocks of a cut by makers of them: whose runs it comes to, and which errors come.
 use Rattle.std.proofs.Common.{◌≡◌, ℕ, ◌+◌, ◌<◌, ◌≤◌, ◌^◌, List, [], ◌∷◌, length, Option, All, ap, subst, sym, inl, arith, length-append}
-use Rattle.std.specs.Io.KnownBytes.{Keeps}
 use Rattle.ix_text.specs.Collections.{NamedText, collection_of, token_total}
 use Rattle.ix_run.specs.Runs.{RunValue}
 use Rattle.ix_merge.specs.Endings.{WritesIndexText}
-use Rattle.ix_merge.specs.declared.merge_error.MergeError.{MergeError}
-use Rattle.ix_merge.specs.declared.merge_error.MergeError.TheVariants as merge
 use Rattle.ix_build.specs.AlikeFronts.{LeavesAlikeFront}
 use Rattle.ix_build.specs.Blocks.{AreBounds, bounds_from}
 use Rattle.ix_build.specs.BlockMakers.{IsMakerOf}
 use Rattle.ix_build.specs.BlockRuns.{GivesRun, StaysMakerOf}
-use Rattle.ix_build.specs.BuildErrors.{IsBeforeWriting, IsBuildRefusal, MayComeOfBuilding, MayComeOfWork, told_of_building, told_of_merge}
+use Rattle.ix_build.specs.BuildErrors.{MayComeOfBuilding, MayComeOfWork}
 use Rattle.ix_build.specs.Built.{FailsToBuild, IsBuilt}
 use Rattle.ix_build.specs.declared.by_makers.ByError.{ByError}
 use Rattle.ix_build.specs.declared.by_makers.ByError.TheVariants as by
@@ -34,24 +31,6 @@ bounds_counted first (block ∷ blocks) = let rest = bounds_counted (first + len
 pub bounds_found : (cut other : Cut) (texts given : List NamedText) (bounds found : List ℕ) → cut ≡ other → texts ≡ given → found ≡ bounds → AreBounds cut texts bounds → AreBounds other given found
 bounds_found cut other texts given bounds found same_cut same_texts same are =
     subst (λ c. AreBounds c given found) same_cut (subst (λ t. AreBounds cut t found) same_texts (subst (AreBounds cut texts) (sym same) are))
-
-merge_refusal : {E : Type 0} (workers : ℕ) (error : MergeError E) → IsBuildRefusal workers (told_of_merge error)
-merge_refusal workers (merge.Gap number) = tt
-merge_refusal workers (merge.Overlap number) = tt
-merge_refusal workers merge.StopDiffers = tt
-merge_refusal workers (merge.Source place error) = tt
-merge_refusal workers merge.TooLarge = tt
-merge_refusal workers merge.Write = tt
-merge_refusal workers merge.Memory = tt
-
-merge_writes : {E : Type 0} (error : MergeError E) → IsBeforeWriting (told_of_merge error) → ⊥
-merge_writes (merge.Gap number) early = early
-merge_writes (merge.Overlap number) early = early
-merge_writes merge.StopDiffers early = early
-merge_writes (merge.Source place error) early = early
-merge_writes merge.TooLarge early = early
-merge_writes merge.Write early = early
-merge_writes merge.Memory early = early
 
 module _ (cut : Cut) (texts : List NamedText) (bounds : List ℕ) (are : AreBounds cut texts bounds) where
   pub some_bound : 0 < length bounds
@@ -94,18 +73,6 @@ module _ (cut : Cut) (texts : List NamedText) (bounds : List ℕ) (are : AreBoun
       may_come_of_building few (by.Make place make.Memory) fails = tt
       may_come_of_building few (by.Merge error) fails = parts_refused stop texts fails.runs before now (all_inverted fails.runs fails.made) few error fails.refused.refusal
       may_come_of_building few by.Memory fails = tt
-
-      pub told_refusal : (error : ByError) → FailsToBuild asked_of GivesRun StaysMakerOf makers count after before now error → IsBuildRefusal (length makers) (told_of_building error)
-      told_refusal (by.Thread worker) fails = fails.0
-      told_refusal (by.Make place error) fails = tt
-      told_refusal (by.Merge error) fails = merge_refusal (length makers) error
-      told_refusal by.Memory fails = tt
-
-      pub told_early : (error : ByError) → FailsToBuild asked_of GivesRun StaysMakerOf makers count after before now error → IsBeforeWriting (told_of_building error) → Keeps before now
-      told_early (by.Thread worker) fails early = fails.1
-      told_early (by.Make place error) fails early = fails.1
-      told_early (by.Merge error) fails early = absurd (merge_writes error early)
-      told_early by.Memory fails early = fails.1
 
       pub all_left : (error : ByError) → FailsToBuild asked_of GivesRun StaysMakerOf makers count after before now error → LeavesAlikeFront (collection_of stop texts) before now
       all_left (by.Thread worker) fails = inl fails.1

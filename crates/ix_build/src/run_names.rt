@@ -23,11 +23,7 @@ fn run_name(alloc: Global, place: usize) -> Result<String, Memory>
 }
 
 /// The names in this folder of the files of the runs of the places below `count`.
-pub(crate) fn run_names(
-    alloc: Global,
-    folder: &str,
-    count: usize,
-) -> Result<Vec<Location>, Memory>
+pub(crate) fn run_names(alloc: Global, folder: &str, count: usize) -> Result<Vec<Location>, Memory>
     ensures named { IfOk result (λ names. AreRunNames folder.now (map place_of names.items)) }
     ensures as_many { IfOk result (λ names. vec_len names ≡ count) }
 {

@@ -92,7 +92,7 @@ answered_whole bytes whole stop query old new count cut answered =
 
 -- ---- the front of what a path leads to
 
-front_read : (view : View) (path : List ℕ) (left : Option (List ℕ)) (space : ℕ) (bytes : List ℕ) → (view.honest → IsOpened view path left) → length bytes ≤ space → IfSome left (λ whole. bytes ≡ take space whole)
+pub front_read : (view : View) (path : List ℕ) (left : Option (List ℕ)) (space : ℕ) (bytes : List ℕ) → (view.honest → IsOpened view path left) → length bytes ≤ space → IfSome left (λ whole. bytes ≡ take space whole)
     → IsFront (held_in view path) space bytes
 front_read view path None space bytes is short cut = record { whole = bytes; held = untold_held view path None is bytes refl; cut = sym (take_all space bytes short) }
 front_read view path (Some whole) space bytes is short cut = record { whole = whole; held = told_held view path (Some whole) is; cut = cut }

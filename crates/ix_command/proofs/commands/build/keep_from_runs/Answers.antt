@@ -18,5 +18,5 @@ returns-in_err-keep_from-2-clause-refused g c = λ terms of_files.
 
 pub returns-clause-refused : goal.returns-clause-refused
 returns-clause-refused g c = λ terms of_files.
-    err_weaker c.keep_from.result _ _
-    (λ told is. ⊎_elim no_output (unbuilt terms c.args.documents.now of_files) (of_runs_unbuilt _ _ _ _ c.args.output.now told is)) c.keep_from.ensures.refused
+    err_weaker c.keep_from-3.result _ _
+    (λ told is. ⊎_elim no_output (unbuilt terms c.args.documents.now of_files) (of_runs_unbuilt _ _ _ _ c.args.output.now told is)) c.keep_from-3.ensures.refused

@@ -65,12 +65,12 @@ returns g c =
     let read = rw c.deref.ensures.value at c.in_ok-documents.ensures.read in
     let of_files = documents_of_files _ _ _ _ _ _ c.in_ok-text.ensures.front c.in_ok-stop_list.ensures.held read in
     record {
-      built = built_in_memory _ _ _ _ _ _ _ _ _ of_files c.save_merged.result (c.save_merged.ensures.saved c.in_ok-stop_list.stop_list.now c.in_ok-documents.documents c.in_ok-blocks.ensures.inverted);
+      built = built_in_memory _ _ _ _ _ _ _ _ _ of_files c.save_merged.result (c.save_merged.ensures.saved _ c.in_ok-documents.documents c.in_ok-blocks.ensures.inverted);
       refused = unbuilt_by _ _ _ _ _ _ _ of_files c.save_merged.result (c.save_merged.ensures.refused c.args.plan.now c.in_ok-documents.documents);
       others = λ honest. inl (c.save_merged.ensures.others honest);
       undone = on_err_weaker c.save_merged.result (λ undone honest. elim (undone honest) [
         | inl same ↦ inl same
         | inr saved ↦ inr (record { stop = _; documents = c.in_ok-documents.documents; of_files = of_files; saved = λ _. saved; alike = saved_alike _ _ _ saved })
       ])
-          (c.save_merged.ensures.undone c.in_ok-stop_list.stop_list.now c.in_ok-documents.documents c.in_ok-blocks.ensures.inverted);
+          (c.save_merged.ensures.undone _ c.in_ok-documents.documents c.in_ok-blocks.ensures.inverted);
     }
