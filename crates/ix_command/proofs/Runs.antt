@@ -75,14 +75,14 @@ module _ (plan : PlanValue) (documents : List NamedText) (v0 v1 v2 : View) (path
       elim (left behind) [
         | inl same ↦ inl (λ place apart free. up place apart free ∙ ap (λ (s : Slot). s.now) (same place ∙ changes.others before place free))
         | inr none ↦ inr (record {
-            others = λ place apart free no_run. up place apart free
-                ∙ ap (λ (s : Slot). s.now) (built.others behind place (λ run. no_run (earlier place before run)) ∙ changes.others before place free);
-            gone = elim none [
-              | inl gone ↦ inl (λ place run. up place (λ is. apart (began.honest before) (subst (λ (p : Place). IsRunOf plan documents v0 p) is run))
-                    (run_is_no_draft plan documents v0 (v0.place path) place run) ∙ gone place (later place before run))
-              | inr failed ↦ inr (omega (arith, failed, began.counted before, ended.counted honest))
-            ];
-          })
+          others = λ place apart free no_run. up place apart free
+              ∙ ap (λ (s : Slot). s.now) (built.others behind place (λ run. no_run (earlier place before run)) ∙ changes.others before place free);
+          gone = elim none [
+            | inl gone ↦ inl (λ place run. up place (λ is. apart (began.honest before) (subst (λ (p : Place). IsRunOf plan documents v0 p) is run))
+                (run_is_no_draft plan documents v0 (v0.place path) place run) ∙ gone place (later place before run))
+            | inr failed ↦ inr (omega (arith, failed, began.counted before, ended.counted honest))
+          ];
+        })
       ]
 
 -- what a build left of its runs, whatever came of it

@@ -176,9 +176,7 @@ fn do_line<'a, R: Threads + Wait + Sync, F: Files, V: Watch, W: Write>(
             plan,
             collection,
             index,
-        } => one_file(build::run(
-            rt, alloc, files, watch, stop, &plan, collection, index,
-        )),
+        } => one_file(build::run(rt, alloc, files, watch, stop, &plan, collection, index)),
         Line::Live {
             stop,
             plan,

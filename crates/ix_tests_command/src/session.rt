@@ -29,15 +29,7 @@ fn status_of<R: AllocGlobal + Threads + Wait + Sync, W: Write, E: Write>(
     out: &mut W,
     err: &mut E,
 ) -> u8 {
-    command_over(
-        rt,
-        rt.alloc(),
-        &mut disk.files,
-        &Unwatched,
-        words,
-        out,
-        err,
-    )
+    command_over(rt, rt.alloc(), &mut disk.files, &Unwatched, words, out, err)
 }
 
 /// Runs the program, and tells what it prints and its status.

@@ -67,7 +67,9 @@ pub fn run<'a, R: Threads + Wait + Sync, F: Files, V: Watch>(
     let documents = documents_of(alloc, &text)?;
     if plan.folder().is_some() {
         keep_from_runs(alloc, files, &documents, plan, stop, collection, output)?;
-        return save(rt, alloc, files, watch, &documents, &stop_list, plan, output);
+        return save(
+            rt, alloc, files, watch, &documents, &stop_list, plan, output,
+        );
     }
     let blocks = invert(rt, alloc, watch, &documents, &stop_list, plan)?;
     // The text is most of what is held, and the runs have nothing of it.

@@ -31,9 +31,9 @@ returns-clause-saved g c =
     elim c.match-build.branch [ in-Ok w ↦ on_written c.match-build.written (λ come. come_back _ _ _ _ _ w.in-Ok.ensures.written w.in-Ok.ensures.exact come) | in-Err w ↦ on_unwritten _ c.match-build.written _ w.written-is ] in
     saved_by _ _ _ c.end-ended.result c.match-build.written c.end-ended.ensures.written exact c.end-ended.ensures.saved
     (λ writes saved come. index_saved _ _ _ _ _ (kept_behind _ _ _ _ _ _ _ c.requires.apart c.begin.ensures.changes c.begin.ensures.goes_on c.in_ok-output.ensures.begun c.build.ensures.files c.build.ensures.goes_on)
-        (went_all _ _ _ _ _ _ _ c.requires.apart c.begin.ensures.changes c.begin.ensures.goes_on c.in_ok-output.ensures.begun c.build.ensures.files c.build.ensures.goes_on)
-        (begun_behind _ _ _ _ _ _ _ c.requires.apart c.begin.ensures.changes c.begin.ensures.goes_on c.in_ok-output.ensures.begun c.build.ensures.files c.build.ensures.goes_on c.in_ok-output.ensures.ready)
-        c.end-ended.ensures.goes_on _ _ (λ honest. c.in_ok-output.ensures.empty (c.build.ensures.goes_on.honest honest)) _ _ (writes come) saved)
+    (went_all _ _ _ _ _ _ _ c.requires.apart c.begin.ensures.changes c.begin.ensures.goes_on c.in_ok-output.ensures.begun c.build.ensures.files c.build.ensures.goes_on)
+    (begun_behind _ _ _ _ _ _ _ c.requires.apart c.begin.ensures.changes c.begin.ensures.goes_on c.in_ok-output.ensures.begun c.build.ensures.files c.build.ensures.goes_on c.in_ok-output.ensures.ready)
+    c.end-ended.ensures.goes_on _ _ (λ honest. c.in_ok-output.ensures.empty (c.build.ensures.goes_on.honest honest)) _ _ (writes come) saved)
 
 pub returns-clause-alike : goal.returns-clause-alike
 returns-clause-alike g c =
@@ -41,9 +41,9 @@ returns-clause-alike g c =
     elim c.match-build.branch [ in-Ok w ↦ on_written c.match-build.written (w.in-Ok.ensures.alike) | in-Err w ↦ on_unwritten _ c.match-build.written _ w.written-is ] in
     saved_by _ _ _ c.end-ended.result c.match-build.written c.end-ended.ensures.written alike c.end-ended.ensures.saved
     (λ writes saved. alike_saved _ _ _ _ _ (kept_behind _ _ _ _ _ _ _ c.requires.apart c.begin.ensures.changes c.begin.ensures.goes_on c.in_ok-output.ensures.begun c.build.ensures.files c.build.ensures.goes_on)
-        (went_all _ _ _ _ _ _ _ c.requires.apart c.begin.ensures.changes c.begin.ensures.goes_on c.in_ok-output.ensures.begun c.build.ensures.files c.build.ensures.goes_on)
-        (begun_behind _ _ _ _ _ _ _ c.requires.apart c.begin.ensures.changes c.begin.ensures.goes_on c.in_ok-output.ensures.begun c.build.ensures.files c.build.ensures.goes_on c.in_ok-output.ensures.ready)
-        c.end-ended.ensures.goes_on _ _ (λ honest. c.in_ok-output.ensures.empty (c.build.ensures.goes_on.honest honest)) _ _ writes saved)
+    (went_all _ _ _ _ _ _ _ c.requires.apart c.begin.ensures.changes c.begin.ensures.goes_on c.in_ok-output.ensures.begun c.build.ensures.files c.build.ensures.goes_on)
+    (begun_behind _ _ _ _ _ _ _ c.requires.apart c.begin.ensures.changes c.begin.ensures.goes_on c.in_ok-output.ensures.begun c.build.ensures.files c.build.ensures.goes_on c.in_ok-output.ensures.ready)
+    c.end-ended.ensures.goes_on _ _ (λ honest. c.in_ok-output.ensures.empty (c.build.ensures.goes_on.honest honest)) _ _ writes saved)
 
 pub returns-clause-refused : goal.returns-clause-refused
 returns-clause-refused g c =
