@@ -4,7 +4,7 @@ use std::alloc::Global;
 use std::marker::Model;
 use std::sync::Arc;
 
-/// What a publish tells: the edition that it showed. Contracts see its stop set and its history.
+/// What a publish returns: the edition that it published. Contracts see its stop set and its history.
 #[derive(Drop)]
 pub struct News {
     pub(crate) edition: Arc<Edition, Global>,

@@ -46,7 +46,7 @@ impl Model for Searcher {
 }
 
 impl Searcher {
-    /// A searcher that knows of the edition that its reader is told of.
+    /// A searcher that knows of the edition that its reader was given.
     pub(crate) fn new(
         alloc: Global,
         reader: EditionReader,
@@ -79,9 +79,9 @@ impl Searcher {
     }
 
     /// The numbers of the documents that satisfy a query and are not removed, ascending, after a history that was
-    /// published. It begins with all of which the searcher knew, and the searcher knows of it from now on.
+    /// published. It begins with all that the searcher knew, and the searcher knows of it from now on.
     ///
-    /// `Memory` if memory is refused, and once the indexer was closed. It then knows what it knew.
+    /// `Memory` if out of memory, and once the indexer was closed. It then knows what it knew.
     pub fn answer(&mut self, query: &Query) -> Result<Vec<u32>, Memory>
         ensures same { AreOfOneIndex self.new self.old }
         ensures before { OnOk result (Begins self.old.history self.new.history) }
@@ -99,7 +99,7 @@ impl Searcher {
     /// The names of the documents of these numbers, removed ones too, after the history that the searcher knows of: that
     /// of its last answer, if it has learned nothing since.
     ///
-    /// `Number` with the place of a number that is no document's there; `Memory` if memory is refused.
+    /// `Number` with the place of a number that is no document's there; `Memory` if out of memory.
     pub fn names(&self, numbers: &[u32]) -> Result<Vec<String>, NameError>
         ensures names { IfOk result (λ names.
             AreNamesOf (documents_added (operations_in self.now.history)) numbers.now
@@ -130,7 +130,7 @@ impl Searcher {
         news.edition.names(self.alloc, numbers)
     }
 
-    /// The edition that is shown, which goes on from all of which the searcher knows.
+    /// The edition that is shown, which goes on from all that the searcher knows.
     fn newest(&mut self) -> Result<Arc<Edition, Global>, Memory>
         ensures kept { self.new ≡ self.old }
         ensures same { IfOk result (λ edition. AreOfOneIndex (arc_value edition) self.old) }

@@ -5,7 +5,7 @@ use Rattle.ix_script.specs.Groups.{IsGroup, is_publish}
 use Rattle.ix_script.specs.Steps.{Add, Ask, Publish, Remove, Step, step_of}
 use Rattle.ix_script.specs.declared.step.Step.{Step as StepTaken}
 
--- so many steps at the front publish nothing
+-- this many steps at the front publish nothing
 abbrev pub NonePublish : ℕ → List StepTaken → Type 0
 NonePublish place steps = IsGroup (map step_of (take place steps))
 

@@ -36,13 +36,13 @@ pub next_step : (steps : List StepTaken) (place : ℕ) (step : StepTaken) → pl
 next_step steps place step low is =
     ap (map step_of) (take_more steps place step low) ∙ map_push step_of (take place steps) (get_or steps place step) ∙ ap (λ s. map step_of (take place steps) ++ step_of s ∷ []) (sym is)
 
--- what is asked up to the next step, where it asks
+-- what is asked up to the next step, if it asks
 pub next_asked : (steps : List StepTaken) (place : ℕ) (step : StepTaken) (query : Text) (tree : Tree) → place < length steps → step ≡ get_or steps place step → step_of step ≡ Ask query tree
     → asked_in (map step_of (take (place + 1) steps)) ≡ asked_in (map step_of (take place steps)) ++ tree ∷ []
 next_asked steps place step query tree low is asks =
     ap asked_in (next_step steps place step low is) ∙ asked_push (map step_of (take place steps)) (step_of step) ∙ ap (λ s. asked_in (map step_of (take place steps)) ++ asked_in (s ∷ [])) asks
 
--- and where it does not
+-- and if it does not
 quiet : (step : StepTaken) → ((query : Bor Text) (tree : Tree) → step ≡ taken.Ask query tree → ⊥) → (asked_in (step_of step ∷ []) ≡ []) × ((names : List (List Text)) → answered_with (step_of step ∷ []) names ≡ [])
 quiet (taken.Add path) none = (refl, λ names. refl)
 quiet taken.Publish none = (refl, λ names. refl)
@@ -68,7 +68,7 @@ asked_front steps count =
     subst (λ l. length (asked_in (map step_of (take count steps))) ≤ length (asked_in l)) (sym (map-append step_of (take count steps) (drop count steps)) ∙ ap (map step_of) (take-append-drop count steps))
     (asked_fewer (map step_of (take count steps)) (map step_of (drop count steps)))
 
--- where the next step asks, an answer is left for it
+-- if the next step asks, an answer is left for it
 pub answer_left : (steps : List StepTaken) (place : ℕ) (step : StepTaken) (query : Text) (tree : Tree) (count : ℕ) → place < length steps → step ≡ get_or steps place step → step_of step ≡ Ask query tree
     → count ≡ length (asked_in (map step_of steps)) → length (asked_in (map step_of (take place steps))) < count
 answer_left steps place step query tree count low is asks all =
@@ -80,7 +80,7 @@ drop_here [] place d low = absurd (omega arith)
 drop_here (x ∷ xs) zero d low = refl
 drop_here (x ∷ xs) (suc place) d low = drop_here xs place d (omega arith)
 
--- the answers up to the next step, where it asks
+-- the answers up to the next step, if it asks
 pub next_answered : (steps : List StepTaken) (names : List (List Text)) (place at : ℕ) (step : StepTaken) (query : Text) (tree : Tree) (found : List Text) → place < length steps
     → step ≡ get_or steps place step → step_of step ≡ Ask query tree → at ≡ length (asked_in (map step_of (take place steps))) → at < length names → found ≡ get_or names at found
     → answered_with (map step_of (take (place + 1) steps)) names ≡ answered_with (map step_of (take place steps)) names ++ record { query = query; names = found } ∷ []
@@ -91,7 +91,7 @@ next_answered steps names place at step query tree found low is asks here left s
     ∙ ap (λ l. answered_with before names ++ answered_with (Ask query tree ∷ []) l) (drop_here names at found left)
     ∙ ap (λ n. answered_with before names ++ record { query = query; names = n } ∷ []) (sym same)
 
--- and where it does not
+-- and if it does not
 pub next_unanswered : (steps : List StepTaken) (names : List (List Text)) (place : ℕ) (step : StepTaken) → place < length steps
     → step ≡ get_or steps place step → ((query : Bor Text) (tree : Tree) → step ≡ taken.Ask query tree → ⊥) → length (asked_in (map step_of (take place steps))) ≤ length names
     → answered_with (map step_of (take (place + 1) steps)) names ≡ answered_with (map step_of (take place steps)) names

@@ -36,9 +36,9 @@ first_line text = go (lines_of text) refl
         ([], [], record { joined = cut.joined; unbroken = All-push IsUnbroken [] [] cut.unbroken (λ (k, low, is). absurd (omega arith)) })
     go (line ∷ more) is = (line, more, subst (IsCutAtLineFeeds text) is (cut_at_line_feeds text))
 
--- ---- so many lines are read
+-- ---- a number of lines is read
 
--- so many lines of the text are read, with these steps, and this is left
+-- this many lines of the text are read, with these steps, and this is left
 pub record IsReadUpTo (stop : List Text) (text : Text) (number : ℕ) (steps : List Step) (left : Text) : Type 0 where
   pub done : List Text
   pub joined : text ≡ ended done ++ left

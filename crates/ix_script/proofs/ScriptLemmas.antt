@@ -37,7 +37,7 @@ front_then old middle new first second a b = record {
   gained = appends_then old middle new first b.front a b.gained;
 }
 
--- nothing was gained, whatever was refused
+-- nothing was gained, whatever failed
 printed_nothing : (known : Option Text) (error : RunError) → IsPrinted [] known known error
 printed_nothing known Write = record { front = []; rest = []; parts = refl; gained = appends_nothing known }
 printed_nothing known (Unread path) = appends_nothing known
@@ -45,7 +45,7 @@ printed_nothing known (Collection error) = appends_nothing known
 printed_nothing known (Live error) = appends_nothing known
 printed_nothing known Memory = appends_nothing known
 
--- a gain, and then what was printed before something was refused
+-- a gain, and then what was printed before something failed
 printed_then : (old middle new : Option Text) (first second : Text) (error : RunError) → Appends old middle first → IsPrinted second middle new error → IsPrinted (first ++ second) old new error
 printed_then old middle new first second Write a b = front_then old middle new first second a b
 printed_then old middle new first second (Unread path) a b = appends_then old middle new first second a b
@@ -53,7 +53,7 @@ printed_then old middle new first second (Collection error) a b = appends_then o
 printed_then old middle new first second (Live error) a b = appends_then old middle new first second a b
 printed_then old middle new first second Memory a b = appends_then old middle new first second a b
 
--- where steps are published, and so are more
+-- if steps are published, and so are more
 published_then : (steps more : List Step) → ArePublished steps → ArePublished more → ArePublished (steps ++ more)
 published_then steps more first (inl none) = subst ArePublished (sym (ap (λ l. steps ++ l) none ∙ append-nil steps)) first
 published_then steps more first (inr (earlier, is)) = inr (steps ++ earlier, ap (λ l. steps ++ l) is ∙ sym (append_assoc steps earlier (Publish ∷ [])))
@@ -74,7 +74,7 @@ publish_cut {X} f steps rest group cut =
     let counted : n ≡ length front = omega (arith, length-map steps f, length-map rest f, ap length whole, length-append front (map f rest)) in
     sym (take-map f n steps) ∙ ap (take n) whole ∙ ap (λ k. take k (front ++ map f rest)) counted ∙ take-append_seam front (map f rest)
 
--- the steps up to a place, and so many more
+-- the steps up to a place, and a number more
 pub stretch_more : {X : Type 0} (f : X → Step) (steps : List X) (place count : ℕ)
     → map f (take (place + count) steps) ≡ map f (take place steps) ++ map f (take count (drop place steps))
 stretch_more f steps place count = ap (map f) (take-add place count steps) ∙ map-append f (take place steps) (take count (drop place steps))
@@ -199,7 +199,7 @@ module _ (holds : Text → Text → Type 0) (stop : List Text) where
       reason = reason_behind stops.done stops.rest more stops.now error behind stops.reason;
     }
 
-    -- where the group in front is stopped, so are the steps
+    -- if the group in front is stopped, so are the steps
     pub group_stops : (steps group : List Step) (rest : Option (List Step)) (before : Progress) (old new : Option Text) (error : RunError) → IsCutAtPublish steps group rest
         → Stops holds workers stop group before old new error → Stops holds workers stop steps before old new error
     group_stops steps group rest before old new error cut stops = let (more, is, behind) = behind_group steps group rest cut in stops_before group more steps before old new error is behind stops
@@ -217,7 +217,7 @@ module _ (holds : Text → Text → Type 0) (stop : List Text) where
       reason = why;
     }
 
-    -- a group was refused
+    -- a group failed
     pub group_refused : (steps : List Step) (before : Progress) (known : Option Text) (error : RunError) → RefusesGroup holds workers stop steps before error → Stops holds workers stop steps before known known error
     group_refused steps before known error (inl is) = stops_at_once steps before known error (lacking is (inl refl))
     group_refused steps before known error (inr why) = stops_at_once steps before known error (refused (inl refl) why)

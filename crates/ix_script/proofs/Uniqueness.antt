@@ -23,7 +23,7 @@ TreeGiven = (stop : List Text) (text : Text) (query : Tree) → (query_of stop t
 
 -- ---- one step of a line
 
--- where lines have another byte at a place, they are others
+-- lines with another byte at a place are others
 apart : (one other : Text) (place first second : ℕ) → get_or one place 0 ≡ first → get_or other place 0 ≡ second → first ≢ second → one ≢ other
 apart one other place first second is also differ same = differ (sym is ∙ ap (λ l. get_or l place 0) same ∙ also)
 
@@ -112,7 +112,7 @@ same_line_fault stop line number (fault.Query a error) (fault.Query b other) (qu
 same_line_fault stop line number (fault.Query a error) fault.Memory f g = absurd g
 same_line_fault stop line number fault.Memory other f g = absurd f
 
--- where two lists are cut at their first lines that cannot be read, they are cut at one place
+-- if two lists are cut at their first lines that cannot be read, they are cut at one place
 same_place : (P : Text → Type 0) (xs ys : List Text) (a b : Text) (cs bs : List Text) → All P xs → All P ys → ¬ (P a) → ¬ (P b)
     → xs ++ a ∷ cs ≡ ys ++ b ∷ bs → (length xs ≡ length ys) × (a ≡ b)
 same_place P [] [] a b cs bs all_x all_y bad_a bad_b e = (refl, cc)

@@ -15,7 +15,7 @@ abbrev pub nothing_yet : Progress
 nothing_yet = record { published = []; pending = [] }
 
 -- The steps were carried out one after another on a new live index, the output gained the lines of the answers and nothing
--- else, and it is told whether a name is among them.
+-- else, and the result says whether a name is among them.
 pub record IsCarriedOut (holds : Text → Text → Type 0) (stop : List Text) (steps : List Step) (old new : Option Text) (found : Bool) : Type 0 where
   pub after : Progress
   pub answers : List Answered
@@ -27,12 +27,12 @@ pub record IsCarriedOut (holds : Text → Text → Type 0) (stop : List Text) (s
 abbrev pub ArePublished : List Step → Type 0
 ArePublished steps = (steps ≡ []) ⊎ ((earlier : List Step) × (steps ≡ earlier ++ Publish ∷ []))
 
--- what is before these steps ends where a group does: a publish is the first of them, or there are none
+-- what is before these steps ends with a group: a publish is the first of them, or there are none
 abbrev pub AreBehindGroup : List Step → Type 0
 AreBehindGroup rest = (rest ≡ []) ⊎ ((later : List Step) × (rest ≡ Publish ∷ later))
 
--- Why the steps behind those that were carried out were not: memory was refused; an addition or a removal was, before the
--- next publish; the publish that comes next was; or the answers of the last group, which was carried out whole, could not be
+-- Why the steps behind those that were carried out were not: out of memory; an addition or a removal before the next
+-- publish failed; the publish that comes next did; or the answers of the last group, which was carried out whole, could not be
 -- written.
 pub data IsReason (holds : Text → Text → Type 0) (workers : ℕ) (stop : List Text) (done rest : List Step) (now : Progress) (error : RunError) : Type 0 where
   lacking : error ≡ Memory → ArePublished done → IsReason holds workers stop done rest now error
@@ -40,7 +40,7 @@ pub data IsReason (holds : Text → Text → Type 0) (workers : ℕ) (stop : Lis
   unpublished : error ≡ Live live.Memory → (later : List Step) → rest ≡ Publish ∷ later → IsReason holds workers stop done rest now error
   unwritten : error ≡ Write → AreBehindGroup rest → IsReason holds workers stop done rest now error
 
--- what the output gained: the lines, or a beginning of them where it refused
+-- what the output gained: the lines, or a beginning of them if it failed
 abbrev pub IsPrinted : Text → Option Text → Option Text → RunError → Type 0
 IsPrinted lines old new Write = AppendsFront old new lines
 IsPrinted lines old new _ = Appends old new lines

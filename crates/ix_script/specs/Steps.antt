@@ -57,7 +57,7 @@ pub record IsScript (stop : List Text) (text : Text) (steps : List Step) : Type 
 
 -- ---- one line
 
--- the steps gained that of a line, or nothing where the line is empty
+-- the steps gained that of a line, or nothing if the line is empty
 abbrev pub AddsLine : List Text → Text → List Step → List Step → Type 0
 AddsLine stop line before after = ((line ≡ []) × (after ≡ before)) ⊎ ((step : Step) × IsLineOf stop line step × (after ≡ before ++ step ∷ []))
 

@@ -1,4 +1,4 @@
--- Why steps of a script were refused, and what is left then.
+-- Why steps of a script failed, and what is left then.
 use Rattle.std.specs.Prelude.{◌≡◌, ℕ, ◌⊎◌, ◌^◌, ◌<◌, List, ◌∷◌, ◌++◌, length, Option}
 use Rattle.std.specs.Io.KnownBytes.{Keeps}
 use Rattle.ix_text.specs.CollectionFaults.{IsCollectionFault}
@@ -29,9 +29,9 @@ IsTeamOf indexer team = (team.stop ≡ indexer.stop) × (team.history.publishes 
 abbrev pub KeepsPublished : IndexerValue → IndexerValue → Type 0
 KeepsPublished before after = (after.stop ≡ before.stop) × (after.book ≡ before.book) × (after.published ≡ before.published)
 
--- ---- why a step was refused
+-- ---- why a step failed
 
--- why a file was not read: it is too large only where it has more bytes than a collection text may have
+-- why a file was not read: it is too large only if it has more bytes than a collection text may have
 abbrev pub IsFileFault : (Text → Type 0) → FileFault → Type 0
 IsFileFault Holds file.Refused = Unit {0}
 IsFileFault Holds file.TooLarge = (text : Text) × Holds text × (2 ^ 28 < length text)
@@ -44,12 +44,12 @@ IsUnread Holds path (Collection error) = (error ≡ collection.TooLarge) × (tex
 IsUnread Holds path Memory = Unit {0}
 IsUnread Holds path _ = ⊥
 
--- why there are no documents of a text: it is no collection text, or memory was refused
+-- why there are no documents of a text: it is no collection text, or the call was out of memory
 abbrev pub IsNoCollection : Text → RunError → Type 0
 IsNoCollection text (Collection error) = (error ≡ collection.Memory) ⊎ IsCollectionFault text error
 IsNoCollection text _ = ⊥
 
--- Why the documents of a file were not added by so many workers: it cannot be read, or holds no collection text, or a live
+-- Why the documents of a file were not added by this many workers: it cannot be read, or holds no collection text, or a live
 -- index that has come so far does not take its documents.
 abbrev pub RefusesFile : (Text → Text → Type 0) → ℕ → List Text → Text → Progress → RunError → Type 0
 RefusesFile holds workers stop path before (Unread named) = named.now ≡ path
@@ -64,14 +64,14 @@ abbrev pub RefusesNumber : ℕ → Progress → RunError → Type 0
 RefusesNumber number before (Live error) = RefusesRemoval (length (documents_in before)) number error
 RefusesNumber number before _ = ⊥
 
--- why an addition or a removal was refused by a live index that has come so far
+-- why an addition to a live index that has come so far, or a removal from it, failed
 abbrev pub RefusesStep : (Text → Text → Type 0) → ℕ → List Text → Step → Progress → RunError → Type 0
 RefusesStep holds workers stop (Add path) before error = RefusesFile holds workers stop path before error
 RefusesStep holds workers stop Publish before error = ⊥
 RefusesStep holds workers stop (Ask query tree) before error = ⊥
 RefusesStep holds workers stop (Remove number) before error = RefusesNumber number before error
 
--- One of these steps was refused, once all additions and removals before it were carried out.
+-- One of these steps failed, once all additions and removals before it were carried out.
 pub record RefusesChanges (holds : Text → Text → Type 0) (workers : ℕ) (stop : List Text) (steps : List Step) (before : Progress) (error : RunError) : Type 0 where
   pub earlier : List Step
   pub step : Step
@@ -81,14 +81,14 @@ pub record RefusesChanges (holds : Text → Text → Type 0) (workers : ℕ) (st
   pub changed : Changes holds stop earlier before now
   pub refused : RefusesStep holds workers stop step now error
 
--- why a group was refused: the first addition or removal that was, or memory
+-- why a group failed: the first addition or removal that did, or memory
 abbrev pub RefusesGroup : (Text → Text → Type 0) → ℕ → List Text → List Step → Progress → RunError → Type 0
 RefusesGroup holds workers stop steps before error = (error ≡ Memory) ⊎ RefusesChanges holds workers stop steps before error
 
 -- ---- what is left
 
--- why the lines of a group were not printed: the output refused them, and gained a beginning; or memory was refused, and it
--- gained none
+-- why the lines of a group were not printed: the output failed, and gained a beginning; or the call was out of memory, and
+-- it gained none
 abbrev pub IsUnprinted : Text → Option Text → Option Text → RunError → Type 0
 IsUnprinted lines old new Write = AppendsFront old new lines
 IsUnprinted lines old new Memory = Keeps old new

@@ -7,8 +7,8 @@ use Rattle.ix_script.specs.Scripts.{IsPrinted, IsReason}
 use Rattle.ix_script.specs.Steps.{Step, Text}
 use Rattle.ix_script.specs.declared.run_error.RunError.{RunError}
 
--- The steps were carried out one after another, the output gained the lines of the answers and nothing else, and it is told
--- whether a name is among them.
+-- The steps were carried out one after another, the output gained the lines of the answers and nothing else, and the result
+-- says whether a name is among them.
 pub record CarriesOut (holds : Text → Text → Type 0) (stop : List Text) (steps : List Step) (before after : Progress) (old new : Option Text) (found : Bool) : Type 0 where
   pub answers : List Answered
   pub ran : Runs holds stop steps before after answers

@@ -11,7 +11,7 @@ use std::alloc::AllocError;
 
 /// The names of the documents that a query finds after just the history of these news, in order.
 ///
-/// `Memory` if memory is refused.
+/// `Memory` if out of memory.
 pub fn find_names(searcher: &Searcher, news: &News, query: &Query) -> Result<Vec<String>, Memory>
     ensures { IfOk result (λ names. IsAnswer news.now.stop (operations_in news.now.history)
         query.now (map string_bytes names.items)) }

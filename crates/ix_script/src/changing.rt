@@ -17,16 +17,16 @@ use std::alloc::Global;
 use std::sync::Wait;
 use std::thread::Threads;
 
-/// Why the additions and removals among steps were not all carried out: the step at this place was refused.
+/// Why the additions and removals among steps were not all carried out: the step at this place failed.
 #[derive(Drop)]
 pub struct Stopped<'t> {
     /// The place of the step, from 0.
     pub place: usize,
-    /// Why it was refused.
+    /// Why it failed.
     pub error: RunError<'t>,
 }
 
-/// Carries out the additions and removals of a group, up to the first that is refused; what they make waits to be
+/// Carries out the additions and removals of a group, up to the first that fails; what they make waits to be
 /// published.
 pub fn change_all<'t, R: Threads + Wait + Sync, F: CollectionFiles>(
     rt: &R,

@@ -6,11 +6,11 @@ ghost use Rattle.ix_script.specs.Stops.{IsFileFault};
 /// Why a collection file was not read.
 #[derive(Clone, Copy, Debug, PartialEq, Eq)]
 pub enum FileFault {
-    /// The system refused.
+    /// The system returned an error.
     Refused,
     /// It has more bytes than a collection text may have.
     TooLarge,
-    /// Memory was refused.
+    /// Out of memory.
     Memory,
 }
 

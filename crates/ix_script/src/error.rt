@@ -13,7 +13,7 @@ pub enum ScriptError {
     Line(usize),
     /// The text that the line asks is no query.
     Query(usize, QueryError),
-    /// Memory was refused.
+    /// Out of memory.
     Memory,
 }
 

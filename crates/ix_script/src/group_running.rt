@@ -23,10 +23,10 @@ use std::alloc::{AllocError, Global};
 use std::sync::Wait;
 use std::thread::Threads;
 
-/// Carries out a group: its additions and removals, and beside them its asks, which are answered after just what is
+/// Carries out a group: its additions and removals, and meanwhile its asks, which are answered after just what is
 /// published. The answers are lists of names, one for each ask, in order.
 ///
-/// Where steps are refused, the error is that of the first of them.
+/// If steps fail, the error is that of the first of them.
 pub fn run_group<'t, R: Threads + Wait + Sync, F: CollectionFiles>(
     rt: &R,
     alloc: Global,
@@ -51,7 +51,7 @@ pub fn run_group<'t, R: Threads + Wait + Sync, F: CollectionFiles>(
     answer_and_change(rt, alloc, files, plan, indexer, team, group)
 }
 
-/// Carries out the additions and removals of a group, and beside it answers its asks after just what is published.
+/// Carries out the additions and removals of a group, and meanwhile answers its asks after just what is published.
 fn answer_and_change<'t, R: Threads + Wait + Sync, F: CollectionFiles>(
     rt: &R,
     alloc: Global,
@@ -109,7 +109,7 @@ fn both<'t>(
         (Err(AllocError), Ok(())) => Err(RunError::Memory),
         (Ok(_), Err(stopped)) => Err(stopped.error),
         (Err(AllocError), Err(stopped)) => {
-            // An ask was refused too, and memory is what it lacked.
+            // An ask failed too, and it was out of memory.
             if asks(&group[..stopped.place]) {
                 Err(RunError::Memory)
             } else {

@@ -6,7 +6,7 @@ ghost use Rattle.ix_script.specs.Steps.{step_of};
 
 use crate::step::Step;
 
-/// The steps up to the first publish, and those behind it; or all steps and none, where no step publishes.
+/// The steps up to the first publish, and those behind it; or all steps and none, if no step publishes.
 pub fn first_group<'s, 't>(steps: &'s [Step<'t>]) -> (&'s [Step<'t>], Option<&'s [Step<'t>]>)
     ensures cut { IsCutAtPublish (map step_of steps.entry.now) (map step_of result.0.now)
         (option_map (λ rest. map step_of rest.now) result.1) }

@@ -21,7 +21,7 @@ const NUMBERS: u32 = MAX_DOCUMENTS;
 /// zeros; a query is read under the stop list.
 ///
 /// # Errors
-/// The fault of the first line that has one: `Line` where it is none of these, and else `Query` where its query is none.
+/// The fault of the first line that has one: `Line` if it is none of these, and else `Query` if its query is none.
 /// `Memory` comes in place of any answer.
 pub fn read_script<'t>(
     alloc: Global,
@@ -112,7 +112,7 @@ fn read_query<'t>(
     }
 }
 
-/// What is behind a word at the front of a line, where it is not empty.
+/// What is behind a word at the front of a line, if it is not empty.
 fn rest_behind<'t>(line: &'t str, word: &str) -> Option<&'t str>
     ensures { MatchOption result
         ((rest : Text) → rest ≢ [] → line.entry.now ≢ word.now ++ rest)

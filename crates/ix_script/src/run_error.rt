@@ -10,10 +10,10 @@ pub enum RunError<'t> {
     Unread(&'t str),
     /// The file that the script names is no collection text.
     Collection(CollectionError),
-    /// The live index refused an addition, a removal or a publish.
+    /// An addition, a removal or a publish failed.
     Live(LiveError),
-    /// The output refused the answers.
+    /// The answers could not be written.
     Write,
-    /// Memory was refused.
+    /// Out of memory.
     Memory,
 }

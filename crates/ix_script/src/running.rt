@@ -24,12 +24,12 @@ use std::io::Write;
 use std::sync::Wait;
 use std::thread::Threads;
 
-/// Carries out the steps of a script on a new live index with so many searchers, 1 to 64, and answers whether a name was
+/// Carries out the steps of a script on a new live index with 1 to 64 searchers, and returns whether a name was
 /// found. The answers to the asks of a group go to `out` once the whole group was carried out, and then it is published.
 /// What waits at the end is dropped.
 ///
-/// The first step that is refused ends it. Of its group nothing is written then, but where the output itself refused:
-/// then a beginning of its answers may be out.
+/// The first step that fails ends it. Of its group nothing is written then, unless the output itself failed: then a
+/// beginning of its answers may be out.
 pub fn run_steps<'t, R: Threads + Wait + Sync, F: CollectionFiles, W: Write>(
     rt: &R,
     alloc: Global,
@@ -122,7 +122,7 @@ struct Round {
     count: usize,
 }
 
-/// Carries out the steps up to the first publish, and publishes; or all steps, where none publishes.
+/// Carries out the steps up to the first publish, and publishes; or all steps, if none publishes.
 fn run_round<'t, R: Threads + Wait + Sync, F: CollectionFiles, W: Write>(
     rt: &R,
     alloc: Global,
@@ -166,7 +166,7 @@ fn run_round<'t, R: Threads + Wait + Sync, F: CollectionFiles, W: Write>(
     })
 }
 
-/// Carries out a group, writes the answers to its asks, and answers whether a name is among them.
+/// Carries out a group, writes the answers to its asks, and returns whether a name is among them.
 fn answer_group<'t, R: Threads + Wait + Sync, F: CollectionFiles, W: Write>(
     rt: &R,
     alloc: Global,

@@ -50,7 +50,7 @@ impl Team {
     /// The answers to these queries after just the history of the news, in order. The searchers answer side by side, a
     /// query each in a thread of its own, until none is left.
     ///
-    /// `Memory` if memory is refused.
+    /// `Memory` if out of memory.
     pub fn answer<R: Threads + Sync>(
         self,
         rt: &R,
@@ -79,7 +79,7 @@ impl Team {
         Ok((Team { searchers, news }, answers))
     }
 
-    /// The answers to these queries as for `answer`, beside something else, which is done on this thread, once.
+    /// The answers to these queries as for `answer`, while something else is done on this thread, once.
     pub fn answer_beside<R: Threads + Sync, T, F: FnMut() -> T>(
         self,
         rt: &R,

@@ -14,7 +14,7 @@ use ix_output::{flush, put_all};
 use std::alloc::{AllocError, Global};
 use std::io::Write;
 
-/// Writes the answers to the asks of a group, flushes, and answers whether a name is among them. The answers are lists of
+/// Writes the answers to the asks of a group, flushes, and returns whether a name is among them. The answers are lists of
 /// names, one for each ask, in order.
 ///
 /// After `Write` a beginning of them may be out, and after `Memory` nothing is.
