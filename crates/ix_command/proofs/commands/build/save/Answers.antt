@@ -30,9 +30,9 @@ returns-clause-saved g c =
     let exact : OnOk c.match-build.written ((ComeBack (keeping_of g.F.Shared.Reader.Read.remaining g.F.Shared.SharedFiles.shared g.F.Shared.SharedFiles.back) c.args.plan.now c.args.stop.now c.args.documents.now) → WritesIndexText (g.F.Writer.Write.contents c.in_ok-output.output.writer) (g.F.Writer.Write.contents c.build.new.out) (collection_of c.args.stop.now c.args.documents.now)) =
     elim c.match-build.branch [ in-Ok w ↦ on_written c.match-build.written (λ come. come_back _ _ _ _ _ w.in-Ok.ensures.written w.in-Ok.ensures.exact come) | in-Err w ↦ on_unwritten _ c.match-build.written _ w.written-is ] in
     saved_by _ _ _ c.end-ended.result c.match-build.written c.end-ended.ensures.written exact c.end-ended.ensures.saved
-    (λ writes saved come. index_saved _ _ _ _ _ (kept_behind _ _ _ _ _ _ _ c.requires.apart c.begin.ensures.changes c.begin.ensures.goes_on c.in_ok-output.ensures.begun c.build.ensures.files c.build.ensures.goes_on)
-    (went_all _ _ _ _ _ _ _ c.requires.apart c.begin.ensures.changes c.begin.ensures.goes_on c.in_ok-output.ensures.begun c.build.ensures.files c.build.ensures.goes_on)
-    (begun_behind _ _ _ _ _ _ _ c.requires.apart c.begin.ensures.changes c.begin.ensures.goes_on c.in_ok-output.ensures.begun c.build.ensures.files c.build.ensures.goes_on c.in_ok-output.ensures.ready)
+    (λ writes saved come. index_saved _ _ _ _ _ (kept_behind _ _ _ _ _ _ _ c.requires.apart c.begin.ensures.changes c.begin.ensures.goes_on c.in_ok-output.ensures.begun c.build.ensures.changes c.build.ensures.goes_on)
+    (went_all _ _ _ _ _ _ _ c.requires.apart c.begin.ensures.changes c.begin.ensures.goes_on c.in_ok-output.ensures.begun c.build.ensures.changes c.build.ensures.goes_on)
+    (begun_behind _ _ _ _ _ _ _ c.requires.apart c.begin.ensures.changes c.begin.ensures.goes_on c.in_ok-output.ensures.begun c.build.ensures.changes c.build.ensures.goes_on c.in_ok-output.ensures.ready)
     c.end-ended.ensures.goes_on _ _ (λ honest. c.in_ok-output.ensures.empty (c.build.ensures.goes_on.honest honest)) _ _ (writes come) saved)
 
 pub returns-clause-alike : goal.returns-clause-alike
@@ -40,9 +40,9 @@ returns-clause-alike g c =
     let alike : OnOk c.match-build.written (WritesAlike (collection_of c.args.stop.now c.args.documents.now) (g.F.Writer.Write.contents c.in_ok-output.output.writer) (g.F.Writer.Write.contents c.build.new.out)) =
     elim c.match-build.branch [ in-Ok w ↦ on_written c.match-build.written (w.in-Ok.ensures.alike) | in-Err w ↦ on_unwritten _ c.match-build.written _ w.written-is ] in
     saved_by _ _ _ c.end-ended.result c.match-build.written c.end-ended.ensures.written alike c.end-ended.ensures.saved
-    (λ writes saved. alike_saved _ _ _ _ _ (kept_behind _ _ _ _ _ _ _ c.requires.apart c.begin.ensures.changes c.begin.ensures.goes_on c.in_ok-output.ensures.begun c.build.ensures.files c.build.ensures.goes_on)
-    (went_all _ _ _ _ _ _ _ c.requires.apart c.begin.ensures.changes c.begin.ensures.goes_on c.in_ok-output.ensures.begun c.build.ensures.files c.build.ensures.goes_on)
-    (begun_behind _ _ _ _ _ _ _ c.requires.apart c.begin.ensures.changes c.begin.ensures.goes_on c.in_ok-output.ensures.begun c.build.ensures.files c.build.ensures.goes_on c.in_ok-output.ensures.ready)
+    (λ writes saved. alike_saved _ _ _ _ _ (kept_behind _ _ _ _ _ _ _ c.requires.apart c.begin.ensures.changes c.begin.ensures.goes_on c.in_ok-output.ensures.begun c.build.ensures.changes c.build.ensures.goes_on)
+    (went_all _ _ _ _ _ _ _ c.requires.apart c.begin.ensures.changes c.begin.ensures.goes_on c.in_ok-output.ensures.begun c.build.ensures.changes c.build.ensures.goes_on)
+    (begun_behind _ _ _ _ _ _ _ c.requires.apart c.begin.ensures.changes c.begin.ensures.goes_on c.in_ok-output.ensures.begun c.build.ensures.changes c.build.ensures.goes_on c.in_ok-output.ensures.ready)
     c.end-ended.ensures.goes_on _ _ (λ honest. c.in_ok-output.ensures.empty (c.build.ensures.goes_on.honest honest)) _ _ writes saved)
 
 pub returns-clause-refused : goal.returns-clause-refused
@@ -52,14 +52,14 @@ returns-clause-refused g c =
 
 pub returns-clause-others : goal.returns-clause-others
 returns-clause-others g c honest =
-    others_built _ _ _ _ _ _ _ c.requires.apart c.begin.ensures.changes c.begin.ensures.goes_on c.in_ok-output.ensures.begun c.build.ensures.files c.build.ensures.goes_on _ c.end-ended.ensures.goes_on c.in_ok-output.ensures.ready
+    others_built _ _ _ _ _ _ _ c.requires.apart c.begin.ensures.changes c.begin.ensures.goes_on c.in_ok-output.ensures.begun c.build.ensures.changes c.build.ensures.goes_on _ c.end-ended.ensures.goes_on c.in_ok-output.ensures.ready
     (left_by _ _ _ c.build.result c.build.ensures.gone c.build.ensures.left) c.end-ended.ensures.others honest
 
 pub returns-clause-undone : goal.returns-clause-undone
 returns-clause-undone g c =
-    let kept = kept_behind _ _ _ _ _ _ _ c.requires.apart c.begin.ensures.changes c.begin.ensures.goes_on c.in_ok-output.ensures.begun c.build.ensures.files c.build.ensures.goes_on in
-    let went = went_all _ _ _ _ _ _ _ c.requires.apart c.begin.ensures.changes c.begin.ensures.goes_on c.in_ok-output.ensures.begun c.build.ensures.files c.build.ensures.goes_on in
-    let begun = begun_behind _ _ _ _ _ _ _ c.requires.apart c.begin.ensures.changes c.begin.ensures.goes_on c.in_ok-output.ensures.begun c.build.ensures.files c.build.ensures.goes_on c.in_ok-output.ensures.ready in
+    let kept = kept_behind _ _ _ _ _ _ _ c.requires.apart c.begin.ensures.changes c.begin.ensures.goes_on c.in_ok-output.ensures.begun c.build.ensures.changes c.build.ensures.goes_on in
+    let went = went_all _ _ _ _ _ _ _ c.requires.apart c.begin.ensures.changes c.begin.ensures.goes_on c.in_ok-output.ensures.begun c.build.ensures.changes c.build.ensures.goes_on in
+    let begun = begun_behind _ _ _ _ _ _ _ c.requires.apart c.begin.ensures.changes c.begin.ensures.goes_on c.in_ok-output.ensures.begun c.build.ensures.changes c.build.ensures.goes_on c.in_ok-output.ensures.ready in
     let both : OnOk c.match-build.written (((ComeBack (keeping_of g.F.Shared.Reader.Read.remaining g.F.Shared.SharedFiles.shared g.F.Shared.SharedFiles.back) c.args.plan.now c.args.stop.now c.args.documents.now) → WritesIndexText (g.F.Writer.Write.contents c.in_ok-output.output.writer) (g.F.Writer.Write.contents c.build.new.out) (collection_of c.args.stop.now c.args.documents.now)) × WritesAlike (collection_of c.args.stop.now c.args.documents.now) (g.F.Writer.Write.contents c.in_ok-output.output.writer) (g.F.Writer.Write.contents c.build.new.out)) =
     elim c.match-build.branch [ in-Ok w ↦ on_written c.match-build.written ((λ come. come_back _ _ _ _ _ w.in-Ok.ensures.written w.in-Ok.ensures.exact come), w.in-Ok.ensures.alike) | in-Err w ↦ on_unwritten _ c.match-build.written _ w.written-is ] in
     undone_through _ _ _ _ _ kept went begun c.end-ended.ensures.goes_on _ _ (λ honest. c.in_ok-output.ensures.empty (c.build.ensures.goes_on.honest honest)) _ c.end-ended.result c.match-build.written
