@@ -1,3 +1,4 @@
+pub mod BlockCounts
 pub mod BlockLemmas
 pub mod BlockMaking
 pub mod BlockPieces
@@ -10,7 +11,7 @@ pub mod MergedParts
 pub mod OverBlocks
 pub mod ReadBackLemmas
 pub mod RunMerging
-pub mod RunPathLemmas
+pub mod RunNameLemmas
 pub mod SavedPlaces
 pub mod SavedWork
 pub mod UnreadLemmas

@@ -59,6 +59,14 @@ module _ {R : Type 0} (remaining : R → Option (List ℕ)) where
     spills = may.spills;
   }
 
+  -- of files that may give more back
+  pub tells_unread : (back given : ℕ → List ℕ → Type 0) → ((place : ℕ) (bytes : List ℕ) → back place bytes → given place bytes) → (before now : Option (List ℕ)) (error : BuildError)
+      → TellsUnread remaining back before now error → TellsUnread remaining given before now error
+  tells_unread back given gives before now (Thread worker) told = tt
+  tells_unread back given gives before now (Spill place) told = ⊎_elim inl (λ may. inr (unread_later back given place (gives place) may)) told
+  tells_unread back given gives before now Write told = tt
+  tells_unread back given gives before now Memory told = tt
+
   module _ (was later : Type 0) (kept known : ℕ → Heading → Type 0) (back given : ℕ → List ℕ → Type 0)
       (refused : was → later) (place : ℕ) (same : (heading : Heading) → kept place heading → known place heading) (gives : (bytes : List ℕ) → back place bytes → given place bytes) where
     -- of a weaker cause

@@ -12,7 +12,7 @@ use Rattle.ix_run.specs.Heads.{Heading, heading_of}
 use Rattle.ix_run.specs.RunHead.{RunHead}
 use Rattle.ix_merge.specs.Pieces.{LeavesFront}
 use Rattle.ix_build.specs.AlikeFronts.{LeavesAlikeFront, WritesAlike}
-use Rattle.ix_build.specs.Blocks.{AreBounds, IsBlockPlace}
+use Rattle.ix_build.specs.Blocks.{AreBounds}
 use Rattle.ix_build.specs.BuiltOver.{AreBlocksSaved, FailsOver}
 use Rattle.ix_build.specs.GivenBack.{GivesBlocksBack}
 use Rattle.ix_build.specs.KeptHeadings.{IsHeadingOfBlock}
@@ -24,9 +24,10 @@ use Rattle.ix_build.specs.Stores.{AreSaved, CountsMore, HasRefused}
 use Rattle.ix_build.specs.declared.build_error.BuildError.{BuildError}
 use Rattle.ix_build.specs.declared.build_error.BuildError.TheVariants.{Thread, Spill, Write, Memory}
 use Rattle.ix_build.specs.declared.plan.Cut.{Cut}
+use Rattle.ix_build.proofs.BlockCounts.{block_place, blocks_counted}
 use Rattle.ix_build.proofs.OverBlocks.{alike_written, exactly_written, heads_left, heads_merge}
 use Rattle.ix_build.proofs.SavedWork.{saved_in_part, saved_on_first}
-use Rattle.ix_build.proofs.WholeBuild.{bounds_counted, some_block}
+use Rattle.ix_build.proofs.WholeBuild.{some_block}
 
 pub keeps_itself : (known : Option (List ℕ)) → Keeps known known
 keeps_itself None = tt
@@ -44,20 +45,12 @@ few_tokens stop texts small =
     omega (arith, few, short)
 
 module _ (cut : Cut) (texts : List NamedText) (bounds : List ℕ) (are : AreBounds cut texts bounds) (count : ℕ) (size : count + 1 ≡ length bounds) where
-  counted : count ≡ length are.blocks
-  counted =
-      let blocks = bounds_counted 0 are.blocks in
-      let same = ap length are.bounds_are in omega (arith, blocks, same, size)
-
-  block_place : (place : ℕ) → place < count → IsBlockPlace cut texts place
-  block_place place within = let many = counted in record { blocks = are.blocks; of_cut = are.of_cut; within = omega (arith, within, many) }
-
   module _ {T : Type 0} (places : T → List ℕ) (refusals : T → ℕ) (back : T → ℕ → List ℕ → Type 0) where
     -- an error of the saving, before anything is written
     pub fails_saving : (stores after : List T) (before now : Option (List ℕ)) (error : BuildError) → Keeps before now → FailsToSave places refusals back stores count after error
         → FailsOver places refusals back cut texts stores after before now error
     fails_saving stores after before now (Thread worker) keeps fails = (fails, keeps)
-    fails_saving stores after before now (Spill place) keeps fails = (block_place place fails.0, inl (record { in_part = fails.1; lowest = fails.2; refused = fails.3; unwritten = keeps }))
+    fails_saving stores after before now (Spill place) keeps fails = (block_place cut texts bounds are count size place fails.0, inl (record { in_part = fails.1; lowest = fails.2; refused = fails.3; unwritten = keeps }))
     fails_saving stores after before now Write keeps fails = absurd fails
     fails_saving stores after before now Memory keeps fails = fails
 
@@ -78,12 +71,12 @@ module _ (cut : Cut) (texts : List NamedText) (bounds : List ℕ) (are : AreBoun
       blocks_saved = record {
         blocks = are.blocks;
         of_cut = are.of_cut;
-        saved = subst (λ (n : ℕ). AreSaved places refusals back stores n (slice_set after 0 new)) counted in_the_end;
+        saved = subst (λ (n : ℕ). AreSaved places refusals back stores n (slice_set after 0 new)) (blocks_counted cut texts bounds are count size) in_the_end;
       }
 
       pub fails_merging : (before now : Option (List ℕ)) (error : BuildError) → ComesOfMerging count error → FailsOver places refusals back cut texts stores (slice_set after 0 new) before now error
       fails_merging before now (Thread worker) comes = absurd comes
-      fails_merging before now (Spill place) comes = (block_place place comes, inr blocks_saved)
+      fails_merging before now (Spill place) comes = (block_place cut texts bounds are count size place comes, inr blocks_saved)
       fails_merging before now Write comes = blocks_saved
       fails_merging before now Memory comes = saved_in_part places refusals back stores count (slice_set after 0 new) in_the_end
 
@@ -105,7 +98,7 @@ module _ (cut : Cut) (texts : List NamedText) (bounds : List ℕ) (are : AreBoun
 
   module _ (stop : List (List ℕ)) (heads : List RunHead) (of_blocks : AreHeadsOf texts stop bounds heads) (before now : Option (List ℕ)) where
     long : length heads ≡ length are.blocks
-    long = let many = of_blocks.as_many in let blocks = counted in omega (arith, many, blocks, size)
+    long = let many = of_blocks.as_many in let blocks = blocks_counted cut texts bounds are count size in omega (arith, many, blocks, size)
 
     pub as_many_heads : length heads ≡ count
     as_many_heads = let many = of_blocks.as_many in omega (arith, many, size)

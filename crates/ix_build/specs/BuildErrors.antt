@@ -1,10 +1,14 @@
 -- The errors of building a collection: their numbers, their names as they are printed, and when each one comes.
 use Rattle.std.specs.Prelude.{ℕ, ◌<◌, List, ◌++◌, codes, decimal}
+use Rattle.ix_files.specs.declared.file_error.FileError.{FileError}
+use Rattle.ix_files.specs.declared.file_error.FileError.TheVariants as file
 use Rattle.ix_text.specs.Collections.{NamedText}
 use Rattle.ix_merge.specs.declared.merge_error.MergeError.{MergeError}
 use Rattle.ix_merge.specs.declared.merge_error.MergeError.TheVariants as merge
 use Rattle.ix_build.specs.declared.build_error.BuildError.{BuildError}
 use Rattle.ix_build.specs.declared.build_error.BuildError.TheVariants.{Thread, Spill, Write, Memory}
+use Rattle.ix_build.specs.declared.by_makers.ByError.{ByError}
+use Rattle.ix_build.specs.declared.by_makers.ByError.TheVariants as by
 use Rattle.ix_pool.specs.declared.maker.MakeError.TheVariants as make
 use Rattle.ix_pool.specs.declared.pool.WorkError.{WorkError}
 use Rattle.ix_pool.specs.declared.pool.WorkError.TheVariants as work
@@ -57,6 +61,26 @@ abbrev pub told_of_work : WorkError → BuildError
 told_of_work (work.Thread worker) = Thread worker
 told_of_work (work.Make place error) = Memory
 told_of_work work.Memory = Memory
+
+-- the errors of building by makers that refuse no place, if consecutive blocks are merged
+abbrev pub MayComeOfBuilding : ByError → Type 0
+MayComeOfBuilding (by.Thread worker) = Unit {0}
+MayComeOfBuilding (by.Make place make.Refused) = ⊥
+MayComeOfBuilding (by.Make place make.Memory) = Unit {0}
+MayComeOfBuilding (by.Merge error) = MayComeOfMerge error
+MayComeOfBuilding by.Memory = Unit {0}
+
+-- the error of building by makers as that of a build
+abbrev pub told_of_building : ByError → BuildError
+told_of_building (by.Thread worker) = Thread worker
+told_of_building (by.Make place error) = Memory
+told_of_building (by.Merge error) = told_of_merge error
+told_of_building by.Memory = Memory
+
+-- the error of a folder for runs that cannot be looked at, as that of its first run
+abbrev pub told_of_folder : FileError → BuildError
+told_of_folder file.Memory = Memory
+told_of_folder error = Spill 0
 
 -- which errors come with runs in a folder: `Thread` of one of the plan's workers, and `Spill` of a block
 abbrev pub IsFolderRefusal : PlanValue → List NamedText → BuildError → Type 0

@@ -1,15 +1,10 @@
--- Stores of runs in the files of a folder.
-use Rattle.std.specs.Prelude.{◌≡◌, ℕ, List}
-use Rattle.ix_build.specs.RunPaths.{run_path}
+-- Stores of runs in files that they share.
+use Rattle.std.specs.Prelude.{ℕ, List}
 use Rattle.ix_build.specs.declared.folder_store.FolderStore.{FolderStore}
 
 -- the files in which a store keeps its runs
 abbrev pub files_of : {F : Type 0} → FolderStore F → F
 files_of store = store.files.now
-
--- the path of its folder
-abbrev pub folder_of : {F : Type 0} → FolderStore F → List ℕ
-folder_of store = store.folder.now
 
 -- the places that it saved, in this order
 abbrev pub saved_of : {F : Type 0} → FolderStore F → List ℕ
@@ -20,10 +15,5 @@ abbrev pub faults_of : {F : Type 0} → FolderStore F → ℕ
 faults_of store = store.faults
 
 -- what may come back for a place is what may come back of its file
-abbrev pub GivesBack : {F : Type 0} → (F → List ℕ → List ℕ → Type 0) → FolderStore F → ℕ → List ℕ → Type 0
-GivesBack back store place bytes = back (files_of store) (run_path (folder_of store) place) bytes
-
--- The store keeps runs in this folder of these files.
-pub record IsStoreIn {F : Type 0} (files : F) (folder : List ℕ) (store : FolderStore F) : Type 0 where
-  pub files_are : files_of store ≡ files
-  pub folder_is : folder_of store ≡ folder
+abbrev pub GivesBack : {F : Type 0} → (F → ℕ → List ℕ → Type 0) → FolderStore F → ℕ → List ℕ → Type 0
+GivesBack back store place bytes = back (files_of store) place bytes

@@ -13,7 +13,7 @@ pub mod GivenBack
 pub mod KeptHeadings
 pub mod Plans
 pub mod ReadBack
-pub mod RunPaths
+pub mod RunNames
 pub mod RunPieces
 pub mod SavedBlocks
 pub mod SavingLaws

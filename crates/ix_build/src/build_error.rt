@@ -1,6 +1,8 @@
 //! Why a collection is not built.
 ghost use Rattle.std.specs.Prelude.{◌≡◌};
 
+use crate::by_makers::ByError;
+use ix_files::FileError;
 use ix_merge::MergeError;
 use ix_pool::{MakeError, WorkError};
 use ix_run::RunTextError;
@@ -21,7 +23,7 @@ pub enum BuildError {
 }
 
 impl BuildError {
-    ghost use Rattle.ix_build.specs.BuildErrors.{MayComeOfMerge, MayComeOfWork, build_error_number, told_of_merge, told_of_work};
+    ghost use Rattle.ix_build.specs.BuildErrors.{MayComeOfBuilding, MayComeOfMerge, MayComeOfWork, build_error_number, told_of_building, told_of_folder, told_of_merge, told_of_work};
     ghost use Rattle.ix_build.specs.ReadBack.{told_of_read_merge, told_of_reading};
 
     /// The error's number in the list of these errors, from 1.
@@ -57,6 +59,29 @@ impl BuildError {
             MergeError::Write => BuildError::Write,
             MergeError::Source(_, _) | MergeError::Memory => BuildError::Memory,
             _ => unreachable!(),
+        }
+    }
+
+    /// The error of building by makers of blocks, none of whom refuses a block.
+    pub(crate) fn of_building(error: ByError) -> BuildError
+        requires { MayComeOfBuilding error }
+        ensures { result ≡ told_of_building error }
+    {
+        match error {
+            ByError::Thread(worker) => BuildError::Thread(worker),
+            ByError::Make(_, MakeError::Refused) => unreachable!(),
+            ByError::Merge(error) => BuildError::of_merge(error),
+            ByError::Make(_, MakeError::Memory) | ByError::Memory => BuildError::Memory,
+        }
+    }
+
+    /// The error of a folder for runs that cannot be looked at. A collection without documents has a block 0 too.
+    pub(crate) fn of_folder(error: FileError) -> BuildError
+        ensures { result ≡ told_of_folder error }
+    {
+        match error {
+            FileError::Memory => BuildError::Memory,
+            _ => BuildError::Spill(0),
         }
     }
 

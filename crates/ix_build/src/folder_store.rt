@@ -1,39 +1,25 @@
-//! A store that keeps runs in the files of a folder.
+//! A store that keeps runs in files which several stores share.
 ghost use Rattle.std.specs.Prelude.{◌≡◌, ◌↔◌, ℕ, List, ◌++◌, ◌∷◌, [], IfOk, OnErr, OnOk};
 ghost use Rattle.std.specs.Io.KnownBytes.{Appends};
-ghost use Rattle.std.specs.Path.{path_buf_bytes};
 ghost use Rattle.ix_run.specs.Runs.{run_bytes};
-ghost use Rattle.ix_build.specs.RunPaths.{run_path};
 ghost use Rattle.ix_build.specs.Stores.{CountsRefusal, IsOneMore};
 
-use crate::run_files::RunFiles;
 use crate::store::{RunStore, StoreError};
+use ix_files::SharedFiles;
 use ix_run::Run;
-use ix_text::Memory;
 use std::alloc::Global;
 use std::io::{BufWriter, Write};
-use std::path::{Path, PathBuf};
 
 /// How many bytes of a run are written at once.
 const BUFFER_BYTES: usize = 1 << 16;
 
-/// Keeps the run of a place in the file `run-` and the place in ten digits of a folder, which has to exist. A file of
-/// that name is overwritten.
+/// Keeps the run of a place in the file of that place. What the file had is overwritten.
 #[derive(Drop)]
 pub struct FolderStore<'a, F> {
     pub(crate) alloc: Global,
     pub(crate) files: &'a F,
-    pub(crate) folder: &'a str,
     pub(crate) saved: Vec<usize>,
     pub(crate) faults: u64,
-}
-
-/// The path of the file in the folder that keeps the run of a place.
-pub(crate) fn run_path(alloc: Global, folder: &str, place: usize) -> Result<PathBuf, Memory>
-    ensures { IfOk result (λ path. path_buf_bytes path ≡ run_path folder.now place) }
-{
-    let name = format!(in alloc; "run-{place:010}")?;
-    Path::new(folder).join(alloc, name)
 }
 
 /// Writes the text of a run.
@@ -54,19 +40,17 @@ fn put_run<W: Write + Drop>(alloc: Global, writer: W, run: &Run) -> Result<W, St
 }
 
 impl<'a, F> FolderStore<'a, F> {
-    ghost use Rattle.ix_build.specs.FolderStores.{faults_of, files_of, folder_of, saved_of};
+    ghost use Rattle.ix_build.specs.FolderStores.{faults_of, files_of, saved_of};
 
-    /// A store that keeps runs in files of this folder, and has saved none. Allocates nothing.
-    pub fn new(alloc: Global, files: &'a F, folder: &'a str) -> FolderStore<'a, F>
+    /// A store that keeps runs in these files, and has saved none. Allocates nothing.
+    pub fn new(alloc: Global, files: &'a F) -> FolderStore<'a, F>
         ensures files { files_of result ≡ files.now }
-        ensures folder { folder_of result ≡ folder.now }
         ensures saved { saved_of result ≡ [] }
         ensures faults { faults_of result ≡ 0 }
     {
         FolderStore {
             alloc,
             files,
-            folder,
             saved: Vec::new(alloc),
             faults: 0,
         }
@@ -77,7 +61,6 @@ impl<'a, F> FolderStore<'a, F> {
         ensures faults { IsOneMore (faults_of self.old) (faults_of self.new) }
         ensures saved { saved_of self.new ≡ saved_of self.old }
         ensures files { files_of self.new ≡ files_of self.old }
-        ensures folder { folder_of self.new ≡ folder_of self.old }
     {
         if self.faults < u64::MAX {
             self.faults += 1;
@@ -85,8 +68,8 @@ impl<'a, F> FolderStore<'a, F> {
     }
 }
 
-impl<'a, F: RunFiles> RunStore for FolderStore<'a, F> {
-    ghost use Rattle.ix_build.specs.FolderStores.{GivesBack, faults_of, files_of, folder_of, saved_of};
+impl<'a, F: SharedFiles> RunStore for FolderStore<'a, F> {
+    ghost use Rattle.ix_build.specs.FolderStores.{GivesBack, faults_of, files_of, saved_of};
 
     type Reader = F::Reader;
 
@@ -97,8 +80,7 @@ impl<'a, F: RunFiles> RunStore for FolderStore<'a, F> {
     ghost back = { GivesBack F.back };
 
     fn save(&mut self, place: usize, run: &Run) -> Result<(), StoreError>
-        ensures kept { OnOk result (F.kept (files_of self.old)
-            (run_path (folder_of self.old) place) (run_bytes run.now)) }
+        ensures kept { OnOk result (F.kept (files_of self.old) place (run_bytes run.now)) }
 
         // As each store promises.
         ensures saved { OnOk result (saved_of self.new ≡ saved_of self.old ++ place ∷ []) }
@@ -112,16 +94,15 @@ impl<'a, F: RunFiles> RunStore for FolderStore<'a, F> {
             self.count();
             return Err(StoreError::Memory);
         }
-        let Ok(path) = run_path(self.alloc, self.folder, place) else {
-            self.count();
-            return Err(StoreError::Memory);
-        };
-        let kept = match self.files.create(path.as_str()) {
+        let kept = match self.files.create(place) {
             Ok(writer) => match put_run(self.alloc, writer, run) {
-                Ok(writer) => self.files.close(path.as_str(), writer),
+                Ok(writer) => match self.files.end(place, writer) {
+                    Ok(()) => Ok(()),
+                    Err(error) => Err(StoreError::from(error)),
+                },
                 Err(error) => Err(error),
             },
-            Err(error) => Err(error),
+            Err(error) => Err(StoreError::from(error)),
         };
         match kept {
             Ok(()) => {
@@ -136,15 +117,11 @@ impl<'a, F: RunFiles> RunStore for FolderStore<'a, F> {
     }
 
     fn load(&mut self, place: usize) -> Result<F::Reader, StoreError> {
-        let opened = match run_path(self.alloc, self.folder, place) {
-            Ok(path) => self.files.open(path.as_str()),
-            Err(_) => Err(StoreError::Memory),
-        };
-        match opened {
+        match self.files.open(place) {
             Ok(reader) => Ok(reader),
             Err(error) => {
                 self.count();
-                Err(error)
+                Err(StoreError::from(error))
             }
         }
     }

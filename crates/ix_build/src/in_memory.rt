@@ -7,7 +7,8 @@ ghost use Rattle.ix_text.specs.Sizes.{AreSmall};
 ghost use Rattle.ix_merge.specs.Endings.{WritesIndexText};
 ghost use Rattle.ix_build.specs.AlikeFronts.{LeavesAlikeFront};
 ghost use Rattle.ix_build.specs.BlockMakers.{IsMakerOf};
-ghost use Rattle.ix_build.specs.Blocks.{AscendUpTo};
+ghost use Rattle.ix_build.specs.Balanced.{balanced_cut};
+ghost use Rattle.ix_build.specs.Blocks.{AreBounds, AscendUpTo};
 ghost use Rattle.ix_build.specs.BuildErrors.{IsBeforeWriting, IsBuildRefusal, IsInvertRefusal};
 ghost use Rattle.ix_build.specs.RunPieces.{AreRunsOfTexts};
 
@@ -15,6 +16,7 @@ use crate::balanced::balanced_cut;
 use crate::block_maker::BlockMaker;
 use crate::blocks::{block_count, bounds_of};
 use crate::build_error::BuildError;
+use crate::by_makers::{Built, build_by};
 use crate::inverted_blocks::InvertedBlocks;
 use crate::plan::Plan;
 use crate::watch::{Unwatched, Watch};
@@ -26,14 +28,15 @@ use std::sync::Wait;
 use std::thread::Threads;
 
 /// Writes the index text, version 2, of a collection under a stop list, whatever the plan: its blocks are inverted by
-/// the plan's workers, each in a thread of its own, and their runs are merged (IIR 4.3). Runs are kept in memory, even if
-/// the plan has a folder for them; `build_with_files` uses the folder.
+/// the plan's workers, each in a thread of its own, and their runs are merged (IIR 4.3). A block of the plan is cut further
+/// if some of the workers would have too little to do. Runs are kept in memory, even if the plan has a folder for them;
+/// `build` uses the folder.
 ///
 /// # Errors
 /// `Thread` if a thread cannot be started, before anything is written; `Write` if a write or the flush fails; `Memory` if
 /// out of memory. After these a prefix of an index text is written, perhaps nothing of it, or after a failed flush all of
 /// it. Never `Spill`.
-pub fn build<W: Write, R: Threads + Wait + Sync>(
+pub fn build_in_memory<W: Write, R: Threads + Wait + Sync>(
     rt: &R,
     alloc: Global,
     collection: &Collection<'_>,
@@ -70,8 +73,19 @@ pub(crate) fn build_watched<W: Write, R: Threads + Wait + Sync, V: Watch>(
     ensures front { OnErr result (LeavesAlikeFront (collection_of stop.now collection.now)
         (W.contents out.old) (W.contents out.new)) }
 {
-    let blocks = invert_all(rt, alloc, collection, stop, plan, watch)?;
-    blocks.merge_into(alloc, out)
+    let docs = collection.docs();
+    let Ok(bounds) = balanced_bounds(alloc, docs, plan) else {
+        return Err(BuildError::Memory);
+    };
+    let bounds = bounds.as_slice();
+    let Ok(makers) = makers_of(alloc, docs, stop, bounds, watch, plan.workers()) else {
+        return Err(BuildError::Memory);
+    };
+    let Built { makers: _, result } = build_by(rt, alloc, makers, block_count(bounds), out);
+    match result {
+        Ok(()) => Ok(()),
+        Err(error) => Err(BuildError::of_building(error)),
+    }
 }
 
 /// Inverts the blocks of a collection under a stop list, by the plan's workers, each in a thread of its own (IIR 4.3).
@@ -93,8 +107,7 @@ pub fn invert_all<R: Threads + Wait + Sync, V: Watch>(
     ensures refused { IfErr result (IsInvertRefusal plan.now.workers) }
 {
     let docs = collection.docs();
-    let cut = balanced_cut(docs, plan.cut(), plan.workers());
-    let Ok(bounds) = bounds_of(alloc, docs, cut) else {
+    let Ok(bounds) = balanced_bounds(alloc, docs, plan) else {
         return Err(BuildError::Memory);
     };
     let bounds = bounds.as_slice();
@@ -106,6 +119,17 @@ pub fn invert_all<R: Threads + Wait + Sync, V: Watch>(
         Ok(runs) => Ok(InvertedBlocks::new(runs)),
         Err(error) => Err(BuildError::of_work(error)),
     }
+}
+
+/// The bounds of the plan's blocks, which are cut further if some of the workers would have too little to do.
+fn balanced_bounds(alloc: Global, docs: &[Doc<'_>], plan: &Plan) -> Result<Vec<usize>, Memory>
+    ensures bounds { IfOk result (λ bounds.
+        AreBounds (balanced_cut plan.now.cut plan.now.workers (map named_text docs.now))
+        (map named_text docs.now) bounds.items) }
+    ensures ascending { IfOk result (λ bounds. AscendUpTo (length docs.now) bounds.items) }
+{
+    let cut = balanced_cut(docs, plan.cut(), plan.workers());
+    bounds_of(alloc, docs, cut)
 }
 
 /// `workers` makers of the blocks between the bounds.

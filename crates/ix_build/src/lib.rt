@@ -1,5 +1,5 @@
 //! Building an index text in threads (IIR 4.3): a collection is cut into blocks, a pool of workers inverts them, and the
-//! runs that they make are merged. Runs are kept in memory, or in stores until they are merged.
+//! runs that they make are merged. Runs are kept in memory, or until they are merged in stores, as in files of a folder.
 #![tactic(auto)]
 
 mod balanced;
@@ -14,26 +14,24 @@ mod inverted_blocks;
 mod over_stores;
 mod plan;
 mod read_back;
-mod run_files;
+mod run_names;
 mod save;
 mod saving_maker;
 mod store;
-mod system_files;
 mod watch;
 mod watched_files;
 
 pub use build_error::BuildError;
 pub use by_makers::{Built, ByError, build_by};
 pub use folder_store::FolderStore;
-pub use in_folder::build_with_files;
-pub use in_memory::{build, invert_all};
+pub use in_folder::build;
+pub use in_memory::{build_in_memory, invert_all};
 pub use inverted_blocks::InvertedBlocks;
 pub use ix_pool::{
     Asked, MakeError, Maker, Outcome, WorkError, each_place_is_of_one_maker, work_all,
 };
 pub use over_stores::{BuiltOver, build_over};
 pub use plan::{Cut, Plan, Runs};
-pub use run_files::RunFiles;
+pub use run_names::is_run_of;
 pub use store::{RunStore, StoreError};
-pub use system_files::{SystemFile, SystemFiles};
 pub use watch::{Unwatched, Watch};

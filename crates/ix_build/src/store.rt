@@ -2,6 +2,7 @@
 ghost use Rattle.std.specs.Prelude.{◌≡◌, ◌↔◌, ℕ, List, [], ◌∷◌, ◌++◌, IfOk, IfSome, OnErr, OnOk};
 ghost use Rattle.ix_build.specs.Stores.{CountsRefusal};
 
+use ix_files::FileError;
 use ix_run::Run;
 use std::io::Read;
 use thiserror::Error;
@@ -27,6 +28,15 @@ impl StoreError {
         match self {
             StoreError::Store => 1,
             StoreError::Memory => 2,
+        }
+    }
+}
+
+impl From<FileError> for StoreError {
+    fn from(error: FileError) -> StoreError {
+        match error {
+            FileError::Memory => StoreError::Memory,
+            _ => StoreError::Store,
         }
     }
 }

@@ -1,47 +1,46 @@
 //! Files of runs of which somebody is told as they are kept.
 
-use crate::run_files::RunFiles;
-use crate::store::StoreError;
 use crate::watch::Watch;
+use ix_files::{FileError, Location, SharedFiles};
 
 /// The same files; whoever watches is told of each that was ended.
 #[derive(Drop)]
 pub(crate) struct WatchedFiles<'a, F, V> {
     pub(crate) files: &'a F,
     pub(crate) watch: &'a V,
-    /// How many blocks there are in all.
-    pub(crate) blocks: usize,
 }
 
-impl<F: RunFiles, V: Watch> RunFiles for WatchedFiles<'_, F, V> {
+impl<F: SharedFiles, V: Watch> SharedFiles for WatchedFiles<'_, F, V> {
     type Reader = F::Reader;
 
     type Writer = F::Writer;
+
+    ghost shared = { λ watched. F.shared watched.files.now };
 
     ghost back = { λ watched. F.back watched.files.now };
 
     ghost kept = { λ watched. F.kept watched.files.now };
 
-    fn create(&self, path: &str) -> Result<F::Writer, StoreError> {
-        self.files.create(path)
+    fn names(&self) -> &[Location] {
+        self.files.names()
     }
 
-    fn close(&self, path: &str, writer: F::Writer) -> Result<(), StoreError> {
-        let closed = self.files.close(path, writer);
-        if closed.is_ok() {
-            self.watch.inverted(self.blocks);
+    fn create(&self, place: usize) -> Result<F::Writer, FileError> {
+        self.files.create(place)
+    }
+
+    fn end(&self, place: usize, writer: F::Writer) -> Result<(), FileError> {
+        let ended = self.files.end(place, writer);
+        if ended.is_ok() {
+            self.watch.inverted(self.files.names().len());
         }
-        closed
+        ended
     }
 
-    fn open(&self, path: &str) -> Result<F::Reader, StoreError> {
-        self.files.open(path)
+    fn open(&self, place: usize) -> Result<F::Reader, FileError> {
+        self.files.open(place)
     }
 
-    fn remove(&self, path: &str) {
-        self.files.remove(path)
-    }
-
-    ghost untold = { λ watched path bytes writer none.
-        F.untold watched.files.now path bytes writer none };
+    ghost untold = { λ watched place bytes writer none.
+        F.untold watched.files.now place bytes writer none };
 }

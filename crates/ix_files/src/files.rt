@@ -4,7 +4,7 @@ ghost use Rattle.std.specs.Prelude.{◌≡◌, ◌≢◌, ◌≤◌, ◌<◌, �
 ghost use Rattle.std.specs.String.{string_bytes};
 ghost use Rattle.ix_files.specs.Locations.{place_of};
 ghost use Rattle.ix_files.specs.Opened.{IsKindOf, IsOpened, IsReadError};
-ghost use Rattle.ix_files.specs.Slots.{Nothing, Slots, Stops};
+ghost use Rattle.ix_files.specs.Slots.{IsSame, Nothing, Slots, Stops};
 ghost use Rattle.ix_files.specs.Steps.{Creates, Overwrites, Removes, Renames, Settles, Shares, Stays, Syncs};
 ghost use Rattle.ix_files.specs.Views.{Calls, HasCause, View};
 ghost use Rattle.ix_files.specs.declared.file_error.FileError.TheVariants.{Exists, Memory};
@@ -177,6 +177,8 @@ pub trait Files {
         ensures shared { IfOk result (λ shared.
             Self.Shared.shared shared ≡ map place_of names.items) }
         ensures call { Calls (Shares (map place_of names.items)) (view self.old) (view self.new) }
+        ensures unshared { OnErr result ((view self.new).honest
+            → IsSame (view self.old).slots (view self.new).slots) }
         ensures error { IfErr result (λ error. error ≡ Memory) };
 
     /// A writer into the device or the pipe that a path leads to; `-` is the standard output.

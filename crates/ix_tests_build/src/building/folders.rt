@@ -3,9 +3,10 @@
 use super::stores::runs;
 use super::{Narrow, five_documents, five_documents_index};
 use ix_build::{
-    BuildError, BuiltOver, Cut, FolderStore, Plan, RunFiles, RunStore, Runs, SystemFiles,
-    Unwatched, build_over, build_with_files,
+    BuildError, BuiltOver, Cut, FolderStore, Plan, RunStore, Runs, Unwatched, build, build_over,
+    is_run_of,
 };
+use ix_files::{Files, Location, MemoryFiles, SharedFiles, SystemFiles};
 use ix_run::RunReader;
 use ix_text::{Collection, StopList};
 use std::alloc::Global;
@@ -24,10 +25,10 @@ fn new_path(rt: &HostRuntime, name: &str) -> Result<String, Fail> {
 }
 
 /// Builds the five documents with runs in this folder, and answers why it is refused.
-fn built_in<F: RunFiles, W: Write>(
+fn built_in<F: Files, W: Write>(
     rt: &(impl Abort + Threads + Wait + Sync),
     alloc: Global,
-    files: &F,
+    files: &mut F,
     folder: &str,
     cut: Cut,
     workers: usize,
@@ -37,7 +38,7 @@ fn built_in<F: RunFiles, W: Write>(
     let stop = StopList::empty(alloc);
     let runs = Runs::Folder(String::from_str(alloc, folder)?);
     let plan = Plan::new(cut, workers, runs).ok_or("no plan")?;
-    let result = build_with_files(rt, alloc, files, &collection, &stop, &plan, &Unwatched, out);
+    let result = build(rt, alloc, files, &collection, &stop, &plan, &Unwatched, out);
     Ok(result.err())
 }
 
@@ -51,15 +52,15 @@ const PLANS: [(Cut, usize); 4] = [
 
 #[test]
 fn a_folder_is_left_empty(rt: HostRuntime) -> Result<(), Fail> {
-    let files = SystemFiles { rt: &rt };
+    let mut files = SystemFiles { rt: &rt };
     let folder = new_path(&rt, "empty")?;
     let mut out = Vec::new(rt.alloc());
-    let none = built_in(&rt, rt.alloc(), &files, &folder, Cut::Docs(2), 3, &mut out)?;
+    let none = built_in(&rt, rt.alloc(), &mut files, &folder, Cut::Docs(2), 3, &mut out)?;
     assert!(rt; none == Some(BuildError::Spill(0)) && out.is_empty());
     fs::create_dir(&rt, folder.as_str())?;
     for (cut, workers) in PLANS {
         let mut out = Vec::new(rt.alloc());
-        let refused = built_in(&rt, rt.alloc(), &files, &folder, cut, workers, &mut out)?;
+        let refused = built_in(&rt, rt.alloc(), &mut files, &folder, cut, workers, &mut out)?;
         assert!(rt; refused.is_none() && out.as_slice() == five_documents_index());
     }
     let bytes = Vec::new(rt.alloc());
@@ -67,7 +68,7 @@ fn a_folder_is_left_empty(rt: HostRuntime) -> Result<(), Fail> {
     let refused = built_in(
         &rt,
         rt.alloc(),
-        &files,
+        &mut files,
         &folder,
         Cut::Docs(2),
         2,
@@ -77,7 +78,7 @@ fn a_folder_is_left_empty(rt: HostRuntime) -> Result<(), Fail> {
     let way = format!(in rt.alloc(); "{folder}/run-0000000001")?;
     fs::create_dir(&rt, way.as_str())?;
     let mut out = Vec::new(rt.alloc());
-    let refused = built_in(&rt, rt.alloc(), &files, &folder, Cut::Docs(1), 2, &mut out)?;
+    let refused = built_in(&rt, rt.alloc(), &mut files, &folder, Cut::Docs(1), 2, &mut out)?;
     assert!(rt; refused == Some(BuildError::Spill(1)) && out.is_empty());
     fs::remove_dir(&rt, way.as_str())?;
     // Only an empty folder is removed.
@@ -103,24 +104,34 @@ fn built_over<T: RunStore>(
     Ok(result)
 }
 
-/// Builds the five documents over two stores that keep runs in this folder. What is written is their index text.
-fn builds_over_stores_in<F: RunFiles>(
+/// Builds the five documents over two stores that keep runs in these files. What is written is their index text.
+fn builds_over_stores_in<F: SharedFiles>(
     rt: &(impl Abort + Threads + Wait + Sync),
     alloc: Global,
     files: &F,
-    folder: &str,
     cut: Cut,
 ) -> Result<(), Fail> {
     let collection = Collection::read(alloc, five_documents())?;
     let mut stores = Vec::new(alloc);
     for _ in 0..2 {
-        stores.push(FolderStore::new(alloc, files, folder))?;
+        stores.push(FolderStore::new(alloc, files))?;
     }
     let mut out = Vec::new(alloc);
     let result = built_over(rt, alloc, &collection, cut, stores, &mut out)?;
     assert_eq!(rt; result, Ok(()));
     assert_eq!(rt; out.as_slice(), five_documents_index());
     Ok(())
+}
+
+/// Names in this folder as the first nine runs are called.
+fn names_in(alloc: Global, folder: &str) -> Result<Vec<Location>, Fail> {
+    let mut names = Vec::new(alloc);
+    for place in 0..9 {
+        let folder = String::from_str(alloc, folder)?;
+        let name = format!(in alloc; "run-000000000{place}")?;
+        names.push(Location::new(alloc, folder, name)?)?;
+    }
+    Ok(names)
 }
 
 /// From which document up to which one the run of a text goes.
@@ -158,11 +169,12 @@ const CUTS: [(Cut, &str); 8] = [
 
 #[test]
 fn run_files_of_each_cut(rt: HostRuntime) -> Result<(), Fail> {
-    let files = SystemFiles { rt: &rt };
+    let mut files = SystemFiles { rt: &rt };
     let folder = new_path(&rt, "cuts")?;
     fs::create_dir(&rt, folder.as_str())?;
+    let shared = files.share(names_in(rt.alloc(), &folder)?)?;
     for (cut, want) in CUTS {
-        builds_over_stores_in(&rt, rt.alloc(), &files, &folder, cut)?;
+        builds_over_stores_in(&rt, rt.alloc(), &shared, cut)?;
         if cut == Cut::Bytes(4) {
             for (place, run) in runs().iter().enumerate() {
                 let path = format!(in rt.alloc(); "{folder}/run-000000000{place}")?;
@@ -172,5 +184,42 @@ fn run_files_of_each_cut(rt: HostRuntime) -> Result<(), Fail> {
         assert_eq!(rt; spans_in(&rt, &folder)?.as_str(), want);
     }
     fs::remove_dir(&rt, folder.as_str())?;
+    Ok(())
+}
+
+#[test]
+fn each_call_of_the_files_fails(rt: HostRuntime) -> Result<(), Fail> {
+    let mut files = MemoryFiles::new(rt.alloc())?;
+    let mut built = false;
+    for number in 1..64 {
+        files.fail_at(number, false);
+        let mut out = Vec::new(rt.alloc());
+        let refused = built_in(&rt, rt.alloc(), &mut files, "", Cut::Docs(2), 1, &mut out)?;
+        built = refused.is_none();
+        assert!(rt; built || matches!(refused, Some(BuildError::Spill(_))), "{number}");
+        assert!(rt; built == (out.as_slice() == five_documents_index()), "{number}");
+    }
+    assert!(rt; built);
+    Ok(())
+}
+
+#[test]
+fn paths_of_runs(rt: HostRuntime) -> Result<(), Fail> {
+    let files = MemoryFiles::new(rt.alloc())?;
+    let collection = Collection::read(rt.alloc(), five_documents())?;
+    for (runs, want) in [
+        (Runs::Folder(String::new(rt.alloc())), true),
+        (Runs::Memory, false),
+    ] {
+        let plan = Plan::new(Cut::Docs(2), 1, runs).ok_or("no plan")?;
+        for (path, last) in [
+            ("run-0000000002", true),
+            ("run-0000000003", false),
+            ("run-2", false),
+        ] {
+            let is = is_run_of(rt.alloc(), &files, &collection, &plan, path)?;
+            assert_eq!(rt; is, want && last, "{path}");
+        }
+    }
     Ok(())
 }

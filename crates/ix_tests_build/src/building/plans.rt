@@ -2,7 +2,7 @@
 ghost use Rattle.std.specs.Prelude.{◌≡◌};
 
 use super::{Narrow, five_documents, five_documents_index};
-use ix_build::{BuildError, Cut, Plan, Runs, Watch, build, invert_all};
+use ix_build::{BuildError, Cut, Plan, Runs, Watch, build_in_memory, invert_all};
 use ix_text::{Collection, StopList};
 use std::alloc::{AllocError, Global};
 use std::io::Write;
@@ -28,7 +28,9 @@ fn written<W: Write>(
     out: &mut W,
 ) -> Result<Result<(), BuildError>, Fail> {
     let stop = StopList::read(alloc, stop)?;
-    Ok(build(rt, alloc, collection, &stop, plan, out))
+    Ok(build_in_memory(
+        rt, alloc, collection, &stop, plan, out,
+    ))
 }
 
 /// The index text of no documents.

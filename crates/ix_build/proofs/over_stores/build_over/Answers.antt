@@ -7,23 +7,16 @@ use Rattle.ix_run.specs.Heads.{Heading, heading_of}
 use Rattle.ix_run.specs.RunHead.{RunHead}
 use Rattle.ix_text.specs.Collections.{NamedText}
 use Rattle.ix_text.specs.Docs.{named_text}
-use Rattle.ix_build.specs.Blocks.{AreBounds}
 use Rattle.ix_build.specs.BuiltOver.{FailsOver}
 use Rattle.ix_build.specs.KeptHeadings.{IsHeadingOfBlock}
 use Rattle.ix_build.specs.ReadBack.{ComesOfMerging, TellsCause}
 use Rattle.ix_build.specs.SavedBlocks.{AreHeadsOf, FailsToSave}
 use Rattle.ix_build.specs.Stores.{AreSaved, CountsMore, HasRefused}
-use Rattle.ix_build.specs.declared.plan.Cut.{Cut}
 use Rattle.ix_build.proofs.SavedWork.{not_begun}
 use Rattle.ix_build.proofs.UnreadLemmas.{tells_cause}
-use Rattle.ix_build.proofs.WholeBuild.{some_bound}
+use Rattle.ix_build.proofs.WholeBuild.{bounds_found, some_bound}
 use Rattle.ix_build.proofs.WholeOver.{as_many_heads, blocks_saved, fails_merging, fails_saving, few_tokens, gives_as_before, keeps_itself, kept_of_blocks, over_alike, over_exact, over_left, over_merge, refused_reading, saving_caused}
 use Rattle.ix_build.proofs.over_stores.build_over.Goals as goal
-
--- the bounds that were found are those of the plan's cut of the collection
-bounds_found : (cut other : Cut) (texts given : List NamedText) (bounds found : List ℕ) → cut ≡ other → texts ≡ given → found ≡ bounds → AreBounds cut texts bounds → AreBounds other given found
-bounds_found cut other texts given bounds found same_cut same_texts same are =
-    subst (λ c. AreBounds c given found) same_cut (subst (λ t. AreBounds cut t found) same_texts (subst (AreBounds cut texts) (sym same) are))
 
 -- the heads that were saved are those of the collection's blocks
 heads_found : (texts given : List NamedText) (stop : List (List ℕ)) (bounds : List ℕ) (heads shown : List RunHead) → texts ≡ given → shown ≡ heads → AreHeadsOf texts stop bounds heads → AreHeadsOf given stop bounds shown
