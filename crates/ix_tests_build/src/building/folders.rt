@@ -55,7 +55,15 @@ fn a_folder_is_left_empty(rt: HostRuntime) -> Result<(), Fail> {
     let mut files = SystemFiles { rt: &rt };
     let folder = new_path(&rt, "empty")?;
     let mut out = Vec::new(rt.alloc());
-    let none = built_in(&rt, rt.alloc(), &mut files, &folder, Cut::Docs(2), 3, &mut out)?;
+    let none = built_in(
+        &rt,
+        rt.alloc(),
+        &mut files,
+        &folder,
+        Cut::Docs(2),
+        3,
+        &mut out,
+    )?;
     assert!(rt; none == Some(BuildError::Spill(0)) && out.is_empty());
     fs::create_dir(&rt, folder.as_str())?;
     for (cut, workers) in PLANS {
@@ -78,7 +86,15 @@ fn a_folder_is_left_empty(rt: HostRuntime) -> Result<(), Fail> {
     let way = format!(in rt.alloc(); "{folder}/run-0000000001")?;
     fs::create_dir(&rt, way.as_str())?;
     let mut out = Vec::new(rt.alloc());
-    let refused = built_in(&rt, rt.alloc(), &mut files, &folder, Cut::Docs(1), 2, &mut out)?;
+    let refused = built_in(
+        &rt,
+        rt.alloc(),
+        &mut files,
+        &folder,
+        Cut::Docs(1),
+        2,
+        &mut out,
+    )?;
     assert!(rt; refused == Some(BuildError::Spill(1)) && out.is_empty());
     fs::remove_dir(&rt, way.as_str())?;
     // Only an empty folder is removed.
@@ -196,8 +212,14 @@ fn each_call_of_the_files_fails(rt: HostRuntime) -> Result<(), Fail> {
         let mut out = Vec::new(rt.alloc());
         let refused = built_in(&rt, rt.alloc(), &mut files, "", Cut::Docs(2), 1, &mut out)?;
         built = refused.is_none();
-        assert!(rt; built || matches!(refused, Some(BuildError::Spill(_))), "{number}");
-        assert!(rt; built == (out.as_slice() == five_documents_index()), "{number}");
+        assert!(rt;
+            built || matches!(refused, Some(BuildError::Spill(_))),
+            "{number}"
+        );
+        assert!(rt;
+            built == (out.as_slice() == five_documents_index()),
+            "{number}"
+        );
     }
     assert!(rt; built);
     Ok(())

@@ -28,9 +28,7 @@ fn written<W: Write>(
     out: &mut W,
 ) -> Result<Result<(), BuildError>, Fail> {
     let stop = StopList::read(alloc, stop)?;
-    Ok(build_in_memory(
-        rt, alloc, collection, &stop, plan, out,
-    ))
+    Ok(build_in_memory(rt, alloc, collection, &stop, plan, out))
 }
 
 /// The index text of no documents.

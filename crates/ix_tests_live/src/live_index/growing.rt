@@ -1,6 +1,6 @@
 //! A long history: after each addition, what is found is compared with one index of all documents so far.
 use super::{FOX, RED, add};
-use ix_build::{Cut, Plan, Runs, build};
+use ix_build::{Cut, Plan, Runs, build_in_memory};
 use ix_file::Volume;
 use ix_live::{Indexer, Searcher, live};
 use ix_query::{Query, answer};
@@ -22,7 +22,7 @@ fn answer_of_one<R: Threads + Wait + Sync>(
     let plan = Plan::new(Cut::Docs(30), 1, Runs::Memory).ok_or("a plan")?;
     let stop = StopList::empty(alloc);
     let mut bytes = Vec::new(alloc);
-    build(rt, alloc, &documents, &stop, &plan, &mut bytes)?;
+    build_in_memory(rt, alloc, &documents, &stop, &plan, &mut bytes)?;
     let volume = Volume::open(alloc, bytes)?;
     Ok(answer(alloc, &volume.index(), query)?)
 }
