@@ -17,7 +17,8 @@ use Rattle.ix_vbyte.proofs.Values.{some_code_byte}
 use Rattle.ix_index_text.specs.IndexText.{layout, tail}
 use Rattle.ix_index_text.specs.Sections.{Version, Plain, FrontCoded, postings_section, stop_section, documents_section, entry_counts, front_coded, grouped, front_coded_from, dictionary_section, grams_section}
 use Rattle.ix_file.specs.SizeLaws.{HasBytesForEntries}
-use Rattle.ix_index_text.proofs.GramLists.{one_gram_list, one_vocabulary}
+use Rattle.ix_index_text.proofs.GramLists.{one_gram_list}
+use Rattle.ix_text.proofs.OneParts.{one_vocabulary}
 use Rattle.ix_index_text.proofs.TextLaws.{length-magic, length-end_mark}
 
 -- ---- pieces of some bytes each

@@ -12,7 +12,8 @@ use Rattle.ix_file.specs.Opened.{IsIndexOf, Opened}
 use Rattle.ix_index_text.specs.Sections.{Version}
 use Rattle.ix_file.specs.Spelled.{AreSectionsOf, sections_of}
 use Rattle.ix_file.proofs.Framing.{layout_framed, one_frame, sections_framed}
-use Rattle.ix_index_text.proofs.GramLists.{of_collection, one_vocabulary}
+use Rattle.ix_index_text.proofs.GramLists.{of_collection}
+use Rattle.ix_text.proofs.OneParts.{one_vocabulary}
 use Rattle.ix_index_text.proofs.IndexTold.{index_told}
 use Rattle.ix_index_text.proofs.SectionSizes.{few_entries, small_parts}
 
