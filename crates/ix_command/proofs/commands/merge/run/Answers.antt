@@ -1,5 +1,5 @@
 -- What the sources may yield is what the files hold.
-use Rattle.std.proofs.Common.{◌≡◌, ◌∙◌, All, List, inl, inr, subst, sym}
+use Rattle.std.proofs.Common.{◌≡◌, ◌∙◌, All, List, inl, inr, rules, subst, sym}
 use Rattle.std.proofs.lemmas.Result.{on_err_weaker, on_ok_weaker}
 use Rattle.ix_files.specs.Outputs.{now_in, saved_in}
 use Rattle.ix_file.specs.Opened.{Opened}
@@ -27,7 +27,8 @@ pub save-requires : goal.save-requires
 save-requires g c =
     let are : c.deref-2.result.now ≡ c.in_ok-opened.opened.volumes.items = c.deref-2.ensures.value ∙ c.in-Ok.ensures ∙ c.deref.ensures.value in
     let made = subst (λ (volumes : List Opened). AreSourcesOf volumes c.in_ok-opened.opened.parts.items c.in-Ok-sources_of.sources.items) are c.in-Ok-sources_of.ensures in
-    all_unread _ _ _ c.in_ok-opened.opened (all_opened _ _ c.args.inputs.now c.in_ok-opened.opened c.in_ok-opened.ensures.opened) c.in-Ok-sources_of.sources.items made
+    let unread = all_unread _ _ _ c.in_ok-opened.opened (all_opened _ _ c.args.inputs.now c.in_ok-opened.opened c.in_ok-opened.ensures.opened) c.in-Ok-sources_of.sources.items made in
+    search (rules, unread)
 
 pub returns-clause-merged : goal.returns-clause-merged
 returns-clause-merged g c =
