@@ -39,7 +39,7 @@ impl<'a> Model for Index<'a> {
 }
 
 impl<'a> Index<'a> {
-    ghost use Rattle.std.specs.Prelude.{◌≡◌, ◌<◌, length, slice_get, Some, Contains, IfOk, MatchOption, MatchResult};
+    ghost use Rattle.std.specs.Prelude.{◌≡◌, ◌<◌, length, slice_get, sum_by, Some, Contains, IfOk, MatchOption, MatchResult};
     ghost use Rattle.ix_text.specs.Collections.{Collection};
     ghost use Rattle.ix_text.specs.Parts.{terms_of};
     ghost use Rattle.ix_text.specs.PartsLaws.{AreLawful};
@@ -120,6 +120,14 @@ impl<'a> Index<'a> {
         ensures { slice_get (token_counts self.now.parts.rows) document ≡ Some result }
     {
         self.tables.tables().rows[document as usize].tokens
+    }
+
+    /// How many tokens the documents have together, those that are no term included.
+    pub fn token_total(&self) -> u32
+        ensures count { result ≡ sum_by (λ row. row.tokens) self.now.parts.rows }
+        ensures lawful { AreLawful self.now.parts }
+    {
+        self.tables.tables().rows.iter().map(|row| row.tokens).sum()
     }
 
     /// How many terms there are.

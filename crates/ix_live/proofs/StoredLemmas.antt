@@ -1,16 +1,14 @@
 -- What a version keeps after one operation more.
-use Rattle.std.proofs.Common.{◌≡◌, ℕ, zero, suc, ◌+◌, ◌<◌, ◌≤◌, ◌^◌, ◌⊎◌, inl, inr, List, [], ◌∷◌, ◌++◌, Some, None, map, take, drop, get_or, length, refl, sym, ap, ◌∙◌, subst, arith, append_assoc, length-append}
-use Rattle.std.specs.Prelude.{◌↔◌, Contains, Option, option_map, slice_get}
+use Rattle.std.proofs.Common.{◌≡◌, ℕ, zero, suc, ◌+◌, ◌<◌, ◌≤◌, ◌^◌, ◌⊎◌, inl, inr, List, [], ◌∷◌, ◌++◌, map, take, drop, length, refl, sym, ap, ◌∙◌, subst, arith, append_assoc, length-append}
+use Rattle.std.specs.Prelude.{◌↔◌, Contains, Option}
 use Rattle.std.specs.List.{take-map}
 use Rattle.std.specs.List.Sorted.{IsStrictlyIncreasing}
-use Rattle.std.proofs.lemmas.List.{append-nil, length-map, length-take, map-append, map_push, take-append-drop, take_more}
+use Rattle.std.proofs.lemmas.List.{append-nil, length-map, length-take, map-append, map_push, take-append-drop}
 use Rattle.std.proofs.lemmas.List.Concat.{flat_map-append}
 use Rattle.std.proofs.lemmas.List.Elements.{Contains-append_left, Contains-push, Contains-push_cases}
-use Rattle.std.proofs.lemmas.List.Sums.{sum_by-append, sum_by-take-drop, sum_by_push}
-use Rattle.std.proofs.lemmas.Option.{get_or_from_slice_get, slice_get-map, slice_get_within}
+use Rattle.std.proofs.lemmas.List.Sums.{sum_by-append}
 use Rattle.ix_text.specs.Collections.{Document, NamedText, collection_of}
 use Rattle.ix_text.specs.Parts.{DocumentRow, row_of}
-use Rattle.ix_file.specs.Opened.{token_counts}
 use Rattle.ix_merge.specs.Rows.{tokens_in}
 use Rattle.ix_live.specs.declared.entry.Entry.{Entry}
 use Rattle.ix_live.specs.declared.entry.Entry.TheVariants.{Added, Removed}
@@ -179,22 +177,6 @@ table_few (s ∷ ss) falls few =
 
 pub room_left : (segments : List (Option Segment)) (left : ℕ) → Falls (pieces_in segments) → length (rows_in segments) ≤ 2 ^ 28 → length (take left segments) < 32
 room_left segments left falls few = omega (arith, table_few segments falls few, length-take left segments)
-
--- the tokens of one document more
-pub tokens_next : (rows : List DocumentRow) (i t : ℕ) → slice_get (token_counts rows) i ≡ Some t → tokens_in (take (i + 1) rows) ≡ tokens_in (take i rows) + t
-tokens_next rows i t is = at (slice_get rows i) refl (sym (slice_get-map (λ (row : DocumentRow). row.tokens) rows i) ∙ is)
-  where
-    at : (found : Option DocumentRow) → slice_get rows i ≡ found → option_map (λ (row : DocumentRow). row.tokens) found ≡ Some t → tokens_in (take (i + 1) rows) ≡ tokens_in (take i rows) + t
-    at None there told = absurd cc
-    at (Some row) there told =
-        let within = slice_get_within rows i row there in
-        let here : get_or rows i row ≡ row = get_or_from_slice_get rows i row row there in
-        let size : row.tokens ≡ t = cc in
-        let more : take (i + 1) rows ≡ take i rows ++ row ∷ [] = take_more rows i row within ∙ ap (λ (r : DocumentRow). take i rows ++ r ∷ []) here in
-        ap tokens_in more ∙ sum_by_push (λ (r : DocumentRow). r.tokens) (take i rows) row ∙ ap (λ (n : ℕ). tokens_in (take i rows) + n) size
-
-pub tokens_within : (rows : List DocumentRow) (k : ℕ) → tokens_in (take k rows) ≤ tokens_in rows
-tokens_within rows k = omega (arith, sum_by-take-drop (λ (r : DocumentRow). r.tokens) rows k)
 
 -- the same, of fields that became these
 pub stored_is : (stop : List (List ℕ)) (segments segments' : List (Option Segment)) (entries entries' : List Entry) (gone : List ℕ) (count tokens : ℕ) (operations operations' : List Operation)

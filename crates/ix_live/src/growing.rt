@@ -1,7 +1,5 @@
 //! A table of segments with documents more.
 ghost use Rattle.std.specs.Prelude.{◌≡◌, ◌^◌, ◌<◌, ◌≤◌, ◌+◌, length, IfOk, IfErr};
-ghost use Rattle.ix_text.specs.PartsLaws.{AreLawful};
-ghost use Rattle.ix_merge.specs.Rows.{tokens_in};
 ghost use Rattle.ix_live.specs.Growing.{Grows, HaveDocuments, documents_under, tokens_of};
 ghost use Rattle.ix_live.specs.LiveErrors.{RefusesDocuments};
 ghost use Rattle.ix_live.specs.Segments.{rows_in};
@@ -55,7 +53,7 @@ pub fn grow<R: Threads + Wait + Sync>(
         Ok(volume) => volume,
         Err(error) => return Err(error),
     };
-    let more = token_total(&volume);
+    let more = volume.index().token_total();
     if more > MAX_TOKENS - tokens {
         return Err(LiveError::TooLarge);
     }
@@ -70,18 +68,4 @@ pub fn grow<R: Threads + Wait + Sync>(
         place,
         tokens: more,
     })
-}
-
-/// How many tokens the documents of an index have.
-fn token_total(volume: &Volume) -> u32
-    ensures count { result ≡ tokens_in volume.now.parts.rows }
-    ensures lawful { AreLawful volume.now.parts }
-{
-    let index = volume.index();
-    let count = index.doc_count();
-    let mut total = 0;
-    for document in 0..count {
-        total += index.token_count(document);
-    }
-    total
 }
