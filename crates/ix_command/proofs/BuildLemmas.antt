@@ -8,12 +8,13 @@ use Rattle.ix_command.specs.AskedFiles.{IsStopHeld}
 use Rattle.ix_build.specs.BuildErrors.{IsInvertRefusal, IsMergeRefusal}
 use Rattle.ix_build.specs.GivenBack.{GivesBlocksBack}
 use Rattle.ix_build.specs.Plans.{PlanValue}
+use Rattle.ix_files.specs.Reading.{Holding, IsFront}
 use Rattle.ix_files.specs.Views.{View}
 use Rattle.ix_build.specs.declared.build_error.BuildError.{BuildError}
 use Rattle.ix_build.specs.declared.build_error.BuildError.TheVariants.{Thread, Spill, Write, Memory}
 use Rattle.ix_command.specs.BuiltIndexes.{AreOfFiles, ComeBack, IsBuilt, IsBuildRefused, IsRefusalBy, IsUnbuilt, RefusesDocuments, of_folder, of_memory, unbuilt}
 use Rattle.ix_command.specs.BuiltRuns.{IsOfRuns}
-use Rattle.ix_command.specs.Files.{Holding, IsFront, Keeping}
+use Rattle.ix_command.specs.Files.{Keeping}
 use Rattle.ix_command.specs.Refusals.{IsSameOrUnsaved, IsUnsaved}
 use Rattle.ix_ask.specs.declared.refusal.EngineRefusal.TheVariants as engine
 use Rattle.ix_command.specs.declared.refusal.Refusal.{Refusal}

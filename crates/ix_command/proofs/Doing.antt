@@ -1,8 +1,9 @@
 -- What was done of a line, or refused of it, and what that leaves of the files, by what its own command says.
 use Rattle.std.proofs.Common.{◌≡◌, ℕ, List, Option, Some, None, Result, Ok, Err, OnOk, OnErr, IfOk, IfErr, refl, subst, sym}
 use Rattle.std.specs.Io.KnownBytes.{Keeps}
-use Rattle.ix_command.specs.Files.{Holding, Keeping}
+use Rattle.ix_command.specs.Files.{Keeping}
 use Rattle.ix_command.specs.Statuses.{IsDone, IsLineRefused, IsUndone, LeavesFiles}
+use Rattle.ix_files.specs.Reading.{Holding}
 use Rattle.ix_files.specs.Views.{View}
 use Rattle.ix_line.specs.declared.line.Line.{Line}
 use Rattle.ix_command.specs.declared.refusal.Refusal.{Refusal}

@@ -1,6 +1,6 @@
 -- What was read of a file against all of it: a lawful text was read whole, and one that was not is too long.
-use Rattle.std.proofs.Common.{◌≡◌, ℕ, ◌+◌, ◌^◌, ◌<◌, ◌≤◌, List, length, take, Option, Some, None, Result, Ok, Err, IfOk, IfErr, IsErrAnd, OnOk, inl, inr, refl, sym, ◌∙◌, ap, subst, arith}
-use Rattle.std.specs.Prelude.{IfSome, IsSomeAnd}
+use Rattle.std.proofs.Common.{◌≡◌, ℕ, ◌+◌, ◌^◌, ◌<◌, ◌≤◌, List, length, take, Option, Some, Result, Ok, Err, IfOk, IfErr, IsErrAnd, inl, inr, sym, ◌∙◌, ap, subst, arith}
+use Rattle.std.specs.Prelude.{IsSomeAnd}
 use Rattle.std.specs.Borrow.{Bor}
 use Rattle.std.proofs.lemmas.List.{length-take, take_all}
 use Rattle.ix_text.specs.Collections.{NamedText}
@@ -11,9 +11,7 @@ use Rattle.ix_text.specs.declared.collection.CollectionError.{CollectionError}
 use Rattle.ix_text.specs.declared.collection.CollectionError.TheVariants.{TooLarge, NotUtf8, NoTab, Name, NoLineEnd, Memory}
 use Rattle.ix_command.specs.AskedFiles.{IsNoStopText, IsStopHeld, RefusesStop}
 use Rattle.ix_ask.specs.Asking.{IsAnswered, IsCutShort, Leaves, RefusesCollection}
-use Rattle.ix_command.specs.Files.{Holding, IsFront, held_in}
-use Rattle.ix_files.specs.Opened.{IsOpened}
-use Rattle.ix_files.specs.Views.{View}
+use Rattle.ix_files.specs.Reading.{Holding, IsFront}
 use Rattle.ix_ask.specs.declared.ask_error.AskError.{AskError}
 use Rattle.ix_ask.specs.declared.ask_error.AskError.TheVariants as asking
 use Rattle.ix_command.specs.declared.refusal.Refusal.{Refusal}
@@ -43,18 +41,6 @@ pub read_within : (bytes whole : List ℕ) → bytes ≡ take room whole → 2 ^
 read_within bytes whole cut long =
     let same : length bytes ≡ length (take room whole) = ap length cut in
     omega (arith, length-take room whole, same)
-
--- what a reader has left is what was read of the path
-pub told_held : (view : View) (path : List ℕ) (left : Option (List ℕ)) → (view.honest → IsOpened view path left) → IfSome left (held_in view path)
-told_held view path None is = tt
-told_held view path (Some bytes) is = λ honest file there.
-    let opened = is honest in
-    let same : bytes ≡ opened.bytes = cc in
-    same ∙ opened.held file there
-
--- a reader that does not say it is not opened, if all answers were as the files were
-pub untold_held : (view : View) (path : List ℕ) (left : Option (List ℕ)) → (view.honest → IsOpened view path left) → (bytes : List ℕ) → left ≡ None → held_in view path bytes
-untold_held view path left is bytes none = λ honest file there. let known = (is honest).known in cc
 
 -- ---- collections
 
@@ -89,18 +75,6 @@ leaves_whole workers bytes whole stop query old new asking.Memory cut leaves = l
 pub answered_whole : (bytes whole : List ℕ) (stop : List (List ℕ)) (query : List ℕ) (old new : Option (List ℕ)) (count : ℕ) → bytes ≡ take room whole → IsAnswered bytes stop query old new count → IsAnswered whole stop query old new count
 answered_whole bytes whole stop query old new count cut answered =
     subst (λ text. IsAnswered text stop query old new count) (read_whole bytes whole cut answered.answer.read.size) answered
-
--- ---- the front of what a path leads to
-
-pub front_read : (view : View) (path : List ℕ) (left : Option (List ℕ)) (space : ℕ) (bytes : List ℕ) → (view.honest → IsOpened view path left) → length bytes ≤ space → IfSome left (λ whole. bytes ≡ take space whole)
-    → IsFront (held_in view path) space bytes
-front_read view path None space bytes is short cut = record { whole = bytes; held = untold_held view path None is bytes refl; cut = sym (take_all space bytes short) }
-front_read view path (Some whole) space bytes is short cut = record { whole = whole; held = told_held view path (Some whole) is; cut = cut }
-
-pub front_given : {B E : Type 0} (items : B → List ℕ) (view : View) (path : List ℕ) (left : Option (List ℕ)) (space : ℕ) (result : Result B E) → (view.honest → IsOpened view path left)
-    → IfOk result (λ bytes. length (items bytes) ≤ space) → IfOk result (λ bytes. IfSome left (λ whole. items bytes ≡ take space whole)) → IfOk result (λ bytes. IsFront (held_in view path) space (items bytes))
-front_given items view path left space (Ok bytes) is short cut = front_read view path left space (items bytes) is short cut
-front_given items view path left space (Err error) is short cut = tt
 
 -- ---- stop files
 

@@ -7,7 +7,7 @@ use Rattle.ix_file.specs.Opened.{IsIndexOf, Opened}
 use Rattle.ix_file.specs.Sections.{Version}
 use Rattle.ix_file.specs.declared.open_error.OpenError.{OpenError}
 use Rattle.ix_file.specs.declared.open_error.OpenError.TheVariants as open_error
-use Rattle.ix_command.specs.Files.{Holding, IsFront}
+use Rattle.ix_files.specs.Reading.{Holding, IsFront}
 use Rattle.ix_command.specs.IndexFiles.{IsOpened, RefusesIndex}
 use Rattle.ix_command.specs.declared.refusal.Refusal.TheVariants as refusal
 use Rattle.ix_ask.specs.declared.refusal.EngineRefusal.TheVariants as engine

@@ -24,7 +24,7 @@ use Rattle.ix_merge.specs.AnySources.{SourceHasGiven, SourceMayYield, heading_of
 use Rattle.ix_merge.specs.Pieces.{ArePiecesOf, MayYieldPiece, Piece, heading_of_piece}
 use Rattle.ix_merge.specs.declared.any_source.AnySource.{AnySource}
 use Rattle.ix_merge.specs.declared.any_source.AnySource.TheVariants as source
-use Rattle.ix_command.specs.Files.{Holding}
+use Rattle.ix_files.specs.Reading.{Holding}
 use Rattle.ix_command.specs.IndexFiles.{IsIndexHeld}
 use Rattle.ix_line.specs.Lines.{texts_of}
 use Rattle.ix_command.specs.MergeInputs.{Adds, AreOpened, AreSourcesOf, IsInput, IsNear, IsOpened, IsPart, IsSourceOf, RefusesMore, StandsIn}

@@ -5,7 +5,7 @@ use Rattle.ix_text.specs.CollectionText.{IsCollectionText}
 use Rattle.ix_run.specs.Runs.{RunValue, run_bytes}
 use Rattle.ix_run.proofs.RunSizes.{run_text}
 use Rattle.ix_command.specs.AskedFiles.{IsStopHeld}
-use Rattle.ix_command.specs.Files.{Holding, IsFront}
+use Rattle.ix_files.specs.Reading.{Holding, IsFront}
 use Rattle.ix_command.specs.WrittenRuns.{HasRun, IsRunOfFiles, RefusesRun}
 use Rattle.ix_ask.specs.declared.refusal.EngineRefusal.TheVariants as engine
 use Rattle.ix_command.specs.declared.refusal.Refusal.{Refusal}

@@ -7,10 +7,10 @@ use Rattle.ix_file.specs.Endings.{WritesIndexText}
 use Rattle.ix_build.specs.AlikeFronts.{WritesAlike}
 use Rattle.ix_files.specs.Drafts.{ChangesDrafts, IsDraftPlace}
 use Rattle.ix_files.specs.Outputs.{IsBegunFor, LeavesOthers, LeavesTarget, now_in, saved_in}
+use Rattle.ix_files.specs.Reading.{Holding}
 use Rattle.ix_files.specs.Slots.{Entry, Kept, Place, Slot, at_rest}
 use Rattle.ix_files.specs.Views.{GoesOn, View}
 use Rattle.ix_files.specs.declared.output.DraftNames.{DraftNames}
-use Rattle.ix_command.specs.Files.{Holding}
 use Rattle.ix_command.specs.Refusals.{IsUnsaved}
 use Rattle.ix_command.specs.SavedIndexes.{SavesAlike, SavesIndex}
 use Rattle.ix_command.specs.declared.refusal.Refusal.{Refusal}

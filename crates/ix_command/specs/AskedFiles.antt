@@ -7,7 +7,7 @@ use Rattle.ix_text.specs.StopText.{IsStopText}
 use Rattle.ix_text.specs.StopFaults.{IsStopFault}
 use Rattle.ix_text.specs.declared.stop.StopError.TheVariants as stop_error
 use Rattle.ix_ask.specs.Asking.{IsAnswered, Leaves}
-use Rattle.ix_command.specs.Files.{Holding}
+use Rattle.ix_files.specs.Reading.{Holding}
 use Rattle.ix_command.specs.Refusals.{IsUnread, Tells}
 use Rattle.ix_ask.specs.declared.ask_error.AskError.{AskError}
 use Rattle.ix_ask.specs.declared.refusal.EngineRefusal.TheVariants as engine

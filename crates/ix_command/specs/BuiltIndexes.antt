@@ -10,7 +10,8 @@ use Rattle.ix_build.specs.Plans.{PlanValue}
 use Rattle.ix_build.specs.declared.build_error.BuildError.{BuildError}
 use Rattle.ix_command.specs.AskedFiles.{IsStopHeld, RefusesStop}
 use Rattle.ix_ask.specs.Asking.{RefusesCollection}
-use Rattle.ix_command.specs.Files.{Holding, Keeping}
+use Rattle.ix_command.specs.Files.{Keeping}
+use Rattle.ix_files.specs.Reading.{Holding}
 use Rattle.ix_command.specs.Refusals.{IsFolderLocked, IsSameOrUnsaved, IsUnread, IsUnsaved}
 use Rattle.ix_command.specs.SavedIndexes.{SavesAlike, SavesIndex}
 use Rattle.ix_ask.specs.declared.refusal.EngineRefusal.TheVariants as engine

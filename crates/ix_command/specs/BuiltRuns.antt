@@ -6,10 +6,10 @@ use Rattle.ix_text.specs.Collections.{NamedText}
 use Rattle.ix_build.specs.Plans.{PlanValue}
 use Rattle.ix_build.specs.RunNames.{HasNoRuns, IsRunOf}
 use Rattle.ix_files.specs.Drafts.{IsDraftPlace}
+use Rattle.ix_files.specs.Reading.{held_in}
 use Rattle.ix_files.specs.Slots.{Place}
 use Rattle.ix_files.specs.Views.{View}
 use Rattle.ix_command.specs.BuiltIndexes.{AreOfFiles, IsRefusalBy}
-use Rattle.ix_command.specs.Files.{held_in}
 use Rattle.ix_ask.specs.declared.refusal.EngineRefusal.TheVariants as engine
 use Rattle.ix_command.specs.declared.refusal.Refusal.{Refusal}
 use Rattle.ix_command.specs.declared.refusal.Refusal.TheVariants as refusal

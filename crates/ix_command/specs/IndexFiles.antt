@@ -7,7 +7,7 @@ use Rattle.ix_file.specs.IndexText.{IsIndexText}
 use Rattle.ix_file.specs.Opened.{IsIndexOf, Opened}
 use Rattle.ix_file.specs.Sections.{Version}
 use Rattle.ix_file.specs.declared.open_error.OpenError.TheVariants as open_error
-use Rattle.ix_command.specs.Files.{Holding}
+use Rattle.ix_files.specs.Reading.{Holding}
 use Rattle.ix_ask.specs.Listing.{IsPrinted, LeavesListing}
 use Rattle.ix_command.specs.Refusals.{IsUnread, Tells}
 use Rattle.ix_ask.specs.Searching.{IsSearched, LeavesSearch}

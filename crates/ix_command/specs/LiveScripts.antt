@@ -8,7 +8,7 @@ use Rattle.ix_script.specs.Scripts.{IsCarriedOut, IsStopped}
 use Rattle.ix_script.specs.Steps.{IsScript, Step}
 use Rattle.ix_script.specs.declared.run_error.RunError.{RunError}
 use Rattle.ix_command.specs.AskedFiles.{IsStopHeld, RefusesStop}
-use Rattle.ix_command.specs.Files.{Holding}
+use Rattle.ix_files.specs.Reading.{Holding}
 use Rattle.ix_command.specs.Refusals.{IsUnread, TellsStep}
 use Rattle.ix_ask.specs.declared.refusal.EngineRefusal.TheVariants as engine
 use Rattle.ix_command.specs.declared.refusal.Refusal.{Refusal}

@@ -17,7 +17,7 @@ use Rattle.ix_run.specs.RunTextError.TheVariants.{TooLarge}
 use Rattle.ix_merge.specs.declared.any_source.AnySource.{AnySource}
 use Rattle.ix_merge.specs.declared.any_source.AnySource.TheVariants as source
 use Rattle.ix_merge.specs.declared.merge_error.MergeError.TheVariants as merge_error
-use Rattle.ix_command.specs.Files.{Holding}
+use Rattle.ix_files.specs.Reading.{Holding}
 use Rattle.ix_command.specs.IndexFiles.{IsIndexHeld, IsOpened as IsIndexOpened}
 use Rattle.ix_command.specs.MergedRuns.{HoldsHead, StandsBehind, end_of, greatest_end}
 use Rattle.ix_command.specs.declared.commands.merge.inputs.Input.{Input}

@@ -12,7 +12,7 @@ use Rattle.ix_run.specs.RunTextError.TheVariants.{TooLarge}
 use Rattle.ix_merge.specs.Pieces.{ArePiecesOf, IsConcatenation, Piece, heading_of_piece}
 use Rattle.ix_merge.specs.Refusals.{IsRefusal}
 use Rattle.ix_merge.specs.declared.merge_error.MergeError.TheVariants as merge_error
-use Rattle.ix_command.specs.Files.{Holding}
+use Rattle.ix_files.specs.Reading.{Holding}
 use Rattle.ix_command.specs.IndexFiles.{IsIndexHeld, RefusesIndex}
 use Rattle.ix_command.specs.Refusals.{IsUnread as IsUnreadFile, IsUnsaved}
 use Rattle.ix_command.specs.SavedIndexes.{SavesIndex}

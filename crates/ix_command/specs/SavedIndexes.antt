@@ -4,7 +4,7 @@ use Rattle.ix_text.specs.Collections.{Collection}
 use Rattle.ix_file.specs.IndexText.{IsIndexText}
 use Rattle.ix_file.specs.Sections.{FrontCoded}
 use Rattle.ix_build.specs.AlikeFronts.{AreAlike}
-use Rattle.ix_command.specs.Files.{Holding}
+use Rattle.ix_files.specs.Reading.{Holding}
 
 -- The index text of version 2 of the collection was saved under this path.
 pub record SavesIndex (saves : Holding) (path : Text) (collection : Collection) : Type 0 where

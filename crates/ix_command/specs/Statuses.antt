@@ -13,8 +13,9 @@ use Rattle.ix_command.specs.AskedFiles.{IsAnsweredFromFiles, IsAskRefused}
 use Rattle.ix_command.specs.BuiltIndexes.{IsBuilt, IsBuildRefused}
 use Rattle.ix_command.specs.BuiltRuns.{LeavesNoRuns}
 use Rattle.ix_line.specs.Commands.{ix_app}
-use Rattle.ix_command.specs.Files.{Holding, Keeping}
+use Rattle.ix_command.specs.Files.{Keeping}
 use Rattle.ix_files.specs.Outputs.{LeavesOthers, LeavesTarget, now_in}
+use Rattle.ix_files.specs.Reading.{Holding}
 use Rattle.ix_files.specs.Slots.{IsSame}
 use Rattle.ix_files.specs.Views.{View}
 use Rattle.ix_line.specs.Help.{AsksForHelp, as_flag, help_of}

@@ -2,7 +2,7 @@
 use Rattle.clap.specs.Walk.{Text}
 use Rattle.ix_text.specs.Collections.{Collection}
 use Rattle.ix_file.specs.Sections.{Version}
-use Rattle.ix_command.specs.Files.{Holding}
+use Rattle.ix_files.specs.Reading.{Holding}
 use Rattle.ix_command.specs.IndexFiles.{IsIndexHeld, RefusesIndex}
 use Rattle.ix_command.specs.Refusals.{IsUnsaved}
 use Rattle.ix_command.specs.SavedIndexes.{SavesIndex}

@@ -10,7 +10,7 @@ use Rattle.ix_run.specs.declared.errors.RunError.{RunError}
 use Rattle.ix_run.specs.declared.errors.RunError.TheVariants as run_error
 use Rattle.ix_command.specs.AskedFiles.{IsStopHeld, RefusesStop}
 use Rattle.ix_ask.specs.Asking.{RefusesCollection}
-use Rattle.ix_command.specs.Files.{Holding}
+use Rattle.ix_files.specs.Reading.{Holding}
 use Rattle.ix_command.specs.Refusals.{IsSameOrUnsaved, IsUnread, IsUnsaved}
 use Rattle.ix_ask.specs.declared.refusal.EngineRefusal.TheVariants as engine
 use Rattle.ix_command.specs.declared.refusal.Refusal.{Refusal}

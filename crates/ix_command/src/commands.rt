@@ -5,11 +5,12 @@
 
 ghost use Rattle.std.specs.Prelude.{◌≡◌, ◌≢◌, ◌≤◌, ◌⊎◌, IfOk, IfErr, OnErr, OnOk};
 ghost use Rattle.std.specs.Io.KnownBytes.{Appends, Keeps};
-ghost use Rattle.ix_command.specs.Files.{held_in, keeping_of};
+ghost use Rattle.ix_command.specs.Files.{keeping_of};
 ghost use Rattle.ix_line.specs.Lines.{Refuses, texts_of};
 ghost use Rattle.ix_command.specs.Statuses.{AreUndone, FindsNone, FindsSome, IsDone, IsHelped, IsLineRefused};
 ghost use Rattle.ix_command.specs.Statuses.{LeavesFilesOf, spelled};
 ghost use Rattle.ix_files.specs.Outputs.{saved_in};
+ghost use Rattle.ix_files.specs.Reading.{held_in};
 ghost use Rattle.ix_command.specs.Statuses.{IsLineless, IsUndone, IsUnwritten, IsRefused, IsRefusedFor, LeavesFiles};
 
 mod ask;

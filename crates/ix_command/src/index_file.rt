@@ -1,13 +1,12 @@
 //! Index files, opened.
 ghost use Rattle.std.specs.Prelude.{IfOk, IfErr};
-ghost use Rattle.ix_command.specs.Files.{held_in};
+ghost use Rattle.ix_files.specs.Reading.{held_in};
 ghost use Rattle.ix_command.specs.IndexFiles.{IsOpened, RefusesIndex};
 
-use crate::reading::read_front;
 use crate::refusal::Refusal;
 use ix_ask::EngineRefusal;
 use ix_file::Volume;
-use ix_files::Files;
+use ix_files::{Files, read_front};
 use std::alloc::Global;
 use std::thread::Threads;
 

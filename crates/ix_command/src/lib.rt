@@ -5,7 +5,6 @@
 mod commands;
 mod index_file;
 mod outputs;
-mod reading;
 mod refusal;
 mod refusing;
 

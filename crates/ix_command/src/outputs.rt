@@ -1,6 +1,6 @@
 //! The output of a command: it is begun once the inputs were read, and ended, or given up after an error.
 
-ghost use Rattle.std.specs.Prelude.{◌≡◌, ◌≢◌, ◌⊎◌, ℕ, List, [], Some, IfErr, IfOk, IsErrAnd, IsOk, OnErr, OnOk};
+ghost use Rattle.std.specs.Prelude.{◌≡◌, ◌≢◌, ◌⊎◌, ℕ, List, [], None, Ok, Some, IfErr, IfOk, IsErrAnd, IsOk, OnErr, OnOk};
 ghost use Rattle.ix_command.specs.Refusals.{IsFolderLocked, IsSameOrUnsaved, IsUnsaved};
 ghost use Rattle.ix_files.specs.Drafts.{ChangesDrafts};
 ghost use Rattle.ix_files.specs.Outputs.{AreReady, IsBegunFor, LeavesOthers, LeavesTarget, saved_in};
@@ -10,7 +10,9 @@ ghost use Rattle.ix_files.specs.Views.{GoesOn};
 use crate::refusal::Refusal;
 use ix_ask::EngineRefusal;
 use ix_build::Plan;
-use ix_files::{FileError, Files, Kind, Output, begin_output, discard_output, finish_output};
+use ix_files::{
+    FileError, Files, Output, begin_output, discard_output, finish_output, locate_output,
+};
 use std::alloc::{AllocError, Global};
 
 /// Begins the output to a path. What is there is untouched until the output ends.
@@ -76,13 +78,8 @@ pub fn end<'a, F: Files>(
 pub fn check_output<'a, F: Files>(files: &F, path: &'a str) -> Result<(), Refusal<'a>>
     ensures refused { IfErr result (IsUnsaved path.entry.now) }
 {
-    match files.kind(path) {
-        Ok(Kind::Missing | Kind::File) => match files.locate(path) {
-            Ok(_) => Ok(()),
-            Err(error) => Err(Refusal::unsaved(path, error)),
-        },
-        Ok(Kind::Stream) => Ok(()),
-        Ok(Kind::Folder | Kind::Other) => Err(Refusal::Write(path)),
+    match locate_output(files, path) {
+        Ok(_) => Ok(()),
         Err(error) => Err(Refusal::unsaved(path, error)),
     }
 }
@@ -108,6 +105,7 @@ pub fn lock_runs<'a, F: Files>(
     files: &F,
     plan: &Plan,
 ) -> Result<Option<F::Lock>, Refusal<'a>>
+    ensures no_folder { plan.now.folder ≡ None → result ≡ Ok None }
     ensures refused { IfErr result (IsFolderLocked plan.now) }
 {
     let Some(folder) = plan.folder() else {

@@ -1,5 +1,6 @@
 pub mod Drafting
 pub mod Finishing
+pub mod Fronts
 pub mod Gone
 pub mod Moments
 pub mod Naming

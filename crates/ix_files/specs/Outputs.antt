@@ -4,7 +4,13 @@ use Rattle.ix_files.specs.Drafts.{IsDraftPlace}
 use Rattle.ix_files.specs.Locations.{place_of}
 use Rattle.ix_files.specs.Slots.{Growing, Kept, Nothing, Place, at_rest}
 use Rattle.ix_files.specs.Views.{View}
+use Rattle.ix_files.specs.declared.location.Location.{Location}
 use Rattle.ix_files.specs.declared.output.DraftNames.{DraftNames}
+
+-- the path leads to this name, or, if none, to a device or a pipe, which has no file
+abbrev pub IsTargetOf : View → List ℕ → Option Location → Type 0
+IsTargetOf view path None = (view.slots (view.place path)).now ≡ Nothing
+IsTargetOf view path (Some location) = place_of location ≡ view.place path
 
 -- the new file has one of the names that drafts of what it will replace may have
 abbrev pub AreReady : Option DraftNames → Type 0

@@ -172,7 +172,7 @@ pub trait Files {
     /// another call.
     ///
     /// # Errors
-    /// `Memory`.
+    /// `Memory` if out of memory, and no other: then no file was changed.
     fn share(&mut self, names: Vec<Location>) -> Result<Self::Shared, FileError>
         ensures shared { IfOk result (λ shared.
             Self.Shared.shared shared ≡ map place_of names.items) }

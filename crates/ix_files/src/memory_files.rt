@@ -20,9 +20,11 @@ use std::io::Cursor;
 use std::sync::Arc;
 use std::sync::atomic::{AtomicUsize, Ordering};
 
-/// Files in memory, of which all that [`Files`] promises is proved. Tests fill them, read them, and let a call fail. They are all
-/// in the folder `.`: a path is a name in it. A path with no `/` is that of another folder, too. A file that is being written is
-/// locked until it is synced.
+/// Files in memory, of which all that [`Files`] promises is proved. Tests fill them, read them, and let a call fail. A
+/// file that is being written is locked until it is synced.
+///
+/// The path of a file is its name in the folder `.`, and may have a `/`. The path of another folder is any text without
+/// a `/`: such a folder is empty at first, and its files are reached by their locations, not by paths.
 #[derive(Drop)]
 pub struct MemoryFiles {
     alloc: Global,

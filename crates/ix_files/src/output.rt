@@ -1,8 +1,9 @@
 //! Where the output of a command goes.
 
-ghost use Rattle.std.specs.Prelude.{◌≡◌, ◌⊎◌, ℕ, List, [], Some, IfOk, IsErrOf, OnErr, OnOk};
+ghost use Rattle.std.specs.Prelude.{◌≡◌, ◌⊎◌, ℕ, List, [], Some, IfErr, IfOk, IsErrOf, OnErr, OnOk};
 ghost use Rattle.ix_files.specs.Drafts.{ChangesDrafts, HasDraft};
-ghost use Rattle.ix_files.specs.Outputs.{AreReady, IsBegunFor, LeavesOthers, LeavesTarget, saved_in};
+ghost use Rattle.ix_files.specs.Opened.{IsReadError};
+ghost use Rattle.ix_files.specs.Outputs.{AreReady, IsBegunFor, IsTargetOf, LeavesOthers, LeavesTarget, saved_in};
 ghost use Rattle.ix_files.specs.Slots.{Kept};
 ghost use Rattle.ix_files.specs.Views.{GoesOn};
 ghost use Rattle.ix_files.specs.declared.file_error.FileError.TheVariants.{Exists};
@@ -33,6 +34,22 @@ pub struct Output<W> {
     pub writer: W,
 }
 
+/// The name of the file that an output to a path will replace or create; none if the path leads to a device or a pipe.
+///
+/// # Errors
+/// `Memory`; `Failed`, also if the path leads to a folder or a socket, or if there is no such folder.
+pub fn locate_output<F: Files>(files: &F, path: &str) -> Result<Option<Location>, FileError>
+    ensures target { IfOk result (λ target. (F.view files.now).honest
+        → IsTargetOf (F.view files.now) path.now target) }
+    ensures error { IfErr result (IsReadError (Unit {0})) }
+{
+    match files.kind(path)? {
+        Kind::Missing | Kind::File => Ok(Some(files.locate(path)?)),
+        Kind::Stream => Ok(None),
+        Kind::Folder | Kind::Other => Err(FileError::Failed),
+    }
+}
+
 /// Begins the output to a path. A file there is untouched; `-` is the standard output.
 ///
 /// # Errors
@@ -53,9 +70,8 @@ pub fn begin_output<F: Files>(
     ensures taken { (F.view files.new).honest → IsErrOf result Exists
         → HasDraft ((F.view files.old).place path.now) (F.view files.new) }
 {
-    match files.kind(path)? {
-        Kind::Missing | Kind::File => {
-            let location = files.locate(path)?;
+    match locate_output(files, path)? {
+        Some(location) => {
             let Draft {
                 target,
                 own,
@@ -66,14 +82,13 @@ pub fn begin_output<F: Files>(
                 writer,
             })
         }
-        Kind::Stream => {
+        None => {
             let writer = files.open_stream(path)?;
             Ok(Output {
                 names: None,
                 writer,
             })
         }
-        Kind::Folder | Kind::Other => Err(FileError::Failed),
     }
 }
 

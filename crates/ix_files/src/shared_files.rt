@@ -52,10 +52,11 @@ pub trait SharedFiles: Drop + Send + Sync {
     /// # Errors
     /// `Memory`; `Failed`, also if there is no such place, or no file.
     fn open(&self, place: usize) -> Result<Self::Reader, FileError>
-        ensures opened { IfOk result (λ reader. IfSome (Self.Reader.remaining reader) (back self.now place)) }
+        ensures opened { IfOk result (λ reader.
+            IfSome (Self.Reader.remaining reader) (back self.now place)) }
         ensures error { IfErr result (IsReadError (Unit {0})) };
 
-    // Where a writer does not tell what it holds, nothing is known of files.
+    // If a writer does not tell what it holds, nothing is known of files.
     ghost untold: { (files : Self) (place : ℕ) (bytes : List ℕ) (writer : Self.Writer)
         → Self.Writer.contents writer ≡ None → kept files place bytes };
 }

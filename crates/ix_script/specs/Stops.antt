@@ -12,8 +12,6 @@ use Rattle.ix_live.specs.LiveErrors.{RefusesAddition, RefusesRemoval}
 use Rattle.ix_live.specs.Segments.{joined}
 use Rattle.ix_script.specs.Runs.{Changes, HoldsDocuments, Progress, documents_in}
 use Rattle.ix_script.specs.Steps.{Add, Ask, Publish, Remove, Step, Text}
-use Rattle.ix_script.specs.declared.collection_files.FileFault.{FileFault}
-use Rattle.ix_script.specs.declared.collection_files.FileFault.TheVariants as file
 use Rattle.ix_script.specs.declared.run_error.RunError.{RunError}
 use Rattle.ix_script.specs.declared.run_error.RunError.TheVariants.{Collection, Live, Memory, Unread, Write}
 
@@ -31,13 +29,8 @@ KeepsPublished before after = (after.stop ≡ before.stop) × (after.book ≡ be
 
 -- ---- why a step failed
 
--- why a file was not read: it is too large only if it has more bytes than a collection text may have
-abbrev pub IsFileFault : (Text → Type 0) → FileFault → Type 0
-IsFileFault Holds file.Refused = Unit {0}
-IsFileFault Holds file.TooLarge = (text : Text) × Holds text × (2 ^ 28 < length text)
-IsFileFault Holds file.Memory = Unit {0}
-
--- why there are no bytes of a file of this path
+-- why there are no bytes of a file of this path: it cannot be read, it has more bytes than a collection text may have, or the call was
+-- out of memory
 abbrev pub IsUnread : (Text → Type 0) → Text → RunError → Type 0
 IsUnread Holds path (Unread named) = named.now ≡ path
 IsUnread Holds path (Collection error) = (error ≡ collection.TooLarge) × (text : Text) × Holds text × (2 ^ 28 < length text)

@@ -1,5 +1,6 @@
 //! The additions and removals of a script.
 ghost use Rattle.std.specs.Prelude.{◌≡◌, ◌<◌, [], ◌∷◌, false, IfErr, IfOk, OnOk, length, map};
+ghost use Rattle.ix_files.specs.Reading.{held_in};
 ghost use Rattle.ix_text.specs.CollectionText.{IsCollectionText};
 ghost use Rattle.ix_script.specs.Groups.{IsGroup, is_publish};
 ghost use Rattle.ix_script.specs.Runs.{Changes};
@@ -7,15 +8,18 @@ ghost use Rattle.ix_script.specs.Steps.{Add, step_of};
 ghost use Rattle.ix_script.specs.Stops.{IsNoCollection, IsUnread, KeepsPublished, RefusesChanges};
 ghost use Rattle.ix_script.specs.Stops.{RefusesStep, progress_of};
 
-use crate::collection_files::{CollectionFiles, FileFault};
 use crate::run_error::RunError;
 use crate::step::Step;
 use ix_build::Plan;
+use ix_files::{FileError, Files, read_front};
 use ix_live::Indexer;
-use ix_text::{Collection, CollectionError};
+use ix_text::{Collection, CollectionError, MAX_TEXT_BYTES};
 use std::alloc::Global;
 use std::sync::Wait;
 use std::thread::Threads;
+
+/// One byte more than a collection text may have, so that no more of a longer one is read.
+const ROOM: usize = MAX_TEXT_BYTES + 1;
 
 /// Why the additions and removals among steps were not all carried out: the step at this place failed.
 #[derive(Drop)]
@@ -28,7 +32,7 @@ pub struct Stopped<'t> {
 
 /// Carries out the additions and removals of a group, up to the first that fails; what they make waits to be
 /// published.
-pub fn change_all<'t, R: Threads + Wait + Sync, F: CollectionFiles>(
+pub fn change_all<'t, R: Threads + Wait + Sync, F: Files>(
     rt: &R,
     alloc: Global,
     files: &F,
@@ -38,10 +42,10 @@ pub fn change_all<'t, R: Threads + Wait + Sync, F: CollectionFiles>(
 ) -> Result<(), Stopped<'t>>
     requires { IsGroup (map step_of group.now) }
     ensures same { KeepsPublished indexer.old indexer.new }
-    ensures changed { OnOk result (Changes (F.holds files.now) indexer.old.stop
+    ensures changed { OnOk result (Changes (held_in (F.view files.now)) indexer.old.stop
         (map step_of group.now) (progress_of indexer.old) (progress_of indexer.new)) }
     ensures place { IfErr result (λ stopped. stopped.place < length group.now) }
-    ensures refused { IfErr result (λ stopped. RefusesChanges (F.holds files.now)
+    ensures refused { IfErr result (λ stopped. RefusesChanges (held_in (F.view files.now))
         plan.now.workers indexer.old.stop (map step_of group.now) (progress_of indexer.old)
         stopped.error) }
 {
@@ -56,7 +60,7 @@ pub fn change_all<'t, R: Threads + Wait + Sync, F: CollectionFiles>(
 }
 
 /// Carries out an addition or a removal; an ask is left out.
-fn change<'t, R: Threads + Wait + Sync, F: CollectionFiles>(
+fn change<'t, R: Threads + Wait + Sync, F: Files>(
     rt: &R,
     alloc: Global,
     files: &F,
@@ -66,9 +70,9 @@ fn change<'t, R: Threads + Wait + Sync, F: CollectionFiles>(
 ) -> Result<(), RunError<'t>>
     requires { is_publish (step_of step.now) ≡ false }
     ensures same { KeepsPublished indexer.old indexer.new }
-    ensures changed { OnOk result (Changes (F.holds files.now) indexer.old.stop
+    ensures changed { OnOk result (Changes (held_in (F.view files.now)) indexer.old.stop
         (step_of step.now ∷ []) (progress_of indexer.old) (progress_of indexer.new)) }
-    ensures refused { IfErr result (RefusesStep (F.holds files.now) plan.now.workers
+    ensures refused { IfErr result (RefusesStep (held_in (F.view files.now)) plan.now.workers
         indexer.old.stop (step_of step.now) (progress_of indexer.old)) }
 {
     match step {
@@ -83,7 +87,7 @@ fn change<'t, R: Threads + Wait + Sync, F: CollectionFiles>(
 }
 
 /// Adds the documents of a collection file.
-fn add<'t, R: Threads + Wait + Sync, F: CollectionFiles>(
+fn add<'t, R: Threads + Wait + Sync, F: Files>(
     rt: &R,
     alloc: Global,
     files: &F,
@@ -92,12 +96,12 @@ fn add<'t, R: Threads + Wait + Sync, F: CollectionFiles>(
     path: &'t str,
 ) -> Result<(), RunError<'t>>
     ensures same { KeepsPublished indexer.old indexer.new }
-    ensures changed { OnOk result (Changes (F.holds files.now) indexer.old.stop
+    ensures changed { OnOk result (Changes (held_in (F.view files.now)) indexer.old.stop
         (Add path.entry.now ∷ []) (progress_of indexer.old) (progress_of indexer.new)) }
-    ensures refused { IfErr result (RefusesStep (F.holds files.now) plan.now.workers
+    ensures refused { IfErr result (RefusesStep (held_in (F.view files.now)) plan.now.workers
         indexer.old.stop (Add path.entry.now) (progress_of indexer.old)) }
 {
-    let text = read(files, path)?;
+    let text = read(alloc, files, path)?;
     let documents = documents_of(alloc, &text)?;
     match indexer.add(rt, &documents, plan) {
         Ok(()) => Ok(()),
@@ -106,16 +110,22 @@ fn add<'t, R: Threads + Wait + Sync, F: CollectionFiles>(
 }
 
 /// The bytes of a collection file.
-fn read<'t, F: CollectionFiles>(files: &F, path: &'t str) -> Result<Vec<u8>, RunError<'t>>
-    ensures held { IfOk result (λ bytes. F.holds files.now path.entry.now bytes.items) }
+fn read<'t, F: Files>(alloc: Global, files: &F, path: &'t str) -> Result<Vec<u8>, RunError<'t>>
+    ensures held { IfOk result (λ bytes. held_in (F.view files.now) path.entry.now bytes.items) }
     ensures refused { IfErr result
-        (IsUnread (F.holds files.now path.entry.now) path.entry.now) }
+        (IsUnread (held_in (F.view files.now) path.entry.now) path.entry.now) }
 {
-    match files.read(path) {
-        Ok(bytes) => Ok(bytes),
-        Err(FileFault::Refused) => Err(RunError::Unread(path)),
-        Err(FileFault::TooLarge) => Err(RunError::Collection(CollectionError::TooLarge)),
-        Err(FileFault::Memory) => Err(RunError::Memory),
+    match read_front(alloc, files, path, ROOM) {
+        Ok(bytes) => {
+            if bytes.len() == ROOM {
+                return Err(RunError::Collection(CollectionError::TooLarge));
+            }
+            Ok(bytes)
+        }
+        Err(FileError::Memory) => Err(RunError::Memory),
+        Err(FileError::Failed | FileError::Exists | FileError::Locked) => {
+            Err(RunError::Unread(path))
+        }
     }
 }
 

@@ -1,5 +1,6 @@
 //! A group of a script: its asks are answered while its additions and removals are carried out.
 ghost use Rattle.std.specs.Prelude.{◌≡◌, ◌<◌, ◌⊎◌, Ok, IfErr, IfOk, IsErrAnd, OnOk, length, map};
+ghost use Rattle.ix_files.specs.Reading.{held_in};
 ghost use Rattle.ix_script.specs.Answers.{AreAnswers};
 ghost use Rattle.ix_script.specs.Groups.{IsGroup};
 ghost use Rattle.ix_script.specs.Jobs.{names_in};
@@ -11,12 +12,12 @@ ghost use Rattle.ix_script.specs.Stops.{RefusesGroup, progress_of};
 ghost use Rattle.ix_script.specs.declared.run_error.RunError.TheVariants.{Memory};
 
 use crate::changing::{Stopped, change_all};
-use crate::collection_files::CollectionFiles;
 use crate::printing::queries_of;
 use crate::run_error::RunError;
 use crate::step::Step;
 use crate::team::Team;
 use ix_build::Plan;
+use ix_files::Files;
 use ix_live::Indexer;
 use ix_text::Memory as MemoryRefused;
 use std::alloc::{AllocError, Global};
@@ -27,7 +28,7 @@ use std::thread::Threads;
 /// published. The answers are lists of names, one for each ask, in order.
 ///
 /// If steps fail, the error is that of the first of them.
-pub fn run_group<'t, R: Threads + Wait + Sync, F: CollectionFiles>(
+pub fn run_group<'t, R: Threads + Wait + Sync, F: Files>(
     rt: &R,
     alloc: Global,
     files: &F,
@@ -40,19 +41,19 @@ pub fn run_group<'t, R: Threads + Wait + Sync, F: CollectionFiles>(
     requires team { IsTeamOf indexer.old team }
     ensures same { KeepsPublished indexer.old indexer.new }
     ensures team { IfOk result (λ r. r.0 ≡ team) }
-    ensures ran { IfOk result (λ r. Runs (F.holds files.now) indexer.old.stop
+    ensures ran { IfOk result (λ r. Runs (held_in (F.view files.now)) indexer.old.stop
         (map step_of group.now) (progress_of indexer.old) (progress_of indexer.new)
         (answered_with (map step_of group.now) (map names_in r.1.items))) }
     ensures count { IfOk result (λ r. length (map names_in r.1.items)
         ≡ length (asked_in (map step_of group.now))) }
-    ensures refused { IfErr result (RefusesGroup (F.holds files.now) plan.now.workers
+    ensures refused { IfErr result (RefusesGroup (held_in (F.view files.now)) plan.now.workers
         indexer.old.stop (map step_of group.now) (progress_of indexer.old)) }
 {
     answer_and_change(rt, alloc, files, plan, indexer, team, group)
 }
 
 /// Carries out the additions and removals of a group, and meanwhile answers its asks after just what is published.
-fn answer_and_change<'t, R: Threads + Wait + Sync, F: CollectionFiles>(
+fn answer_and_change<'t, R: Threads + Wait + Sync, F: Files>(
     rt: &R,
     alloc: Global,
     files: &F,
@@ -65,12 +66,12 @@ fn answer_and_change<'t, R: Threads + Wait + Sync, F: CollectionFiles>(
     requires team { IsTeamOf indexer.old team }
     ensures same { KeepsPublished indexer.old indexer.new }
     ensures team { IfOk result (λ r. r.0 ≡ team) }
-    ensures changed { IfOk result (λ r. Changes (F.holds files.now) indexer.old.stop
+    ensures changed { IfOk result (λ r. Changes (held_in (F.view files.now)) indexer.old.stop
         (map step_of group.now) (progress_of indexer.old) (progress_of indexer.new)) }
     ensures answers { IfOk result (λ r. AreAnswers indexer.old.stop
         (progress_of indexer.old).published
         (asked_in (map step_of group.now)) (map names_in r.1.items)) }
-    ensures refused { IfErr result (RefusesGroup (F.holds files.now) plan.now.workers
+    ensures refused { IfErr result (RefusesGroup (held_in (F.view files.now)) plan.now.workers
         indexer.old.stop (map step_of group.now) (progress_of indexer.old)) }
 {
     let queries = match queries_of(alloc, group) {
@@ -80,11 +81,11 @@ fn answer_and_change<'t, R: Threads + Wait + Sync, F: CollectionFiles>(
     let mut changes = || -> Result<(), Stopped<'_>>
         requires { IsGroup (map step_of group.now) }
         ensures same { KeepsPublished indexer.entry.now indexer.exit.now }
-        ensures changed { OnOk result (Changes (F.holds files.entry.now) indexer.entry.now.stop
-            (map step_of group.entry.now) (progress_of indexer.entry.now)
+        ensures changed { OnOk result (Changes (held_in (F.view files.entry.now))
+            indexer.entry.now.stop (map step_of group.entry.now) (progress_of indexer.entry.now)
             (progress_of indexer.exit.now)) }
         ensures place { IfErr result (λ stopped. stopped.place < length group.entry.now) }
-        ensures refused { IfErr result (λ stopped. RefusesChanges (F.holds files.entry.now)
+        ensures refused { IfErr result (λ stopped. RefusesChanges (held_in (F.view files.entry.now))
             plan.entry.now.workers indexer.entry.now.stop (map step_of group.entry.now)
             (progress_of indexer.entry.now) stopped.error) }
     { change_all(rt, alloc, files, plan, indexer, group) };

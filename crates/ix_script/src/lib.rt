@@ -4,7 +4,6 @@
 
 mod asking;
 mod changing;
-mod collection_files;
 mod error;
 mod group_running;
 mod groups;
@@ -18,14 +17,9 @@ mod step;
 mod team;
 mod writing;
 
-pub use collection_files::{CollectionFiles, FileFault};
 pub use error::ScriptError;
-pub use group_running::run_group;
-pub use groups::first_group;
 pub use laws::has_steps_or_a_fault;
 pub use read::read_script;
 pub use run_error::RunError;
 pub use running::run_steps;
 pub use step::Step;
-pub use team::Team;
-pub use writing::write_answers;

@@ -1,5 +1,6 @@
 //! Carrying out the steps of a script, group by group.
 ghost use Rattle.std.specs.Prelude.{◌≡◌, ◌<◌, ◌≤◌, ◌⊎◌, All, IfErr, IfOk, OnOk, length, map, take, vec_len};
+ghost use Rattle.ix_files.specs.Reading.{held_in};
 ghost use Rattle.ix_live.specs.declared.live_error.LiveError.TheVariants as live_error;
 ghost use Rattle.ix_script.specs.Groups.{IsGroup};
 ghost use Rattle.ix_script.specs.Runs.{published};
@@ -9,7 +10,6 @@ ghost use Rattle.ix_script.specs.Stops.{IsTeamOf, KeepsPublished, progress_of};
 ghost use Rattle.ix_script.specs.Stretches.{CarriesOut, Stops};
 ghost use Rattle.ix_script.specs.declared.run_error.RunError.TheVariants.{Live};
 
-use crate::collection_files::CollectionFiles;
 use crate::group_running::run_group;
 use crate::groups::first_group;
 use crate::run_error::RunError;
@@ -17,6 +17,7 @@ use crate::step::Step;
 use crate::team::Team;
 use crate::writing::write_answers;
 use ix_build::Plan;
+use ix_files::Files;
 use ix_live::{Indexer, Searcher, live};
 use ix_text::StopList;
 use std::alloc::Global;
@@ -30,7 +31,7 @@ use std::thread::Threads;
 ///
 /// The first step that fails ends it. Of its group nothing is written then, unless the output itself failed: then a
 /// beginning of its answers may be out.
-pub fn run_steps<'t, R: Threads + Wait + Sync, F: CollectionFiles, W: Write>(
+pub fn run_steps<'t, R: Threads + Wait + Sync, F: Files, W: Write>(
     rt: &R,
     alloc: Global,
     files: &F,
@@ -41,9 +42,9 @@ pub fn run_steps<'t, R: Threads + Wait + Sync, F: CollectionFiles, W: Write>(
     out: &mut W,
 ) -> Result<bool, RunError<'t>>
     requires { (1 ≤ searchers) × (searchers ≤ 64) }
-    ensures ran { IfOk result (IsCarriedOut (F.holds files.now) stop (map step_of steps.now)
-        (W.contents out.old) (W.contents out.new)) }
-    ensures refused { IfErr result (IsStopped (F.holds files.now) plan.now.workers stop
+    ensures ran { IfOk result (IsCarriedOut (held_in (F.view files.now)) stop
+        (map step_of steps.now) (W.contents out.old) (W.contents out.new)) }
+    ensures refused { IfErr result (IsStopped (held_in (F.view files.now)) plan.now.workers stop
         (map step_of steps.now) (W.contents out.old) (W.contents out.new)) }
 {
     let Ok((mut indexer, searchers)) = live(rt, alloc, stop, searchers) else {
@@ -55,7 +56,7 @@ pub fn run_steps<'t, R: Threads + Wait + Sync, F: CollectionFiles, W: Write>(
 }
 
 /// Carries out the steps of a script on a live index to which nothing was done.
-fn run_new<'t, R: Threads + Wait + Sync, F: CollectionFiles, W: Write>(
+fn run_new<'t, R: Threads + Wait + Sync, F: Files, W: Write>(
     rt: &R,
     alloc: Global,
     files: &F,
@@ -67,11 +68,12 @@ fn run_new<'t, R: Threads + Wait + Sync, F: CollectionFiles, W: Write>(
 ) -> Result<bool, RunError<'t>>
     requires new { progress_of indexer.old ≡ nothing_yet }
     requires some { 0 < vec_len searchers }
-    ensures ran { IfOk result (CarriesOut (F.holds files.now) indexer.old.stop
+    ensures ran { IfOk result (CarriesOut (held_in (F.view files.now)) indexer.old.stop
         (map step_of steps.now) nothing_yet (progress_of indexer.new)
         (W.contents out.old) (W.contents out.new)) }
-    ensures refused { IfErr result (Stops (F.holds files.now) plan.now.workers indexer.old.stop
-        (map step_of steps.now) nothing_yet (W.contents out.old) (W.contents out.new)) }
+    ensures refused { IfErr result (Stops (held_in (F.view files.now)) plan.now.workers
+        indexer.old.stop (map step_of steps.now) nothing_yet
+        (W.contents out.old) (W.contents out.new)) }
 {
     // A team answers after news, so nothing is published first.
     let Ok(news) = indexer.publish(rt) else {
@@ -82,7 +84,7 @@ fn run_new<'t, R: Threads + Wait + Sync, F: CollectionFiles, W: Write>(
 }
 
 /// Carries out the steps of a script, group by group.
-fn run_on<'t, R: Threads + Wait + Sync, F: CollectionFiles, W: Write>(
+fn run_on<'t, R: Threads + Wait + Sync, F: Files, W: Write>(
     rt: &R,
     alloc: Global,
     files: &F,
@@ -93,11 +95,11 @@ fn run_on<'t, R: Threads + Wait + Sync, F: CollectionFiles, W: Write>(
     out: &mut W,
 ) -> Result<bool, RunError<'t>>
     requires team { IsTeamOf indexer.old team }
-    ensures ran { IfOk result (CarriesOut (F.holds files.now) indexer.old.stop
+    ensures ran { IfOk result (CarriesOut (held_in (F.view files.now)) indexer.old.stop
         (map step_of steps.now) (progress_of indexer.old) (progress_of indexer.new)
         (W.contents out.old) (W.contents out.new)) }
-    ensures refused { IfErr result (Stops (F.holds files.now) plan.now.workers indexer.old.stop
-        (map step_of steps.now) (progress_of indexer.old)
+    ensures refused { IfErr result (Stops (held_in (F.view files.now)) plan.now.workers
+        indexer.old.stop (map step_of steps.now) (progress_of indexer.old)
         (W.contents out.old) (W.contents out.new)) }
 {
     let mut team = team;
@@ -123,7 +125,7 @@ struct Round {
 }
 
 /// Carries out the steps up to the first publish, and publishes; or all steps, if none publishes.
-fn run_round<'t, R: Threads + Wait + Sync, F: CollectionFiles, W: Write>(
+fn run_round<'t, R: Threads + Wait + Sync, F: Files, W: Write>(
     rt: &R,
     alloc: Global,
     files: &F,
@@ -142,11 +144,11 @@ fn run_round<'t, R: Threads + Wait + Sync, F: CollectionFiles, W: Write>(
     ensures published { IfOk result (λ round.
         ArePublished (map step_of (take round.count steps.now))
         ⊎ (round.count ≡ length steps.now)) }
-    ensures ran { IfOk result (λ round. CarriesOut (F.holds files.now) indexer.old.stop
+    ensures ran { IfOk result (λ round. CarriesOut (held_in (F.view files.now)) indexer.old.stop
         (map step_of (take round.count steps.now)) (progress_of indexer.old)
         (progress_of indexer.new) (W.contents out.old) (W.contents out.new) round.found) }
-    ensures refused { IfErr result (Stops (F.holds files.now) plan.now.workers indexer.old.stop
-        (map step_of steps.now) (progress_of indexer.old)
+    ensures refused { IfErr result (Stops (held_in (F.view files.now)) plan.now.workers
+        indexer.old.stop (map step_of steps.now) (progress_of indexer.old)
         (W.contents out.old) (W.contents out.new)) }
 {
     let (group, rest) = first_group(steps);
@@ -167,7 +169,7 @@ fn run_round<'t, R: Threads + Wait + Sync, F: CollectionFiles, W: Write>(
 }
 
 /// Carries out a group, writes the answers to its asks, and returns whether a name is among them.
-fn answer_group<'t, R: Threads + Wait + Sync, F: CollectionFiles, W: Write>(
+fn answer_group<'t, R: Threads + Wait + Sync, F: Files, W: Write>(
     rt: &R,
     alloc: Global,
     files: &F,
@@ -181,11 +183,11 @@ fn answer_group<'t, R: Threads + Wait + Sync, F: CollectionFiles, W: Write>(
     requires team { IsTeamOf indexer.old team }
     ensures same { KeepsPublished indexer.old indexer.new }
     ensures team { IfOk result (λ r. r.0 ≡ team) }
-    ensures ran { IfOk result (λ r. CarriesOut (F.holds files.now) indexer.old.stop
+    ensures ran { IfOk result (λ r. CarriesOut (held_in (F.view files.now)) indexer.old.stop
         (map step_of group.now) (progress_of indexer.old) (progress_of indexer.new)
         (W.contents out.old) (W.contents out.new) r.1) }
-    ensures refused { IfErr result (Stops (F.holds files.now) plan.now.workers indexer.old.stop
-        (map step_of group.now) (progress_of indexer.old)
+    ensures refused { IfErr result (Stops (held_in (F.view files.now)) plan.now.workers
+        indexer.old.stop (map step_of group.now) (progress_of indexer.old)
         (W.contents out.old) (W.contents out.new)) }
 {
     let (team, answers) = run_group(rt, alloc, files, plan, indexer, team, group)?;

@@ -4,14 +4,13 @@ ghost use Rattle.std.specs.Prelude.{◌≡◌, ℕ, List, take, IfOk, IfErr, IsS
 ghost use Rattle.ix_text.specs.StopText.{IsStopText};
 ghost use Rattle.ix_command.specs.AskedFiles.{IsAnsweredFromFiles, IsAskRefused, IsNoStopText, IsStopHeld};
 ghost use Rattle.ix_command.specs.AskedFiles.{RefusesStop};
-ghost use Rattle.ix_command.specs.Files.{IsFront, held_in};
+ghost use Rattle.ix_files.specs.Reading.{IsFront, held_in};
 ghost use Rattle.ix_command.specs.Refusals.{IsUnread};
 
-use crate::reading::read_front;
 use crate::refusal::Refusal;
 use ix_ask::{EngineRefusal, ask};
 use ix_build::Plan;
-use ix_files::Files;
+use ix_files::{Files, read_front};
 use ix_text::{MAX_TEXT_BYTES, StopError, StopList};
 use std::alloc::Global;
 use std::io::Write;

@@ -8,9 +8,10 @@ ghost use Rattle.ix_build.specs.RunNames.{IsRunOf};
 ghost use Rattle.ix_build.specs.RunPieces.{AreRunsOfTexts};
 ghost use Rattle.ix_command.specs.BuiltIndexes.{AreOfFiles, ComeBack, IsBuildRefused, IsBuilt, IsUnbuilt, RefusesDocuments};
 ghost use Rattle.ix_command.specs.BuiltRuns.{IsOfRuns, LeavesNoRuns, RemovesRuns};
-ghost use Rattle.ix_command.specs.Files.{held_in, keeping_of};
+ghost use Rattle.ix_command.specs.Files.{keeping_of};
 ghost use Rattle.ix_command.specs.SavedIndexes.{SavesAlike, SavesIndex};
 ghost use Rattle.ix_files.specs.Outputs.{LeavesOthers, LeavesTarget, now_in, saved_in};
+ghost use Rattle.ix_files.specs.Reading.{held_in};
 
 use crate::commands::ask::{read_file, read_stop_list};
 use crate::outputs::{begin, check_output, end, keep_apart, lock_runs};

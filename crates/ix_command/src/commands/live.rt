@@ -1,20 +1,19 @@
 //! `ix live`: carries out a script on a live index.
 
 ghost use Rattle.std.specs.Prelude.{◌≡◌, List, ℕ, IfOk, IfErr, map};
-ghost use Rattle.ix_command.specs.Files.{held_in};
+ghost use Rattle.ix_files.specs.Reading.{held_in};
 ghost use Rattle.ix_script.specs.Steps.{IsScript, step_of};
 ghost use Rattle.ix_command.specs.LiveScripts.{IsCarriedOutTold, IsLiveRefused, IsLived, IsNoScript};
 ghost use Rattle.ix_command.specs.LiveScripts.{IsStoppedTold};
 ghost use Rattle.ix_command.specs.Refusals.{IsUnread};
 
 use crate::commands::ask::{ROOM, read_file, read_stop_list};
-use crate::reading::read_up_to;
 use crate::refusal::Refusal;
 use ix_ask::EngineRefusal;
 use ix_build::Plan;
-use ix_files::{FileError, Files};
+use ix_files::Files;
 use ix_line::Searchers;
-use ix_script::{CollectionFiles, FileFault, ScriptError, Step, read_script, run_steps};
+use ix_script::{ScriptError, Step, read_script, run_steps};
 use ix_text::StopList;
 use std::alloc::Global;
 use std::io::Write;
@@ -109,38 +108,8 @@ fn carry_out<'a, R: Threads + Wait + Sync, F: Files, W: Write>(
     ensures refused { IfErr result (IsStoppedTold (held_in (F.view files.now)) plan.now.workers stop
         (map step_of steps.now) (W.contents out.old) (W.contents out.new)) }
 {
-    let added = Added { alloc, files };
-    match run_steps(rt, alloc, &added, plan, stop, searchers.count(), steps, out) {
+    match run_steps(rt, alloc, files, plan, stop, searchers.count(), steps, out) {
         Ok(found) => Ok(if found { FOUND } else { NOTHING }),
         Err(error) => Err(Refusal::stopped(alloc, error)),
-    }
-}
-
-/// The files of a line, as the collection files that a script names.
-#[derive(Drop)]
-struct Added<'f, F> {
-    alloc: Global,
-    files: &'f F,
-}
-
-impl<F: Files> CollectionFiles for Added<'_, F> {
-    ghost holds = { λ added. held_in (F.view added.files.now) };
-
-    fn read(&self, path: &str) -> Result<Vec<u8>, FileFault> {
-        let reader = match self.files.open(path) {
-            Ok(reader) => reader,
-            Err(FileError::Memory) => return Err(FileFault::Memory),
-            Err(_) => return Err(FileFault::Refused),
-        };
-        match read_up_to(self.alloc, reader, ROOM) {
-            Ok(bytes) => {
-                if bytes.len() == ROOM {
-                    return Err(FileFault::TooLarge);
-                }
-                Ok(bytes)
-            }
-            Err(FileError::Memory) => Err(FileFault::Memory),
-            Err(_) => Err(FileFault::Refused),
-        }
     }
 }

@@ -3,8 +3,8 @@
 ghost use Rattle.std.specs.Prelude.{◌⊎◌, All, IfErr, OnErr, OnOk, map};
 ghost use Rattle.ix_merge.specs.AnySources.{SourceHasGiven, SourceMayYield, heading_of_source};
 ghost use Rattle.ix_run.specs.Sources.{IsUnread};
-ghost use Rattle.ix_command.specs.Files.{held_in};
 ghost use Rattle.ix_files.specs.Outputs.{LeavesOthers, LeavesTarget, now_in, saved_in};
+ghost use Rattle.ix_files.specs.Reading.{held_in};
 ghost use Rattle.ix_line.specs.Lines.{texts_of};
 ghost use Rattle.ix_command.specs.MergedRuns.{IsMerged, IsMergeRefused, RefusesMerge, SavesConcatenation};
 

@@ -3,8 +3,8 @@
 ghost use Rattle.std.specs.Prelude.{◌⊎◌, IfOk, IfErr, OnErr, OnOk};
 ghost use Rattle.std.specs.Io.KnownBytes.{Appends};
 ghost use Rattle.ix_run.specs.Runs.{run_bytes};
-ghost use Rattle.ix_command.specs.Files.{held_in};
 ghost use Rattle.ix_files.specs.Outputs.{LeavesOthers, LeavesTarget, now_in, saved_in};
+ghost use Rattle.ix_files.specs.Reading.{held_in};
 ghost use Rattle.ix_command.specs.Refusals.{IsUnsaved};
 ghost use Rattle.ix_command.specs.WrittenRuns.{HasRun, IsRunRefused, IsRunSaved, RefusesRun};
 

@@ -1,7 +1,7 @@
 //! `ix terms`: lists terms of an index file.
 
 ghost use Rattle.std.specs.Prelude.{IfOk, IfErr};
-ghost use Rattle.ix_command.specs.Files.{held_in};
+ghost use Rattle.ix_files.specs.Reading.{held_in};
 ghost use Rattle.ix_command.specs.IndexFiles.{IsListingRefused, IsPrintedFromFile};
 
 use crate::index_file::open_index;

@@ -5,9 +5,9 @@ ghost use Rattle.ix_text.specs.Collections.{Collection};
 ghost use Rattle.ix_file.specs.Endings.{WritesIndexText};
 ghost use Rattle.ix_file.specs.Opened.{IsIndexOf};
 ghost use Rattle.ix_file.specs.Sections.{Version};
-ghost use Rattle.ix_command.specs.Files.{held_in};
 ghost use Rattle.ix_command.specs.Refusals.{IsUnsaved};
 ghost use Rattle.ix_files.specs.Outputs.{LeavesOthers, LeavesTarget, now_in, saved_in};
+ghost use Rattle.ix_files.specs.Reading.{held_in};
 ghost use Rattle.ix_command.specs.SavedIndexes.{SavesIndex};
 ghost use Rattle.ix_command.specs.Upgrades.{IsUpgradeRefused, IsUpgraded};
 

@@ -1,7 +1,7 @@
 -- What was read of the file is all of it.
 use Rattle.std.proofs.Common.{◌<◌, length, arith}
 use Rattle.ix_command.proofs.IndexLemmas.{index_room, opened_whole, refused_whole}
-use Rattle.ix_command.specs.Files.{held_in}
+use Rattle.ix_files.specs.Reading.{held_in}
 use Rattle.ix_command.proofs.index_file.open_index.Goals as goal
 
 pub returns-in-Ok-open_beside-clause-opened : goal.returns-in-Ok-open_beside-clause-opened

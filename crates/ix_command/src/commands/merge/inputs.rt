@@ -1,7 +1,7 @@
 //! The files that are merged, opened, and the numbers at which the documents of indexes begin.
 
 ghost use Rattle.std.specs.Prelude.{◌≡◌, ◌≤◌, ◌^◌, ◌∷◌, [], ◌++◌, IfOk, IfErr, OnOk, length};
-ghost use Rattle.ix_command.specs.Files.{held_in};
+ghost use Rattle.ix_files.specs.Reading.{held_in};
 ghost use Rattle.ix_line.specs.Lines.{texts_of};
 ghost use Rattle.ix_command.specs.MergedRuns.{RefusesHead, RefusesInput, RefusesInputs};
 ghost use Rattle.ix_command.specs.MergedRuns.{end_of as end_of_heading};

@@ -1,6 +1,7 @@
 -- The steps before the place were carried out.
 use Rattle.std.proofs.Common.{rules, ◌≡◌, false, ◌∙◌, ◌∷◌, [], arith, map, take, drop, subst, sym, suc}
 use Rattle.std.proofs.lemmas.List.{take_all}
+use Rattle.ix_files.specs.Reading.{held_in}
 use Rattle.ix_script.specs.Groups.{is_publish}
 use Rattle.ix_script.specs.Runs.{Changes}
 use Rattle.ix_script.specs.Steps.{step_of}
@@ -19,7 +20,7 @@ change-requires g c =
 pub loop-place-preserved : goal.loop-place-preserved
 loop-place-preserved g c =
     let inv = c.loop-place.invariant in
-    let holds = g.F.CollectionFiles.holds c.args.files.now in
+    let holds = held_in (g.F.Files.view c.args.files.now) in
     let step = c.index-group-place.result in
     let steps = c.args.group.now in
     let place = c.loop-place.place in
@@ -45,7 +46,7 @@ returns-in-Err-clause-refused g c =
       now = progress_of c.loop-place.indexer;
       cut = cut_at steps place c.index-group-place.result c.loop-place-test.true c.index-group-place.is;
       changed = inv.changed;
-      refused = subst (λ stop. RefusesStep (g.F.CollectionFiles.holds c.args.files.now) c.args.plan.now.workers stop (step_of c.index-group-place.result) (progress_of c.loop-place.indexer) c.in-Err.error) inv.stop c.in-Err.ensures.refused;
+      refused = subst (λ stop. RefusesStep (held_in (g.F.Files.view c.args.files.now)) c.args.plan.now.workers stop (step_of c.index-group-place.result) (progress_of c.loop-place.indexer) c.in-Err.error) inv.stop c.in-Err.ensures.refused;
     }
 
 pub returns-clause-changed : goal.returns-clause-changed

@@ -1,4 +1,5 @@
 use Rattle.std.proofs.Common.{◌≡◌, ◌-◌, ◌≤◌, length, map, take}
+use Rattle.ix_files.specs.Reading.{held_in}
 use Rattle.ix_script.specs.Runs.{Changes}
 use Rattle.ix_script.specs.Steps.{step_of}
 use Rattle.ix_script.specs.Stops.{progress_of}
@@ -10,7 +11,7 @@ invariant-loop-place g l = record {
   stop : l.indexer.stop ≡ l.fn.indexer.stop;
   book : l.indexer.book ≡ l.fn.indexer.book;
   published : l.indexer.published ≡ l.fn.indexer.published;
-  changed : Changes (g.F.CollectionFiles.holds l.files) l.fn.indexer.stop (map step_of (take l.place l.group)) (progress_of l.fn.indexer) (progress_of l.indexer);
+  changed : Changes (held_in (g.F.Files.view l.files)) l.fn.indexer.stop (map step_of (take l.place l.group)) (progress_of l.fn.indexer) (progress_of l.indexer);
 }
 
 abbrev pub decreases-loop-place : goal.decreases-loop-place

@@ -1,6 +1,7 @@
 -- One round after another.
 use Rattle.std.proofs.Common.{◌-◌, ◌∙◌, arith, drop, length, length-drop, map, take}
 use Rattle.std.proofs.lemmas.List.{take_all}
+use Rattle.ix_files.specs.Reading.{held_in}
 use Rattle.ix_script.specs.Steps.{step_of}
 use Rattle.ix_script.proofs.ScriptLemmas.{carries_then, carries_then_stops, handed_on, more_is_published, so_far_published, stretch_more, stretch_rest}
 use Rattle.ix_script.proofs.running.run_on.Goals as goal
@@ -10,7 +11,7 @@ returns-in_err-round-clause-refused g c =
     let inv = c.loop-place.invariant in
     let steps = c.args.steps.now in
     let place = c.loop-place.place in
-    let holds = g.F.CollectionFiles.holds c.args.files.now in
+    let holds = held_in (g.F.Files.view c.args.files.now) in
     let rest = take_all (length steps - place) (drop place steps) (omega (arith, length-drop place steps)) in
     let stops = rw (rest, inv.stop) at c.in_err-round.ensures.refused in
     let all = carries_then_stops holds c.args.indexer.now.stop c.args.plan.now.workers (map step_of (take place steps)) (map step_of (drop place steps)) _ _ _ _ _ c.loop-place.found _
@@ -24,7 +25,7 @@ loop-place-preserved g c =
     let steps = c.args.steps.now in
     let place = c.loop-place.place in
     let count = c.in_ok-round.round.count in
-    let holds = g.F.CollectionFiles.holds c.args.files.now in
+    let holds = held_in (g.F.Files.view c.args.files.now) in
     let rest = take_all (length steps - place) (drop place steps) (omega (arith, length-drop place steps)) in
     let more = stretch_more step_of steps place count in
     let ran = rw (rest, inv.stop) at c.in_ok-round.ensures.ran in

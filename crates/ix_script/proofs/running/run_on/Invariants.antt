@@ -1,4 +1,5 @@
 use Rattle.std.proofs.Common.{◌≡◌, ◌-◌, ◌≤◌, ◌⊎◌, length, map, take}
+use Rattle.ix_files.specs.Reading.{held_in}
 use Rattle.ix_script.specs.Scripts.{ArePublished}
 use Rattle.ix_script.specs.Steps.{step_of}
 use Rattle.ix_script.specs.Stops.{IsTeamOf, progress_of}
@@ -11,7 +12,7 @@ invariant-loop-place g l = record {
   stop : l.indexer.stop ≡ l.fn.indexer.stop;
   team : IsTeamOf l.indexer l.team;
   published : ArePublished (map step_of (take l.place l.steps)) ⊎ l.place ≡ length l.steps;
-  carried : CarriesOut (g.F.CollectionFiles.holds l.files) l.fn.indexer.stop (map step_of (take l.place l.steps)) (progress_of l.fn.indexer) (progress_of l.indexer)
+  carried : CarriesOut (held_in (g.F.Files.view l.files)) l.fn.indexer.stop (map step_of (take l.place l.steps)) (progress_of l.fn.indexer) (progress_of l.indexer)
       (g.W.Write.contents l.fn.out) (g.W.Write.contents l.out) l.found;
 }
 

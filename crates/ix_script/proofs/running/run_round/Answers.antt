@@ -1,5 +1,6 @@
 -- A group, and the publish behind it.
 use Rattle.std.proofs.Common.{inl, map, subst, sym, List}
+use Rattle.ix_files.specs.Reading.{held_in}
 use Rattle.ix_script.specs.Steps.{Step, step_of}
 use Rattle.ix_script.specs.Stops.{progress_of}
 use Rattle.ix_script.specs.Stretches.{CarriesOut}
@@ -9,14 +10,14 @@ use Rattle.ix_script.proofs.running.run_round.Goals as goal
 pub returns-in_err-team-clause-refused : goal.returns-in_err-team-clause-refused
 returns-in_err-team-clause-refused g c =
     handed_on _ c.from_residual.result c.in_err-team.field-0.0 c.from_residual.ensures.1
-    (group_stops (g.F.CollectionFiles.holds c.args.files.now) c.args.indexer.now.stop c.args.plan.now.workers (map step_of c.args.steps.now) (map step_of c.first_group.result.0.now) _
+    (group_stops (held_in (g.F.Files.view c.args.files.now)) c.args.indexer.now.stop c.args.plan.now.workers (map step_of c.args.steps.now) (map step_of c.first_group.result.0.now) _
     (progress_of c.args.indexer.now) _ _ _ c.first_group.ensures.cut c.in_err-team.ensures.refused)
 
 pub returns-in_err-publish-clause-refused : goal.returns-in_err-publish-clause-refused
 returns-in_err-publish-clause-refused g c =
     let cut = rw c.in-Some.is at c.first_group.ensures.cut in
     handed_on _ c.from_residual-in_err-publish.result c.in_err-publish.field-0.0 c.from_residual-in_err-publish.ensures.1
-    (group_unpublished (g.F.CollectionFiles.holds c.args.files.now) c.args.indexer.now.stop c.args.plan.now.workers (map step_of c.first_group.result.0.now) (map step_of c.in-Some.rest.now)
+    (group_unpublished (held_in (g.F.Files.view c.args.files.now)) c.args.indexer.now.stop c.args.plan.now.workers (map step_of c.first_group.result.0.now) (map step_of c.in-Some.rest.now)
     (map step_of c.args.steps.now) (progress_of c.args.indexer.now) (progress_of c.answer_group.new.indexer) _ _ c.in_ok-team.found _ cut.0 c.in_err-publish.ensures.refused.0 c.in_ok-team.ensures.ran)
 
 pub returns-clause-published : goal.returns-clause-published
@@ -29,7 +30,7 @@ pub returns-clause-ran : goal.returns-clause-ran
 returns-clause-ran g c =
     let cut = rw c.in-Some.is at c.first_group.ensures.cut in
     let steps = publish_cut step_of c.args.steps.now c.in-Some.rest.now (map step_of c.first_group.result.0.now) cut.0 in
-    let holds = g.F.CollectionFiles.holds c.args.files.now in
+    let holds = held_in (g.F.Files.view c.args.files.now) in
     subst (λ (l : List Step). CarriesOut holds c.args.indexer.now.stop l (progress_of c.args.indexer.now) (progress_of c.publish.new.indexer) (g.W.Write.contents c.args.out.now)
     (g.W.Write.contents c.answer_group.new.out) c.in_ok-team.found) (sym steps)
     (carries_publish holds c.args.indexer.now.stop (map step_of c.first_group.result.0.now) (progress_of c.args.indexer.now) (progress_of c.answer_group.new.indexer) (progress_of c.publish.new.indexer)

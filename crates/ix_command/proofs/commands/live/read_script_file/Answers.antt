@@ -1,7 +1,7 @@
 -- There was room for more than what was read, so it is the whole file.
 use Rattle.std.proofs.Common.{subst, sym, arith}
 use Rattle.ix_command.proofs.FileLemmas.{read_all}
-use Rattle.ix_command.specs.Files.{held_in}
+use Rattle.ix_files.specs.Reading.{held_in}
 use Rattle.ix_command.proofs.commands.live.read_script_file.Goals as goal
 
 pub returns-clause-held : goal.returns-clause-held

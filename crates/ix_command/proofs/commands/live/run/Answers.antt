@@ -3,7 +3,7 @@ use Rattle.std.proofs.Common.{map, rules}
 use Rattle.ix_script.specs.Steps.{step_of}
 use Rattle.ix_command.specs.LiveScripts.{IsStoppedTold, no_stop_list, no_file, no_script, stopped}
 use Rattle.ix_command.proofs.FileLemmas.{err_weaker, handed_up}
-use Rattle.ix_command.specs.Files.{held_in}
+use Rattle.ix_files.specs.Reading.{held_in}
 use Rattle.ix_command.proofs.commands.live.run.Goals as goal
 
 pub returns-in_err-stop-clause-refused : goal.returns-in_err-stop-clause-refused

@@ -2,9 +2,9 @@
 use Rattle.std.proofs.Common.{◌∙◌, Err, ap, inl, subst, sym}
 use Rattle.ix_run.specs.RunTextError.TheVariants.{Magic}
 use Rattle.ix_command.specs.MergedRuns.{RefusesInput, no_head}
-use Rattle.ix_command.proofs.FileLemmas.{told_held, untold_held}
+use Rattle.ix_files.proofs.Fronts.{told_held, untold_held}
 use Rattle.ix_command.proofs.RunFileLemmas.{is_other_or_not, opened, refused}
-use Rattle.ix_command.specs.Files.{held_in}
+use Rattle.ix_files.specs.Reading.{held_in}
 use Rattle.ix_command.proofs.commands.merge.inputs.open.Goals as goal
 
 pub returns-in-Ok-open-clause-opened : goal.returns-in-Ok-open-clause-opened

@@ -3,7 +3,7 @@ use Rattle.std.proofs.Common.{inl, refl}
 use Rattle.ix_line.specs.Lines.{texts_of}
 use Rattle.ix_command.proofs.FileLemmas.{handed_up}
 use Rattle.ix_command.proofs.MergedFileLemmas.{input_near, opened_more, opened_none, path_at, refused_more}
-use Rattle.ix_command.specs.Files.{held_in}
+use Rattle.ix_files.specs.Reading.{held_in}
 use Rattle.ix_command.proofs.commands.merge.inputs.open_all.Goals as goal
 
 pub loop-place-init : goal.loop-place-init

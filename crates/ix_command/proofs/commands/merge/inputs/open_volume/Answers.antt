@@ -2,7 +2,7 @@
 use Rattle.std.proofs.Common.{inl, subst, sym}
 use Rattle.ix_run.specs.RunTextError.TheVariants.{Magic}
 use Rattle.ix_command.specs.MergedRuns.{RefusesInput, no_head}
-use Rattle.ix_command.specs.Files.{held_in}
+use Rattle.ix_files.specs.Reading.{held_in}
 use Rattle.ix_command.proofs.commands.merge.inputs.open_volume.Goals as goal
 
 pub returns-then-is_no_index-clause-refused : goal.returns-then-is_no_index-clause-refused

@@ -1,24 +1,27 @@
-//! What the files that a command line names hold.
+//! What the files of given paths hold.
 
-ghost use Rattle.std.specs.Prelude.{◌≡◌, ◌≤◌, length, take, IfOk, IfSome};
-ghost use Rattle.ix_command.specs.Files.{IsFront, held_in};
+ghost use Rattle.std.specs.Prelude.{◌≡◌, ◌≤◌, length, take, IfErr, IfOk, IfSome};
+ghost use Rattle.ix_files.specs.Opened.{IsReadError};
+ghost use Rattle.ix_files.specs.Reading.{IsFront, held_in};
 
-use ix_files::{FileError, Files};
+use crate::file_error::FileError;
+use crate::files::Files;
 use std::alloc::Global;
 use std::io::{ErrorKind, Read};
 
 /// The first bytes of what a path leads to: `room` of them, or all if it has fewer.
 ///
 /// # Errors
-/// `Memory`; `Failed` if it cannot be read.
+/// `Memory`; `Failed` if it cannot be opened, or a read failed.
 pub fn read_front<F: Files>(
     alloc: Global,
     files: &F,
     path: &str,
     room: usize,
 ) -> Result<Vec<u8>, FileError>
-    ensures { IfOk result
+    ensures front { IfOk result
         (λ bytes. IsFront (held_in (F.view files.now) path.now) room bytes.items) }
+    ensures error { IfErr result (IsReadError (Unit {0})) }
 {
     let reader = files.open(path)?;
     read_up_to(alloc, reader, room)
@@ -36,6 +39,7 @@ pub fn read_up_to<S: Read + Drop>(
     ensures short { IfOk result (λ bytes. length bytes.items ≤ room) }
     ensures front { IfOk result (λ bytes. IfSome (S.remaining reader)
         (λ left. bytes.items ≡ take room left)) }
+    ensures error { IfErr result (IsReadError (Unit {0})) }
 {
     let mut bytes = Vec::new(alloc);
     match reader.take(room as u64).read_to_end(&mut bytes) {
