@@ -1,12 +1,10 @@
 -- What was read of a path is the front of the file there.
-use Rattle.std.proofs.Common.{◌≡◌, ℕ, ◌≤◌, List, length, take, Option, Some, None, Result, Ok, Err, IfOk, IfErr, refl, sym, ◌∙◌}
+use Rattle.std.proofs.Common.{◌≡◌, ℕ, ◌≤◌, ◌<◌, List, length, take, Option, Some, None, Result, Ok, Err, IfOk, refl, sym, ap, subst, ◌∙◌, arith}
 use Rattle.std.specs.Prelude.{IfSome}
-use Rattle.std.proofs.lemmas.List.{take_all}
-use Rattle.ix_files.specs.Opened.{IsOpened, IsReadError}
+use Rattle.std.proofs.lemmas.List.{length-take, take_all}
+use Rattle.ix_files.specs.Opened.{IsOpened}
 use Rattle.ix_files.specs.Reading.{IsFront, held_in}
 use Rattle.ix_files.specs.Views.{View}
-use Rattle.ix_files.specs.declared.file_error.FileError.{FileError}
-use Rattle.ix_files.specs.declared.file_error.FileError.TheVariants.{Memory, Failed, Exists, Locked}
 
 -- what a reader has left is what was read of the path
 pub told_held : (view : View) (path : List ℕ) (left : Option (List ℕ)) → (view.honest → IsOpened view path left) → IfSome left (held_in view path)
@@ -30,9 +28,14 @@ pub front_given : {B E : Type 0} (items : B → List ℕ) (view : View) (path : 
 front_given items view path left space (Ok bytes) is short cut = front_read view path left space (items bytes) is short cut
 front_given items view path left space (Err error) is short cut = tt
 
--- whatever the system did not let
-pub is_read_error : (failed : Type 0) (error : FileError) → IsReadError failed error → IsReadError (Unit {0}) error
-is_read_error failed Memory is = tt
-is_read_error failed Failed is = tt
-is_read_error failed Exists is = absurd is
-is_read_error failed Locked is = absurd is
+-- with fewer bytes than there was room for, it is all of the file
+pub front_is_whole : (Holds : List ℕ → Type 0) (space : ℕ) (bytes : List ℕ) → IsFront Holds space bytes → (length bytes ≡ space → ⊥) → Holds bytes
+front_is_whole Holds space bytes front less =
+    let same : length bytes ≡ length (take space front.whole) = ap length front.cut in
+    subst Holds (sym (front.cut ∙ take_all space front.whole (omega (arith, length-take space front.whole, same, less)))) front.held
+
+-- a file has as many bytes as its front
+pub front_of_longer : (Holds : List ℕ → Type 0) (space most : ℕ) (bytes : List ℕ) → IsFront Holds space bytes → most < length bytes → (whole : List ℕ) × Holds whole × (most < length whole)
+front_of_longer Holds space most bytes front long =
+    let same : length bytes ≡ length (take space front.whole) = ap length front.cut in
+    (front.whole, front.held, omega (arith, length-take space front.whole, same, long))

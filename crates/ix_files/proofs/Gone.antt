@@ -5,7 +5,7 @@ use Rattle.std.proofs.lemmas.List.{length-map}
 use Rattle.std.proofs.lemmas.Option.{same_Some, slice_get-get_or, slice_get-map, slice_get_within}
 use Rattle.ix_files.specs.Changes.{AreGone}
 use Rattle.ix_files.specs.Locations.{place_of}
-use Rattle.ix_files.specs.Slots.{Entry, Growing, IsAmong, Kept, Nothing, Place, Slots, Whole}
+use Rattle.ix_files.specs.Slots.{Entry, Growing, Kept, Nothing, Place, Slots, Whole}
 use Rattle.ix_files.specs.Steps.{Removes}
 use Rattle.ix_files.specs.Views.{Calls, View}
 use Rattle.ix_files.specs.declared.location.Location.{Location}

@@ -1,4 +1,4 @@
-use Rattle.std.proofs.Common.{◌≡◌, ◌<◌, ◌⊎◌, ℕ, map, Some, slice_get}
+use Rattle.std.proofs.Common.{◌<◌, ◌⊎◌, map}
 use Rattle.ix_files.specs.Changes.{ChangesOnly}
 use Rattle.ix_files.specs.Locations.{place_of}
 use Rattle.ix_files.specs.Slots.{IsAmong}
