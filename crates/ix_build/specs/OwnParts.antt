@@ -6,7 +6,7 @@ use Rattle.ix_merge.specs.IndexText.{IsIndexText}
 use Rattle.ix_merge.specs.Pieces.{WritesPart}
 use Rattle.ix_merge.specs.Sections.{FrontCoded}
 
--- Since `before`, a prefix of the index text of the collection was written, and the whole of it only if this holds.
+-- Since `before`, a prefix of the index text of the collection was written, and the whole of it only if `if_whole` holds.
 pub record WritesOwnPart (collection : Collection) (before now : Option (List ℕ)) (if_whole : Type 0) : Type 0 where
   pub text : List ℕ
   pub of_collection : IsIndexText FrontCoded collection text

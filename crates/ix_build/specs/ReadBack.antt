@@ -60,7 +60,7 @@ pub record AreRunText (bytes : List ℕ) : Type 0 where
   pub collection : Collection
   pub is : IsRunText first collection bytes
 
--- no bytes may come back of a place below the count but run texts
+-- no bytes may come back of a place below the count but a run text
 abbrev pub GivesRunsBack : (ℕ → List ℕ → Type 0) → ℕ → Type 0
 GivesRunsBack back count = (place : ℕ) (bytes : List ℕ) → place < count → back place bytes → AreRunText bytes
 
@@ -96,7 +96,7 @@ module _ {R : Type 0} (remaining : R → Option (List ℕ)) where
     pub read : AreReadBack back headings readers
     pub written : WritesConcatenation (MayYield remaining) heading_read readers before now
 
-  -- Since `before`, a prefix of such a text went out, and the whole of it only if this holds.
+  -- Since `before`, a prefix of such a text went out, and the whole of it only if `if_whole` holds.
   pub record WritesReadBackPart (back : ℕ → List ℕ → Type 0) (headings : List Heading) (before now : Option (List ℕ)) (if_whole : Type 0) : Type 0 where
     pub readers : List (RunReader R)
     pub read : AreReadBack back headings readers

@@ -43,7 +43,8 @@ pub record WritesRuns (runs : List RunValue) (before now : Option (List ℕ)) : 
   pub concatenation : IsConcatenation pieces whole
   pub written : WritesIndexText before now whole
 
--- Since `before`, a prefix of that text was written, and the whole of it only if this holds.
+-- Since `before`, a prefix of the index text of the concatenation of the runs' collections was written, and the whole of it
+-- only if `if_whole` holds.
 pub record WritesRunsPart (runs : List RunValue) (before now : Option (List ℕ)) (if_whole : Type 0) : Type 0 where
   pub pieces : List Piece
   pub of_pieces : AreRunsOf runs pieces

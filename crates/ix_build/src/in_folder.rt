@@ -42,8 +42,8 @@ use std::thread::Threads;
 /// `Thread` if a thread cannot be started, before anything is written; `Spill` with the place, from 0, of a block whose
 /// run was not saved in the folder or not given back, never with runs in memory; `Write` if a write or the flush fails;
 /// `Memory` if out of memory. After these a prefix of this index text is written, perhaps nothing of it, and all of it only
-/// after `Write`. With runs in a folder that is proved if the files give back only the runs; else it is a prefix of an index
-/// text with the collection's stop terms, names and token counts.
+/// after `Write`. With runs in a folder that is proved if the bytes of the files are known and they give back only the runs;
+/// else a prefix of an index text with the collection's stop terms, names and token counts is written.
 pub fn build<W: Write, F: Files, R: Threads + Wait + Sync, V: Watch>(
     rt: &R,
     alloc: Global,
@@ -79,11 +79,11 @@ pub fn build<W: Write, F: Files, R: Threads + Wait + Sync, V: Watch>(
     ensures unread { (folder : List ℕ) → plan.now.folder ≡ Some folder
         → IfErr result (TellsUnread F.Shared.Reader.remaining
         (MayComeBack F.Shared.shared F.Shared.back) (W.contents out.old) (W.contents out.new)) }
+
+    // An error leaves a prefix of the collection's own index text, with runs in a folder under the
+    // premises of `exact`; and whatever the files give back, one of an index text like it.
     ensures front { OnErr result (LeavesAlikeFront (collection_of stop.now collection.now)
         (W.contents out.old) (W.contents out.new)) }
-
-    // With runs in memory an error leaves a prefix of the collection's own index text; with runs in a folder it
-    // does too, if these give nothing back but the runs.
     ensures unfinished { plan.now.folder ≡ None → IfErr result (λ error. LeavesOwnPart
         (collection_of stop.now collection.now) (W.contents out.old) (W.contents out.new)
         (error ≡ BuildError.Write)) }

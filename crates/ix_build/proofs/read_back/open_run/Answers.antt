@@ -1,4 +1,4 @@
-use Rattle.std.proofs.Common.{◌≡◌, ℕ, refl, sym, ◌∙◌}
+use Rattle.std.proofs.Common.{rules, ◌≡◌, ℕ, refl, ◌∙◌}
 use Rattle.ix_run.specs.Heads.{Heading, heading_of}
 use Rattle.ix_build.specs.Stores.{CountsMore}
 use Rattle.ix_build.proofs.UnreadLemmas.{of_bytes, other_run}
@@ -8,7 +8,7 @@ pub returns-then-are_same-clause-read : goal.returns-then-are_same-clause-read
 returns-then-are_same-clause-read g c =
     let opened = c.in-Ok-open.ensures in
     record {
-      headed = sym c.head.ensures ∙ c.if-are_same.ensures.same refl;
+      headed = search rules;
       unread = opened.unread;
       told =
           of_bytes g.T.Reader.Read.remaining (g.T.RunStore.back c.args.store.now c.args.place) c.in-Ok.reader c.in-Ok-open.run' c.in-Ok.ensures.given
