@@ -41,9 +41,9 @@ use std::thread::Threads;
 /// # Errors
 /// `Thread` if a thread cannot be started, before anything is written; `Spill` with the place, from 0, of a block whose
 /// run was not saved in the folder or not given back, never with runs in memory; `Write` if a write or the flush fails;
-/// `Memory` if out of memory. After these a prefix of this index text is written, perhaps nothing of it, and all of it only
-/// after `Write`. With runs in a folder that is proved if the bytes of the files are known and they give back only the runs;
-/// else a prefix of an index text with the collection's stop terms, names and token counts is written.
+/// `Memory` if out of memory. After these a prefix of this index text is written, perhaps nothing of it, and all of it
+/// only after `Write`. With runs in a folder that is proved if the bytes of the files are known and they give back only
+/// the runs; else a prefix of an index text with the collection's stop terms, names and token counts is written.
 pub fn build<W: Write, F: Files, R: Threads + Wait + Sync, V: Watch>(
     rt: &R,
     alloc: Global,

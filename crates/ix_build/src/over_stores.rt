@@ -41,9 +41,9 @@ pub struct BuiltOver<T> {
 /// # Errors
 /// Before anything is written: `Thread` if a thread cannot be started; `Spill` with the lowest place whose run a store did
 /// not save, or else with the lowest that was not given back with the head that was kept of it. `Spill` too if a run that
-/// is read turns out not to be one; `Write` if a write or the flush fails; `Memory` if out of memory. After these a prefix
-/// of such a text is written, perhaps nothing of it; if the first store gives back only the runs, and the bytes of its
-/// readers are known, a prefix of the collection's own, and all of it only after `Write`.
+/// is read turns out not to be one; `Write` if a write or the flush fails; `Memory` if out of memory. After these a
+/// prefix of such a text is written, perhaps nothing of it; if the first store gives back only the runs, and the bytes of
+/// its readers are known, a prefix of the collection's own, and all of it only after `Write`.
 pub fn build_over<T: RunStore, W: Write, R: Threads + Wait + Sync>(
     rt: &R,
     alloc: Global,
