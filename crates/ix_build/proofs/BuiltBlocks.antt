@@ -5,7 +5,7 @@ use Rattle.std.proofs.lemmas.List.{append_assoc, drop_at, length-map, take_at}
 use Rattle.std.proofs.lemmas.Option.{none-some, same_Some}
 use Rattle.ix_board.proofs.Endings.{get-map}
 use Rattle.ix_board.proofs.SliceGets.{get-within}
-use Rattle.ix_text.specs.Collections.{NamedText, collection_of, token_total}
+use Rattle.ix_text.specs.Collections.{Collection, NamedText, collection_of, token_total}
 use Rattle.ix_text.specs.Parts.{row_of}
 use Rattle.ix_merge.specs.Endings.{WritesIndexText}
 use Rattle.ix_run.specs.Heads.{Heading}
@@ -22,10 +22,12 @@ use Rattle.ix_build.specs.Blocks.{bounds_from}
 use Rattle.ix_build.specs.BlockRuns.{IsRunOfBlock}
 use Rattle.ix_build.specs.BuildErrors.{MayComeOfMerge}
 use Rattle.ix_build.specs.Built.{headings_of}
-use Rattle.ix_build.specs.RunPieces.{AreRunsOf, WritesRuns, pieces_from}
+use Rattle.ix_build.specs.OwnParts.{LeavesOwnPart}
+use Rattle.ix_build.specs.RunPieces.{AreRunsOf, LeavesRunsPart, WritesRuns, pieces_from}
 use Rattle.ix_build.proofs.BlockLemmas.{all_in}
 use Rattle.ix_build.proofs.BlockPieces.{cover, headings_from, no_difference, no_gap, no_overlap, not_too_large, rows_are, stop_of, whole_is}
 use Rattle.ix_build.proofs.Consecutive.{same_at_each}
+use Rattle.ix_build.proofs.OwnPartLemmas.{own_part}
 
 -- ---- runs and pieces
 
@@ -113,13 +115,22 @@ module _ (texts : List NamedText) (stop : List (List ℕ)) (bounds : List ℕ) (
       pieces_counted first (b ∷ bs) = ap (λ (n : ℕ). suc n) (pieces_counted (first + length b) bs)
 
   module _ (runs : List RunValue) (before now : Option (List ℕ)) (are : AreRunsOf runs (pieces_from 0 stop blocks)) where
-    -- what was written is the index text of the collection of all texts
+    -- the concatenation of pieces of which they are is the collection of all texts
+    collection_is : (pieces : List Piece) (concatenation : Collection) → AreRunsOf runs pieces → IsConcatenation pieces concatenation → concatenation ≡ collection_of stop texts
+    collection_is pieces concatenation of_pieces is =
+        let same = pieces_of_one runs pieces (pieces_from 0 stop blocks) of_pieces are in
+        whole_is stop blocks some concatenation (subst (λ (ps : List Piece). IsConcatenation ps concatenation) same is) ∙ ap (collection_of stop) whole
+
+    -- what was written is its index text
     pub blocks_written : WritesRuns runs before now → WritesIndexText before now (collection_of stop texts)
-    blocks_written writes =
-        let same = pieces_of_one runs writes.pieces (pieces_from 0 stop blocks) writes.of_pieces are in
-        let joined = subst (λ (ps : List Piece). IsConcatenation ps writes.whole) same writes.concatenation in
-        let is : writes.whole ≡ collection_of stop texts = whole_is stop blocks some writes.whole joined ∙ ap (collection_of stop) whole in
-        subst (WritesIndexText before now) is writes.written
+    blocks_written writes = subst (WritesIndexText before now) (collection_is writes.pieces writes.whole writes.of_pieces writes.concatenation) writes.written
+
+    -- and what an error left a prefix of it
+    pub blocks_unfinished : (if_whole told : Type 0) → (if_whole → told) → LeavesRunsPart runs before now if_whole → LeavesOwnPart (collection_of stop texts) before now told
+    blocks_unfinished if_whole told told_so (inl keeps) = inl keeps
+    blocks_unfinished if_whole told told_so (inr part) =
+        let is = collection_is part.pieces part.whole part.of_pieces part.concatenation in
+        inr (own_part before now (collection_of stop texts) part.whole part.text if_whole told is part.of_whole told_so part.gained)
 
     pub headings_are : headings_of runs ≡ headings_from 0 stop blocks
     headings_are = headings_of_runs runs (pieces_from 0 stop blocks) are

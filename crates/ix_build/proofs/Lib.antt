@@ -9,6 +9,7 @@ pub mod FolderLemmas
 pub mod LowestUnsaved
 pub mod MergedParts
 pub mod OverBlocks
+pub mod OwnPartLemmas
 pub mod ReadBackLemmas
 pub mod RunMerging
 pub mod RunNameLemmas

@@ -7,20 +7,21 @@ use Rattle.ix_board.proofs.Closings.{got-map}
 use Rattle.ix_board.proofs.Endings.{get-map}
 use Rattle.ix_board.proofs.SliceGets.{get-within}
 use Rattle.ix_run.specs.Heads.{Heading, heading_of}
-use Rattle.ix_run.specs.Reading.{HasRead}
+use Rattle.ix_run.specs.Reading.{HasRead, IsSure, MayYield}
 use Rattle.ix_run.specs.RunReaders.{heading_read}
 use Rattle.ix_run.specs.Sources.{IsUnread}
 use Rattle.ix_run.specs.RunHead.{RunHead}
 use Rattle.ix_run.specs.RunReader.{RunReader}
 use Rattle.ix_run.specs.RunTextError.{RunTextError}
 use Rattle.ix_run.specs.RunTextError.TheVariants as text
+use Rattle.ix_merge.specs.Pieces.{LeavesYieldedPart}
 use Rattle.ix_merge.specs.Refusals.{IsRefusal}
 use Rattle.ix_merge.specs.declared.merge_error.MergeError.{MergeError}
 use Rattle.ix_merge.specs.declared.merge_error.MergeError.TheVariants as merge
 use Rattle.ix_build.specs.BuildErrors.{MayComeOfMerge}
 use Rattle.ix_build.specs.declared.build_error.BuildError.{BuildError}
 use Rattle.ix_build.specs.declared.build_error.BuildError.TheVariants.{Thread, Spill, Write, Memory}
-use Rattle.ix_build.specs.ReadBack.{AreReadBack, ComesOfMerging, ComesOfReading, IsReadBack, told_of_read_merge, told_of_reading}
+use Rattle.ix_build.specs.ReadBack.{AreReadBack, ComesOfMerging, ComesOfReading, GivesRunsBack, IsOfBytes, IsReadBack, LeavesReadBackPart, TellBytes, told_of_read_merge, told_of_reading}
 use Rattle.ix_build.proofs.Consecutive.{same_at_each}
 use Rattle.ix_pool.proofs.Sums.{all_from_get}
 
@@ -39,12 +40,16 @@ module _ {R : Type 0} (remaining : R → Option (List ℕ)) where
   pub none_read : (back : ℕ → List ℕ → Type 0) (heads : List RunHead) (readers : List (RunReader R)) → readers ≡ [] → AreReadOf back heads readers
   none_read back heads readers none place head reader at there = absurd (none-some reader (ap (λ (l : List (RunReader R)). slice_get l place) (sym none) ∙ there))
 
+  -- what comes here may come there
+  pub of_more : (here there : List ℕ → Type 0) (reader : RunReader R) → ((bytes : List ℕ) → here bytes → there bytes) → IsOfBytes remaining here reader → IsOfBytes remaining there reader
+  of_more here there reader more is = record { bytes = is.bytes; came = more is.bytes is.came; spelled = is.spelled; sure = is.sure }
+
   -- bytes that may come back later may come back now
   pub read_before : (now later : List ℕ → Type 0) (heading : Heading) (reader : RunReader R) → ((bytes : List ℕ) → later bytes ↔ now bytes) → IsReadBack remaining later heading reader → IsReadBack remaining now heading reader
   read_before now later heading reader keeps read = record {
     headed = read.headed;
     unread = read.unread;
-    told = λ tell. let is = read.told tell in record { bytes = is.bytes; came = (keeps is.bytes).0 is.came; spelled = is.spelled };
+    told = λ tell. of_more later now reader (λ bytes. (keeps bytes).0) (read.told tell);
   }
 
   pub one_read : (back : ℕ → List ℕ → Type 0) (heads : List RunHead) (readers : List (RunReader R)) (head : RunHead) (reader : RunReader R) → slice_get heads (length readers) ≡ Some head
@@ -87,6 +92,33 @@ module _ {R : Type 0} (remaining : R → Option (List ℕ)) where
 
     pub all_unread : All (IsUnread HasRead) readers
     all_unread = all_from_get (IsUnread HasRead) readers (λ k reader at. let heading = heading_at k reader at in (read.each k heading.0 reader heading.1 at).unread)
+
+    -- they are sure if the readers tell their bytes, and nothing but run texts came back
+    pub each_sure : TellBytes remaining → GivesRunsBack back (length headings) → All (IsSure remaining) readers
+    each_sure tell gives = all_from_get (IsSure remaining) readers
+        (λ k reader at.
+        let heading = heading_at k reader at in
+        let is = (read.each k heading.0 reader heading.1 at).told tell in
+        let text = gives k is.bytes (slice_get_within headings k heading.0 heading.1) is.came in
+        is.sure text.first text.collection text.is)
+
+    -- what an error left of what they may yield
+    pub read_left : (before now : Option (List ℕ)) (if_whole told : Type 0) → (if_whole → told) → LeavesYieldedPart (MayYield remaining) heading_read readers before now if_whole
+        → LeavesReadBackPart remaining back headings before now told
+    read_left before now if_whole told told_so (inl keeps) = inl keeps
+    read_left before now if_whole told told_so (inr part) = inr (record {
+      readers = readers;
+      read = read;
+      written = record {
+        pieces = part.pieces;
+        yielded = part.yielded;
+        whole = part.whole;
+        concatenation = part.concatenation;
+        text = part.text;
+        of_whole = part.of_whole;
+        gained = record { front = part.gained.front; cut = λ none. told_so (part.gained.cut none) };
+      };
+    })
 
 -- what the lists show at a place is the same if they show the same
 pub same_there : {A B : Type 0} (f : A → B) (xs ys : List A) (k : ℕ) (x y : A) → slice_get xs k ≡ Some x → slice_get ys k ≡ Some y → map f xs ≡ map f ys → f x ≡ f y

@@ -3,12 +3,13 @@ use Rattle.std.proofs.Common.{◌≡◌, ◌≢◌, ℕ, List, [], ◌++◌, Opt
 use Rattle.std.specs.Prelude.{None, Some, IfSome, IsErrAnd, IsSome}
 use Rattle.std.specs.Io.KnownBytes.{Keeps}
 use Rattle.std.proofs.lemmas.Option.{IfSome_then}
+use Rattle.ix_text.specs.Collections.{Collection}
 use Rattle.ix_text.specs.Parts.{DictionaryEntry}
 use Rattle.ix_run.specs.Faults.{MayFault}
 use Rattle.ix_run.specs.Heads.{Heading, IsLawfulHeading, parts_with}
-use Rattle.ix_run.specs.Reading.{HasRead, MayYield}
+use Rattle.ix_run.specs.Reading.{HasRead, IsSure, MayYield}
 use Rattle.ix_run.specs.RunReaders.{heading_read}
-use Rattle.ix_run.specs.RunText.{heading_bytes, run_layout}
+use Rattle.ix_run.specs.RunText.{IsRunText, heading_bytes, run_layout}
 use Rattle.ix_run.specs.RunTextErrors.{IsRefusal}
 use Rattle.ix_run.specs.Sources.{IsUnread}
 use Rattle.ix_run.specs.RunReader.{RunReader}
@@ -19,7 +20,7 @@ use Rattle.ix_merge.specs.declared.merge_error.MergeError.TheVariants as merge
 use Rattle.ix_build.specs.declared.build_error.BuildError.{BuildError}
 use Rattle.ix_build.specs.declared.build_error.BuildError.TheVariants.{Thread, Spill, Write, Memory}
 use Rattle.ix_build.specs.ReadBack.{AreReadBack, IsNotGivenBack, IsOfBytes, MayNotRead, TellBytes, TellsCause, TellsNotGivenBack, TellsUnread, told_of_read_merge, told_of_reading}
-use Rattle.ix_build.proofs.ReadBackLemmas.{heading_at, told_holds}
+use Rattle.ix_build.proofs.ReadBackLemmas.{heading_at, of_more, told_holds}
 
 -- an error that is passed on
 pub passed_on : {T : Type 0} (P : BuildError → Type 0) (result : Result T BuildError) (told : BuildError) → IsErrAnd result (λ error. error ≡ told) → P told → IfErr result P
@@ -30,12 +31,13 @@ module _ {R : Type 0} (remaining : R → Option (List ℕ)) where
   -- the bytes of an opened run, if its reader tells them
   pub of_bytes : (may_come : List ℕ → Type 0) (reader : R) (run : RunReader R) → IfSome (remaining reader) may_come
       → ((bytes : List ℕ) (entries : List DictionaryEntry) → remaining reader ≡ Some bytes → MayYield remaining run [] entries → bytes ≡ run_layout (heading_read run).first (parts_with (heading_read run) entries))
+      → ((first : ℕ) (collection : Collection) (bytes : List ℕ) → IsRunText first collection bytes → remaining reader ≡ Some bytes → IsSure remaining run)
       → TellBytes remaining → IsOfBytes remaining may_come run
-  of_bytes may_come reader run came yields tell = by (remaining reader) refl came (tell reader)
+  of_bytes may_come reader run came yields sure tell = by (remaining reader) refl came (tell reader)
     where
       by : (known : Option (List ℕ)) → remaining reader ≡ known → IfSome known may_come → IsSome known → IsOfBytes remaining may_come run
       by None is here told = absurd (cc told)
-      by (Some bytes) is here told = record { bytes = bytes; came = here; spelled = λ entries yielded. yields bytes entries is yielded }
+      by (Some bytes) is here told = record { bytes = bytes; came = here; spelled = λ entries yielded. yields bytes entries is yielded; sure = λ first collection of_text. sure first collection bytes of_text is }
 
   -- what was opened gave no run
   pub no_run : (refused : Type 0) (kept : ℕ → Heading → Type 0) (back : ℕ → List ℕ → Type 0) (place : ℕ) (reader : R) (error : RunTextError) → IfSome (remaining reader) (back place)
@@ -53,7 +55,7 @@ module _ {R : Type 0} (remaining : R → Option (List ℕ)) where
   unread_later back given place gives may = record {
     reader = may.reader;
     unread = may.unread;
-    told = λ tell. let is = may.told tell in record { bytes = is.bytes; came = gives is.bytes is.came; spelled = is.spelled };
+    told = λ tell. of_more remaining (back place) (given place) may.reader gives (may.told tell);
     error = may.error;
     may = may.may;
     spills = may.spills;
@@ -79,7 +81,7 @@ module _ {R : Type 0} (remaining : R → Option (List ℕ)) where
         inr (inr (record {
           reader = other.reader;
           unread = other.unread;
-          told = λ tell. let is = other.told tell in record { bytes = is.bytes; came = gives is.bytes is.came; spelled = is.spelled };
+          told = λ tell. of_more remaining (back place) (given place) other.reader gives (other.told tell);
           heading = other.heading;
           is_kept = same other.heading other.is_kept;
           other = other.other;

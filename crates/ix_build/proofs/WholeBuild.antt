@@ -3,15 +3,16 @@ use Rattle.std.proofs.Common.{◌≡◌, ℕ, ◌+◌, ◌<◌, ◌≤◌, ◌^�
 use Rattle.ix_text.specs.Collections.{NamedText, collection_of, token_total}
 use Rattle.ix_run.specs.Runs.{RunValue}
 use Rattle.ix_merge.specs.Endings.{WritesIndexText}
-use Rattle.ix_build.specs.AlikeFronts.{LeavesAlikeFront}
 use Rattle.ix_build.specs.Blocks.{AreBounds, bounds_from}
 use Rattle.ix_build.specs.BlockMakers.{IsMakerOf}
 use Rattle.ix_build.specs.BlockRuns.{GivesRun, StaysMakerOf}
-use Rattle.ix_build.specs.BuildErrors.{MayComeOfBuilding, MayComeOfWork}
+use Rattle.ix_build.specs.BuildErrors.{MayComeOfBuilding, MayComeOfWork, told_of_building}
 use Rattle.ix_build.specs.Built.{FailsToBuild, IsBuilt}
+use Rattle.ix_build.specs.declared.build_error.BuildError.TheVariants as build
 use Rattle.ix_build.specs.declared.by_makers.ByError.{ByError}
 use Rattle.ix_build.specs.declared.by_makers.ByError.TheVariants as by
 use Rattle.ix_pool.specs.Outcomes.{Fails, IsMade}
+use Rattle.ix_build.specs.OwnParts.{LeavesOwnPart}
 use Rattle.ix_build.specs.RunPieces.{AreRunsOfTexts}
 use Rattle.ix_build.specs.declared.block_maker.BlockMaker.{BlockMaker}
 use Rattle.ix_pool.specs.declared.maker.MakeError.TheVariants as make
@@ -20,7 +21,7 @@ use Rattle.ix_pool.specs.declared.pool.WorkError.TheVariants.{Thread, Make, Memo
 use Rattle.ix_build.specs.declared.plan.Cut.{Cut}
 use Rattle.ix_build.proofs.BlockMaking.{asked_of, made_between, none_refused}
 use Rattle.ix_build.proofs.BuiltBlocks.{runs_of_blocks}
-use Rattle.ix_build.proofs.MergedParts.{parts_left, parts_refused, parts_written}
+use Rattle.ix_build.proofs.MergedParts.{parts_refused, parts_unfinished, parts_written}
 
 -- there is one bound more than blocks
 pub bounds_counted : (first : ℕ) (blocks : List (List NamedText)) → length (bounds_from first blocks) ≡ length blocks + 1
@@ -74,8 +75,8 @@ module _ (cut : Cut) (texts : List NamedText) (bounds : List ℕ) (are : AreBoun
       may_come_of_building few (by.Merge error) fails = parts_refused stop texts fails.runs before now (all_inverted fails.runs fails.made) few error fails.refused.refusal
       may_come_of_building few by.Memory fails = tt
 
-      pub all_left : (error : ByError) → FailsToBuild asked_of GivesRun StaysMakerOf makers count after before now error → LeavesAlikeFront (collection_of stop texts) before now
-      all_left (by.Thread worker) fails = inl fails.1
-      all_left (by.Make place error) fails = inl fails.1
-      all_left (by.Merge error) fails = parts_left stop texts fails.runs before now (all_inverted fails.runs fails.made) fails.refused.front
-      all_left by.Memory fails = inl fails.1
+      pub all_unfinished : (error : ByError) → FailsToBuild asked_of GivesRun StaysMakerOf makers count after before now error → LeavesOwnPart (collection_of stop texts) before now (told_of_building error ≡ build.Write)
+      all_unfinished (by.Thread worker) fails = inl fails.1
+      all_unfinished (by.Make place error) fails = inl fails.1
+      all_unfinished (by.Merge error) fails = parts_unfinished stop texts fails.runs before now (all_inverted fails.runs fails.made) error fails.refused.unfinished
+      all_unfinished by.Memory fails = inl fails.1

@@ -1,6 +1,6 @@
 -- Building over stores the blocks of a cut: what it writes, which errors come, and what they leave.
-use Rattle.std.proofs.Common.{◌≡◌, ℕ, ◌+◌, ◌<◌, ◌≤◌, ◌^◌, List, [], ◌∷◌, length, map, Option, refl, sym, ap, subst, ◌∙◌, inl, inr, arith}
-use Rattle.std.specs.Prelude.{None, Some, slice_get, slice_set}
+use Rattle.std.proofs.Common.{◌≡◌, ℕ, ◌+◌, ◌≤◌, ◌^◌, List, [], ◌∷◌, length, map, Option, refl, sym, subst, ◌∙◌, inl, inr, arith}
+use Rattle.std.specs.Prelude.{None, Some, slice_get, slice_range, slice_set}
 use Rattle.std.specs.Io.KnownBytes.{Keeps}
 use Rattle.std.proofs.lemmas.Option.{none-some}
 use Rattle.ix_board.proofs.Closings.{got-map}
@@ -16,7 +16,8 @@ use Rattle.ix_build.specs.Blocks.{AreBounds}
 use Rattle.ix_build.specs.BuiltOver.{AreBlocksSaved, FailsOver}
 use Rattle.ix_build.specs.GivenBack.{GivesBlocksBack}
 use Rattle.ix_build.specs.KeptHeadings.{IsHeadingOfBlock}
-use Rattle.ix_build.specs.ReadBack.{ComesOfMerging, MayBeMerged, TellBytes, TellsCause, WritesReadBack}
+use Rattle.ix_build.specs.OwnParts.{LeavesOwnPart}
+use Rattle.ix_build.specs.ReadBack.{ComesOfMerging, GivesRunsBack, LeavesReadBackPart, MayBeMerged, TellBytes, TellsCause, WritesReadBack}
 use Rattle.ix_build.specs.SavedBlocks.{AreHeadsOf, FailsToSave}
 use Rattle.ix_build.specs.SavingMakers.{HasSaved}
 use Rattle.ix_build.specs.SavingLaws.{counts_since}
@@ -25,7 +26,7 @@ use Rattle.ix_build.specs.declared.build_error.BuildError.{BuildError}
 use Rattle.ix_build.specs.declared.build_error.BuildError.TheVariants.{Thread, Spill, Write, Memory}
 use Rattle.ix_build.specs.declared.plan.Cut.{Cut}
 use Rattle.ix_build.proofs.BlockCounts.{block_place, blocks_counted}
-use Rattle.ix_build.proofs.OverBlocks.{alike_written, exactly_written, heads_left, heads_merge}
+use Rattle.ix_build.proofs.OverBlocks.{alike_written, exactly_written, heads_left, heads_merge, own_left}
 use Rattle.ix_build.proofs.SavedWork.{saved_in_part, saved_on_first}
 use Rattle.ix_build.proofs.WholeBuild.{some_block}
 
@@ -116,11 +117,24 @@ module _ (cut : Cut) (texts : List NamedText) (bounds : List ℕ) (are : AreBoun
     pub over_left : LeavesFront (map heading_of heads) before now → LeavesAlikeFront (collection_of stop texts) before now
     over_left = heads_left texts stop bounds are.blocks are.of_cut.whole are.bounds_are (some_block cut texts bounds are) heads long of_blocks.each before now
 
-    module _ {R : Type 0} (remaining : R → Option (List ℕ)) (back : ℕ → List ℕ → Type 0) (writes : WritesReadBack remaining back (map heading_of heads) before now) where
-      pub over_alike : WritesAlike (collection_of stop texts) before now
-      over_alike = alike_written texts stop bounds are.blocks are.of_cut.whole are.bounds_are (some_block cut texts bounds are) heads long of_blocks.each before now remaining back writes
+    -- what comes back of their places is run texts, if it is the runs of the blocks
+    pub over_runs : (back : ℕ → List ℕ → Type 0) → GivesBlocksBack cut texts stop back → GivesRunsBack back (length heads)
+    over_runs back gives place bytes within came =
+        let many = of_blocks.as_many in
+        let is = gives bounds place bytes are (omega (arith, within, many)) came in
+        record { first = is.from; collection = collection_of stop (slice_range texts is.from is.to); is = is.of_block }
 
-      pub over_exact : TellBytes remaining → GivesBlocksBack cut texts stop back → WritesIndexText before now (collection_of stop texts)
-      over_exact tell gives =
-          exactly_written texts stop bounds are.blocks are.of_cut.whole are.bounds_are (some_block cut texts bounds are) heads long of_blocks.each before now remaining back writes
-          tell (λ place bytes within came. gives bounds place bytes are within came) of_blocks.as_many
+    module _ {R : Type 0} (remaining : R → Option (List ℕ)) (back : ℕ → List ℕ → Type 0) where
+      pub over_alike : WritesReadBack remaining back (map heading_of heads) before now → WritesAlike (collection_of stop texts) before now
+      over_alike = alike_written texts stop bounds are.blocks are.of_cut.whole are.bounds_are (some_block cut texts bounds are) heads long of_blocks.each before now remaining back
+
+      module _ (tell : TellBytes remaining) (gives : GivesBlocksBack cut texts stop back) where
+        pub over_exact : WritesReadBack remaining back (map heading_of heads) before now → WritesIndexText before now (collection_of stop texts)
+        over_exact =
+            exactly_written texts stop bounds are.blocks are.of_cut.whole are.bounds_are (some_block cut texts bounds are) heads long of_blocks.each before now remaining back
+            tell (λ place bytes within came. gives bounds place bytes are within came) of_blocks.as_many
+
+        pub over_unfinished : (if_whole : Type 0) → LeavesReadBackPart remaining back (map heading_of heads) before now if_whole → LeavesOwnPart (collection_of stop texts) before now if_whole
+        over_unfinished =
+            own_left texts stop bounds are.blocks are.of_cut.whole are.bounds_are (some_block cut texts bounds are) heads long of_blocks.each before now remaining back
+            tell (λ place bytes within came. gives bounds place bytes are within came) of_blocks.as_many

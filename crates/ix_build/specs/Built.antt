@@ -1,18 +1,18 @@
 -- The result of building by makers of runs.
-use Rattle.std.specs.Prelude.{ℕ, ◌<◌, List, length, map, Option}
+use Rattle.std.specs.Prelude.{◌≡◌, ℕ, ◌<◌, List, length, map, Option}
 use Rattle.std.specs.Io.KnownBytes.{Keeps}
 use Rattle.std.specs.declared.alloc.AllocError.{AllocError}
 use Rattle.ix_run.specs.Heads.{Heading}
 use Rattle.ix_run.specs.Runs.{RunValue}
 use Rattle.ix_run.specs.RunSources.{heading_shown}
-use Rattle.ix_merge.specs.Pieces.{LeavesFront}
 use Rattle.ix_merge.specs.Refusals.{AreMergeable, IsEarly, IsRefusal}
 use Rattle.ix_merge.specs.declared.merge_error.MergeError.{MergeError}
+use Rattle.ix_merge.specs.declared.merge_error.MergeError.TheVariants as merge
 use Rattle.ix_build.specs.declared.by_makers.ByError.{ByError}
 use Rattle.ix_build.specs.declared.by_makers.ByError.TheVariants.{Thread, Make, Merge, Memory}
 use Rattle.ix_pool.specs.declared.maker.Asked.{Asked}
 use Rattle.ix_pool.specs.Outcomes.{IsMade, IsRefusedAt, IsStopped}
-use Rattle.ix_build.specs.RunPieces.{WritesRuns}
+use Rattle.ix_build.specs.RunPieces.{LeavesRunsPart, WritesRuns}
 
 -- the headings of runs
 abbrev pub headings_of : List RunValue → List Heading
@@ -22,7 +22,7 @@ headings_of runs = map heading_shown runs
 pub record IsMergeRefused (runs : List RunValue) (error : MergeError AllocError) (before now : Option (List ℕ)) : Type 0 where
   pub refusal : IsRefusal (headings_of runs) error
   pub early : IsEarly error → Keeps before now
-  pub front : LeavesFront (headings_of runs) before now
+  pub unfinished : LeavesRunsPart runs before now (error ≡ merge.Write)
 
 module _ {M : Type 0} (askings : M → List Asked) (gives : M → ℕ → RunValue → Type 0) (follows : M → M → Type 0) where
   -- A run was made of each place, and since `before` the index text of their concatenation was written.

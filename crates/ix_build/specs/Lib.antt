@@ -11,6 +11,7 @@ pub mod ByErrors
 pub mod FolderStores
 pub mod GivenBack
 pub mod KeptHeadings
+pub mod OwnParts
 pub mod Plans
 pub mod ReadBack
 pub mod RunNames

@@ -1,18 +1,19 @@
 -- Runs read back from a store.
 use Rattle.std.specs.Prelude.{◌≡◌, ◌≢◌, ◌⊎◌, ℕ, ◌<◌, List, [], ◌++◌, length, Option, Some, IfSome, IsSome, slice_get}
 use Rattle.std.specs.Io.KnownBytes.{Keeps}
+use Rattle.ix_text.specs.Collections.{Collection}
 use Rattle.ix_text.specs.Parts.{DictionaryEntry}
 use Rattle.ix_run.specs.Faults.{MayFault}
 use Rattle.ix_run.specs.Heads.{Heading, IsLawfulHeading, parts_with}
-use Rattle.ix_run.specs.Reading.{HasRead, MayYield}
+use Rattle.ix_run.specs.Reading.{HasRead, IsSure, MayYield}
 use Rattle.ix_run.specs.RunReaders.{heading_read}
-use Rattle.ix_run.specs.RunText.{heading_bytes, run_layout}
+use Rattle.ix_run.specs.RunText.{IsRunText, heading_bytes, run_layout}
 use Rattle.ix_run.specs.Sources.{IsUnread}
 use Rattle.ix_run.specs.RunReader.{RunReader}
 use Rattle.ix_run.specs.RunTextError.{RunTextError}
 use Rattle.ix_run.specs.RunTextError.TheVariants as text
 use Rattle.ix_run.specs.RunTextErrors.{IsRefusal as IsReadRefusal}
-use Rattle.ix_merge.specs.Pieces.{WritesConcatenation}
+use Rattle.ix_merge.specs.Pieces.{WritesConcatenation, WritesYieldedPart}
 use Rattle.ix_merge.specs.Refusals.{IsRefusal}
 use Rattle.ix_merge.specs.declared.merge_error.MergeError.{MergeError}
 use Rattle.ix_merge.specs.declared.merge_error.MergeError.TheVariants as merge
@@ -53,17 +54,29 @@ told_of_read_merge merge.Memory = Memory
 abbrev pub MayBeMerged : List Heading → Type 0
 MayBeMerged headings = (error : MergeError RunTextError) → IsRefusal headings error → MayComeOfMerge error
 
+-- The bytes are the run text of some collection.
+pub record AreRunText (bytes : List ℕ) : Type 0 where
+  pub first : ℕ
+  pub collection : Collection
+  pub is : IsRunText first collection bytes
+
+-- no bytes may come back of a place below the count but a run text
+abbrev pub GivesRunsBack : (ℕ → List ℕ → Type 0) → ℕ → Type 0
+GivesRunsBack back count = (place : ℕ) (bytes : List ℕ) → place < count → back place bytes → AreRunText bytes
+
 module _ {R : Type 0} (remaining : R → Option (List ℕ)) where
   -- The readers tell their bytes.
   abbrev pub TellBytes : Type 0
   TellBytes = (reader : R) → IsSome (remaining reader)
 
-  -- Some bytes may have come of which the reader is: they spell the run that it may yield.
+  -- Some bytes may have come of which the reader is: they spell the run that it may yield, and if they are the run text of a
+  -- collection, it is sure to yield one.
   pub record IsOfBytes (may_come : List ℕ → Type 0) (reader : RunReader R) : Type 0 where
     pub bytes : List ℕ
     pub came : may_come bytes
     pub spelled : (entries : List DictionaryEntry) → MayYield remaining reader [] entries
         → bytes ≡ run_layout (heading_read reader).first (parts_with (heading_read reader) entries)
+    pub sure : (first : ℕ) (collection : Collection) → IsRunText first collection bytes → IsSure remaining reader
 
   -- A reader of a run with this heading, of which nothing was asked yet.
   pub record IsReadBack (may_come : List ℕ → Type 0) (heading : Heading) (reader : RunReader R) : Type 0 where
@@ -82,6 +95,16 @@ module _ {R : Type 0} (remaining : R → Option (List ℕ)) where
     pub readers : List (RunReader R)
     pub read : AreReadBack back headings readers
     pub written : WritesConcatenation (MayYield remaining) heading_read readers before now
+
+  -- Since `before`, a prefix of such a text went out, and the whole of it only if `if_whole` holds.
+  pub record WritesReadBackPart (back : ℕ → List ℕ → Type 0) (headings : List Heading) (before now : Option (List ℕ)) (if_whole : Type 0) : Type 0 where
+    pub readers : List (RunReader R)
+    pub read : AreReadBack back headings readers
+    pub written : WritesYieldedPart (MayYield remaining) heading_read readers before now if_whole
+
+  -- nothing went out, or such a prefix
+  abbrev pub LeavesReadBackPart : (ℕ → List ℕ → Type 0) → List Heading → Option (List ℕ) → Option (List ℕ) → Type 0 → Type 0
+  LeavesReadBackPart back headings before now if_whole = Keeps before now ⊎ WritesReadBackPart back headings before now if_whole
 
   -- A reader of what came back of the place, of which nothing was asked yet, may answer with an error that is told as its place.
   pub record MayNotRead (back : ℕ → List ℕ → Type 0) (place : ℕ) : Type 0 where

@@ -1,9 +1,12 @@
 -- Runs as the pieces of a concatenation, and what a merge of them writes.
-use Rattle.std.specs.Prelude.{◌≡◌, ℕ, ◌+◌, ◌^◌, ◌<◌, ◌≤◌, List, [], ◌∷◌, length, flat_map, slice_get, Some, Option}
+use Rattle.std.specs.Prelude.{◌≡◌, ◌⊎◌, ℕ, ◌+◌, ◌^◌, ◌<◌, ◌≤◌, List, [], ◌∷◌, length, flat_map, slice_get, Some, Option}
+use Rattle.std.specs.Io.KnownBytes.{Keeps}
 use Rattle.ix_text.specs.Collections.{Collection, NamedText, collection_of, token_total}
 use Rattle.ix_merge.specs.Endings.{WritesIndexText}
+use Rattle.ix_merge.specs.IndexText.{IsIndexText}
+use Rattle.ix_merge.specs.Sections.{FrontCoded}
 use Rattle.ix_run.specs.Runs.{RunValue, IsRunOf}
-use Rattle.ix_merge.specs.Pieces.{Piece, IsConcatenation}
+use Rattle.ix_merge.specs.Pieces.{Piece, IsConcatenation, WritesPart}
 
 -- The runs are those of the pieces, one each.
 pub record AreRunsOf (runs : List RunValue) (pieces : List Piece) : Type 0 where
@@ -39,3 +42,18 @@ pub record WritesRuns (runs : List RunValue) (before now : Option (List ℕ)) : 
   pub whole : Collection
   pub concatenation : IsConcatenation pieces whole
   pub written : WritesIndexText before now whole
+
+-- Since `before`, a prefix of the index text of the concatenation of the runs' collections was written, and the whole of it
+-- only if `if_whole` holds.
+pub record WritesRunsPart (runs : List RunValue) (before now : Option (List ℕ)) (if_whole : Type 0) : Type 0 where
+  pub pieces : List Piece
+  pub of_pieces : AreRunsOf runs pieces
+  pub whole : Collection
+  pub concatenation : IsConcatenation pieces whole
+  pub text : List ℕ
+  pub of_whole : IsIndexText FrontCoded whole text
+  pub gained : WritesPart before now text if_whole
+
+-- nothing was written, or such a prefix
+abbrev pub LeavesRunsPart : List RunValue → Option (List ℕ) → Option (List ℕ) → Type 0 → Type 0
+LeavesRunsPart runs before now if_whole = Keeps before now ⊎ WritesRunsPart runs before now if_whole

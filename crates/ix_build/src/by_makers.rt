@@ -62,7 +62,8 @@ pub struct Built<M: Maker> {
 /// # Errors
 /// Before anything is written: `Thread` if a thread cannot be started, after which nothing is said of the makers;
 /// `Memory` if the work that they share is out of memory; `Make` with the lowest place that was not made. `Merge` if all
-/// runs are made and their merge fails.
+/// runs are made and their merge fails; a prefix of the index text is then written, perhaps nothing of it, and all of
+/// it only if the merge fails with `Write`.
 pub fn build_by<M: Maker<Piece = Run>, W: Write, R: Threads + Wait + Sync>(
     rt: &R,
     alloc: Global,

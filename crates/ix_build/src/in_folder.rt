@@ -10,6 +10,7 @@ ghost use Rattle.ix_build.specs.AlikeFronts.{LeavesAlikeFront, WritesAlike};
 ghost use Rattle.ix_build.specs.BuildErrors.{IsBeforeWriting, IsBuildRefusal, IsFolderRefusal};
 ghost use Rattle.ix_build.specs.FolderStores.{files_of};
 ghost use Rattle.ix_build.specs.GivenBack.{GivesBlocksBack};
+ghost use Rattle.ix_build.specs.OwnParts.{LeavesOwnPart};
 ghost use Rattle.ix_build.specs.ReadBack.{TellBytes, TellsUnread};
 ghost use Rattle.ix_build.specs.RunNames.{AreRunNames, AreRunNamesOf, HasNoRuns, IsRunOf, MayComeBack};
 
@@ -40,8 +41,9 @@ use std::thread::Threads;
 /// # Errors
 /// `Thread` if a thread cannot be started, before anything is written; `Spill` with the place, from 0, of a block whose
 /// run was not saved in the folder or not given back, never with runs in memory; `Write` if a write or the flush fails;
-/// `Memory` if out of memory. After these a prefix of an index text with the collection's stop terms, names and token
-/// counts is written, perhaps nothing of it, or after a failed flush all of it.
+/// `Memory` if out of memory. After these a prefix of this index text is written, perhaps nothing of it, and all of it
+/// only after `Write`. With runs in a folder that is proved if the bytes of the files are known and they give back only
+/// the runs; else a prefix of an index text with the collection's stop terms, names and token counts is written.
 pub fn build<W: Write, F: Files, R: Threads + Wait + Sync, V: Watch>(
     rt: &R,
     alloc: Global,
@@ -77,8 +79,20 @@ pub fn build<W: Write, F: Files, R: Threads + Wait + Sync, V: Watch>(
     ensures unread { (folder : List ℕ) → plan.now.folder ≡ Some folder
         → IfErr result (TellsUnread F.Shared.Reader.remaining
         (MayComeBack F.Shared.shared F.Shared.back) (W.contents out.old) (W.contents out.new)) }
+
+    // An error leaves a prefix of the collection's own index text, with runs in a folder under the
+    // premises of `exact`; and whatever the files give back, one of an index text like it.
     ensures front { OnErr result (LeavesAlikeFront (collection_of stop.now collection.now)
         (W.contents out.old) (W.contents out.new)) }
+    ensures unfinished { plan.now.folder ≡ None → IfErr result (λ error. LeavesOwnPart
+        (collection_of stop.now collection.now) (W.contents out.old) (W.contents out.new)
+        (error ≡ BuildError.Write)) }
+    ensures unfinished_in_folder { (folder : List ℕ) → plan.now.folder ≡ Some folder
+        → TellBytes F.Shared.Reader.remaining
+        → GivesBlocksBack plan.now.cut collection.now stop.now
+        (MayComeBack F.Shared.shared F.Shared.back)
+        → IfErr result (λ error. LeavesOwnPart (collection_of stop.now collection.now)
+        (W.contents out.old) (W.contents out.new) (error ≡ BuildError.Write)) }
 
     // No file but those of the runs changes, and in the end none of these is left, unless the system fails.
     ensures changes { ChangesOnly (IsRunOf plan.now collection.now (F.view files.old))
@@ -150,6 +164,10 @@ fn build_in_files<W: Write, S: SharedFiles, R: Threads + Wait + Sync, V: Watch>(
         (W.contents out.old) (W.contents out.new)) }
     ensures front { OnErr result (LeavesAlikeFront (collection_of stop.now collection.now)
         (W.contents out.old) (W.contents out.new)) }
+    ensures unfinished { TellBytes S.Reader.remaining
+        → GivesBlocksBack plan.now.cut collection.now stop.now (S.back files.now)
+        → IfErr result (λ error. LeavesOwnPart (collection_of stop.now collection.now)
+        (W.contents out.old) (W.contents out.new) (error ≡ BuildError.Write)) }
 {
     let watched = WatchedFiles { files, watch };
     let Ok(stores) = stores_over(alloc, &watched, plan.workers()) else {

@@ -1,15 +1,15 @@
 //! Building the index text of a collection with the runs of its blocks in memory.
-ghost use Rattle.std.specs.Prelude.{◌≡◌, ◌<◌, length, map, vec_len, All, IfErr, IfOk, OnErr, OnOk};
+ghost use Rattle.std.specs.Prelude.{◌≡◌, ◌<◌, length, map, vec_len, All, IfErr, IfOk, OnOk};
 ghost use Rattle.std.specs.Io.KnownBytes.{Keeps};
 ghost use Rattle.ix_text.specs.Collections.{collection_of};
 ghost use Rattle.ix_text.specs.Docs.{named_text};
 ghost use Rattle.ix_text.specs.Sizes.{AreSmall};
 ghost use Rattle.ix_merge.specs.Endings.{WritesIndexText};
-ghost use Rattle.ix_build.specs.AlikeFronts.{LeavesAlikeFront};
 ghost use Rattle.ix_build.specs.BlockMakers.{IsMakerOf};
 ghost use Rattle.ix_build.specs.Balanced.{balanced_cut};
 ghost use Rattle.ix_build.specs.Blocks.{AreBounds, AscendUpTo};
 ghost use Rattle.ix_build.specs.BuildErrors.{IsBeforeWriting, IsBuildRefusal, IsInvertRefusal};
+ghost use Rattle.ix_build.specs.OwnParts.{LeavesOwnPart};
 ghost use Rattle.ix_build.specs.RunPieces.{AreRunsOfTexts};
 
 use crate::balanced::balanced_cut;
@@ -34,8 +34,8 @@ use std::thread::Threads;
 ///
 /// # Errors
 /// `Thread` if a thread cannot be started, before anything is written; `Write` if a write or the flush fails; `Memory` if
-/// out of memory. After these a prefix of an index text is written, perhaps nothing of it, or after a failed flush all of
-/// it. Never `Spill`.
+/// out of memory. After these a prefix of this index text is written, perhaps nothing of it, and all of it only after
+/// `Write`. Never `Spill`.
 pub fn build_in_memory<W: Write, R: Threads + Wait + Sync>(
     rt: &R,
     alloc: Global,
@@ -49,8 +49,9 @@ pub fn build_in_memory<W: Write, R: Threads + Wait + Sync>(
     ensures refused { IfErr result (IsBuildRefusal plan.now.workers) }
     ensures early { IfErr result (λ error. IsBeforeWriting error
         → Keeps (W.contents out.old) (W.contents out.new)) }
-    ensures front { OnErr result (LeavesAlikeFront (collection_of stop.now collection.now)
-        (W.contents out.old) (W.contents out.new)) }
+    ensures unfinished { IfErr result (λ error. LeavesOwnPart
+        (collection_of stop.now collection.now) (W.contents out.old) (W.contents out.new)
+        (error ≡ BuildError.Write)) }
 {
     build_watched(rt, alloc, collection, stop, plan, &Unwatched, out)
 }
@@ -70,8 +71,9 @@ pub(crate) fn build_watched<W: Write, R: Threads + Wait + Sync, V: Watch>(
     ensures refused { IfErr result (IsBuildRefusal plan.now.workers) }
     ensures early { IfErr result (λ error. IsBeforeWriting error
         → Keeps (W.contents out.old) (W.contents out.new)) }
-    ensures front { OnErr result (LeavesAlikeFront (collection_of stop.now collection.now)
-        (W.contents out.old) (W.contents out.new)) }
+    ensures unfinished { IfErr result (λ error. LeavesOwnPart
+        (collection_of stop.now collection.now) (W.contents out.old) (W.contents out.new)
+        (error ≡ BuildError.Write)) }
 {
     let docs = collection.docs();
     let Ok(bounds) = balanced_bounds(alloc, docs, plan) else {

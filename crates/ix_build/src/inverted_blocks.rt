@@ -1,10 +1,9 @@
 //! The runs of a collection's blocks, in memory, and the merge of runs in memory.
-ghost use Rattle.std.specs.Prelude.{IfErr, OnErr, OnOk};
+ghost use Rattle.std.specs.Prelude.{◌≡◌, IfErr, OnOk};
 ghost use Rattle.std.specs.Io.KnownBytes.{Keeps};
-ghost use Rattle.ix_merge.specs.Pieces.{LeavesFront};
 ghost use Rattle.ix_merge.specs.Refusals.{AreMergeable, IsEarly, IsRefusal};
 ghost use Rattle.ix_build.specs.Built.{headings_of};
-ghost use Rattle.ix_build.specs.RunPieces.{WritesRuns};
+ghost use Rattle.ix_build.specs.RunPieces.{LeavesRunsPart, WritesRuns};
 
 use crate::build_error::BuildError;
 use ix_merge::{MergeError, merge};
@@ -33,9 +32,9 @@ impl Model for InvertedBlocks {
 }
 
 impl InvertedBlocks {
-    ghost use Rattle.std.specs.Prelude.{◌≡◌, ℕ, List};
-    ghost use Rattle.ix_build.specs.AlikeFronts.{LeavesAlikeFront};
+    ghost use Rattle.std.specs.Prelude.{ℕ, List};
     ghost use Rattle.ix_build.specs.BuildErrors.{IsMergeRefusal};
+    ghost use Rattle.ix_build.specs.OwnParts.{LeavesOwnPart};
     ghost use Rattle.ix_build.specs.RunPieces.{AreInverted, AreRunsOfTexts};
     ghost use Rattle.ix_merge.specs.Endings.{WritesIndexText};
     ghost use Rattle.ix_text.specs.Collections.{NamedText, collection_of};
@@ -51,16 +50,17 @@ impl InvertedBlocks {
     /// Writes the index text, version 2, of the collection: merges the runs (IIR 4.3), and drops them.
     ///
     /// # Errors
-    /// `Write` if a write or the flush fails; `Memory` if out of memory. A prefix of an index text is then written,
-    /// perhaps nothing of it, or after a failed flush all of it. Never `Thread` or `Spill`.
+    /// `Write` if a write or the flush fails; `Memory` if out of memory. A prefix of this index text is then written,
+    /// perhaps nothing of it, and all of it only after `Write`. Never `Thread` or `Spill`.
     pub fn merge_into<W: Write>(self, alloc: Global, out: &mut W) -> Result<(), BuildError>
         ensures written { (stop : List (List ℕ)) (texts : List NamedText)
             → AreRunsOfTexts stop texts self → OnOk result (WritesIndexText
             (W.contents out.old) (W.contents out.new) (collection_of stop texts)) }
         ensures refused { IfErr result IsMergeRefusal }
-        ensures front { (stop : List (List ℕ)) (texts : List NamedText)
-            → AreRunsOfTexts stop texts self → OnErr result (LeavesAlikeFront
-            (collection_of stop texts) (W.contents out.old) (W.contents out.new)) }
+        ensures unfinished { (stop : List (List ℕ)) (texts : List NamedText)
+            → AreRunsOfTexts stop texts self → IfErr result (λ error. LeavesOwnPart
+            (collection_of stop texts) (W.contents out.old) (W.contents out.new)
+            (error ≡ BuildError.Write)) }
     {
         match merge_runs(alloc, self.runs.as_slice(), out) {
             Ok(()) => Ok(()),
@@ -81,8 +81,8 @@ pub(crate) fn merge_runs<W: Write>(
     ensures refused { IfErr result (IsRefusal (headings_of runs.now)) }
     ensures early { IfErr result (λ error. IsEarly error
         → Keeps (W.contents out.old) (W.contents out.new)) }
-    ensures front { OnErr result (LeavesFront (headings_of runs.now)
-        (W.contents out.old) (W.contents out.new)) }
+    ensures unfinished { IfErr result (λ error. LeavesRunsPart runs.now
+        (W.contents out.old) (W.contents out.new) (error ≡ MergeError.Write)) }
 {
     let mut sources = Vec::with_capacity(alloc, runs.len())?;
     for run in runs {

@@ -6,6 +6,7 @@ ghost use Rattle.ix_build.specs.AlikeFronts.{LeavesAlikeFront, WritesAlike};
 ghost use Rattle.ix_build.specs.BuiltOver.{AreBlocksSaved, FailsOver};
 ghost use Rattle.ix_build.specs.GivenBack.{GivesBlocksBack};
 ghost use Rattle.ix_build.specs.KeptHeadings.{IsHeadingOfBlock};
+ghost use Rattle.ix_build.specs.OwnParts.{LeavesOwnPart};
 ghost use Rattle.ix_build.specs.ReadBack.{TellBytes, TellsCause};
 ghost use Rattle.ix_build.specs.Stores.{HasRefused};
 
@@ -40,7 +41,9 @@ pub struct BuiltOver<T> {
 /// # Errors
 /// Before anything is written: `Thread` if a thread cannot be started; `Spill` with the lowest place whose run a store did
 /// not save, or else with the lowest that was not given back with the head that was kept of it. `Spill` too if a run that
-/// is read turns out not to be one; `Write` if a write or the flush fails; `Memory` if out of memory.
+/// is read turns out not to be one; `Write` if a write or the flush fails; `Memory` if out of memory. After these a
+/// prefix of such a text is written, perhaps nothing of it; if the first store gives back only the runs, and the bytes of
+/// its readers are known, a prefix of the collection's own, and all of it only after `Write`.
 pub fn build_over<T: RunStore, W: Write, R: Threads + Wait + Sync>(
     rt: &R,
     alloc: Global,
@@ -79,6 +82,11 @@ pub fn build_over<T: RunStore, W: Write, R: Threads + Wait + Sync>(
         (W.contents out.old) (W.contents out.new)) }
     ensures front { OnErr result.result (LeavesAlikeFront (collection_of stop.now collection.now)
         (W.contents out.old) (W.contents out.new)) }
+    ensures unfinished { (first : T) → slice_get stores.items 0 ≡ Some first
+        → TellBytes T.Reader.remaining
+        → GivesBlocksBack plan.now.cut collection.now stop.now (T.back first)
+        → IfErr result.result (λ error. LeavesOwnPart (collection_of stop.now collection.now)
+        (W.contents out.old) (W.contents out.new) (error ≡ BuildError.Write)) }
 {
     // One store for each worker.
     let workers = plan.workers();

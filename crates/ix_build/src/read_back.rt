@@ -2,8 +2,8 @@
 ghost use Rattle.std.specs.Prelude.{◌≡◌, ◌≢◌, ◌+◌, [], length, map, slice_get, Some, IfErr, IfOk, IsFalse, IsTrue, OnErr, OnOk};
 ghost use Rattle.ix_merge.specs.Pieces.{LeavesFront};
 ghost use Rattle.ix_run.specs.Heads.{heading_of, row_of_doc};
-ghost use Rattle.ix_build.specs.ReadBack.{AreReadBack, ComesOfMerging, ComesOfReading, IsReadBack, MayBeMerged};
-ghost use Rattle.ix_build.specs.ReadBack.{TellsCause, TellsNotGivenBack, WritesReadBack};
+ghost use Rattle.ix_build.specs.ReadBack.{AreReadBack, ComesOfMerging, ComesOfReading, GivesRunsBack, IsReadBack, LeavesReadBackPart, MayBeMerged};
+ghost use Rattle.ix_build.specs.ReadBack.{TellBytes, TellsCause, TellsNotGivenBack, WritesReadBack};
 ghost use Rattle.ix_build.specs.SavingMakers.{HasSaved};
 ghost use Rattle.ix_build.specs.Stores.{CountsMore};
 
@@ -91,6 +91,11 @@ pub(crate) fn merge_saved<T: RunStore, W: Write>(
         (T.back store.old) (W.contents out.old) (W.contents out.new)) }
     ensures front { OnErr result (LeavesFront (map heading_of heads.now)
         (W.contents out.old) (W.contents out.new)) }
+    ensures unfinished { TellBytes T.Reader.remaining
+        → GivesRunsBack (T.back store.old) (length heads.now)
+        → IfErr result (λ error. LeavesReadBackPart T.Reader.remaining (T.back store.old)
+        (map heading_of heads.now) (W.contents out.old) (W.contents out.new)
+        (error ≡ BuildError.Write)) }
     ensures store { HasSaved T.places T.refusals T.back store.old store.new [] }
 {
     let readers = open_runs(alloc, store, heads)?;

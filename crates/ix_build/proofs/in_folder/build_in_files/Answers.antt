@@ -18,6 +18,16 @@ returns-clause-exact g c = λ tell gives.
     c.args.plan.now.cut c.args.collection.now c.args.stop.now gives in
     on_ok_weaker c.build_over-result.result.result (λ exact. exact first.0 first.1 tell first.2) c.build_over-result.ensures.exact
 
+pub returns-clause-unfinished : goal.returns-clause-unfinished
+returns-clause-unfinished g c = λ tell gives.
+    let stores = c.in-Ok.stores in
+    let M = WatchedFiles g.row.S.Denot g.row.V.Denot in
+    let watched : M = record { files = c.args.files; watch = c.args.watch } in
+    let back : M → ℕ → List ℕ → Type 0 = λ w. g.S.SharedFiles.back w.files.now in
+    let first = first_gives back watched stores.items c.in-Ok.ensures.each (omega (arith, stores.ok.0, c.in-Ok.ensures.as_many, c.workers.ensures.few.0))
+    c.args.plan.now.cut c.args.collection.now c.args.stop.now gives in
+    c.build_over-result.ensures.unfinished first.0 first.1 tell first.2
+
 pub returns-clause-unread : goal.returns-clause-unread
 returns-clause-unread g c =
     let stores = c.in-Ok.stores in

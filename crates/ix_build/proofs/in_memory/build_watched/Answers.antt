@@ -1,17 +1,20 @@
 -- The runs of the blocks, one after another, are the collection.
-use Rattle.std.proofs.Common.{map, sym, subst}
+use Rattle.std.proofs.Common.{◌≡◌, map, sym, subst}
 use Rattle.std.proofs.lemmas.Result.{IfErr-at_err, IfOk-at_ok}
 use Rattle.ix_text.specs.Collections.{collection_of}
 use Rattle.ix_text.specs.Docs.{named_text}
 use Rattle.ix_text.specs.Sizes.{AreSmall}
 use Rattle.ix_merge.specs.Endings.{WritesIndexText}
-use Rattle.ix_build.specs.AlikeFronts.{LeavesAlikeFront}
 use Rattle.ix_build.specs.Balanced.{balanced_cut}
 use Rattle.ix_build.specs.Blocks.{AreBounds}
 use Rattle.ix_build.specs.BlockRuns.{GivesRun, StaysMakerOf}
+use Rattle.ix_build.specs.BuildErrors.{told_of_building}
 use Rattle.ix_build.specs.Built.{FailsToBuild, IsBuilt}
+use Rattle.ix_build.specs.OwnParts.{LeavesOwnPart}
+use Rattle.ix_build.specs.declared.build_error.BuildError.{BuildError}
+use Rattle.ix_build.specs.declared.build_error.BuildError.TheVariants.{Write}
 use Rattle.ix_build.proofs.BlockMaking.{asked_of}
-use Rattle.ix_build.proofs.WholeBuild.{all_left, all_written, may_come_of_building, some_bound}
+use Rattle.ix_build.proofs.WholeBuild.{all_unfinished, all_written, may_come_of_building, some_bound}
 use Rattle.ix_build.proofs.WholeOver.{few_tokens}
 use Rattle.ix_build.proofs.in_memory.build_watched.Goals as goal
 
@@ -53,8 +56,8 @@ of_building-requires g c =
     may_come_of_building cut texts bounds are stop makers after c.in-Ok-makers_of.ensures.each count c.block_count.ensures before now
     (few_tokens stop texts (subst AreSmall (sym c.docs-docs.ensures.documents) c.docs-docs.ensures.small)) c.in-Err.error fails
 
-pub returns-clause-front : goal.returns-clause-front
-returns-clause-front g c =
+pub returns-clause-unfinished : goal.returns-clause-unfinished
+returns-clause-unfinished g c =
     let texts = map named_text c.docs-docs.result.now in
     let cut = balanced_cut c.args.plan.now.cut c.args.plan.now.workers texts in
     let stop = c.args.stop.now in
@@ -66,5 +69,6 @@ returns-clause-front g c =
     let before = g.W.Write.contents c.args.out.now in
     let now = g.W.Write.contents c.build_by-result.new.out in
     let fails = IfErr-at_err (FailsToBuild asked_of GivesRun StaysMakerOf makers count after before now) c.in-Err.is c.build_by-result.ensures.failed in
-    subst (λ l. LeavesAlikeFront (collection_of stop l) before now) c.docs-docs.ensures.documents
-    (all_left cut texts bounds are stop makers after c.in-Ok-makers_of.ensures.each count c.block_count.ensures before now c.in-Err.error fails)
+    subst (λ (error : BuildError). LeavesOwnPart (collection_of stop c.args.collection.now) before now (error ≡ Write)) (sym c.of_building.ensures)
+    (subst (λ l. LeavesOwnPart (collection_of stop l) before now (told_of_building c.in-Err.error ≡ Write)) c.docs-docs.ensures.documents
+    (all_unfinished cut texts bounds are stop makers after c.in-Ok-makers_of.ensures.each count c.block_count.ensures before now c.in-Err.error fails))

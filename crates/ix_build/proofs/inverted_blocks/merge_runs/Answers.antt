@@ -2,16 +2,20 @@
 use Rattle.std.proofs.Common.{◌≡◌, ◌∷◌, [], ◌++◌, List, map, take, get_or, All, ap, sym, subst, ◌∙◌, arith}
 use Rattle.std.proofs.lemmas.List.{map_push, take_all, take_more}
 use Rattle.std.proofs.lemmas.List.Elements.{All-push}
-use Rattle.std.proofs.lemmas.Result.{on_ok_weaker, on_err_weaker, IfErr-weaker}
+use Rattle.std.proofs.lemmas.Result.{on_ok_weaker, IfErr-weaker}
+use Rattle.std.specs.declared.alloc.AllocError.{AllocError}
 use Rattle.ix_run.specs.Heads.{Heading}
 use Rattle.ix_run.specs.RunSources.{HasGiven, SourceValue, unread}
 use Rattle.ix_run.specs.Runs.{RunValue}
 use Rattle.ix_run.specs.Sources.{IsUnread}
 use Rattle.ix_run.specs.RunSources.{HasLeft}
-use Rattle.ix_merge.specs.Pieces.{LeavesFront, WritesConcatenation}
+use Rattle.ix_merge.specs.Pieces.{LeavesYieldedPart, WritesConcatenation}
 use Rattle.ix_merge.specs.Refusals.{AreMergeable, IsRefusal}
+use Rattle.ix_merge.specs.declared.merge_error.MergeError.{MergeError}
+use Rattle.ix_merge.specs.declared.merge_error.MergeError.TheVariants.{Write}
 use Rattle.ix_build.specs.Built.{headings_of}
-use Rattle.ix_build.proofs.RunMerging.{heading_held, headings_held, runs_written}
+use Rattle.ix_build.specs.RunPieces.{LeavesRunsPart}
+use Rattle.ix_build.proofs.RunMerging.{all_sure, heading_held, headings_held, runs_left, runs_written}
 use Rattle.ix_build.proofs.inverted_blocks.merge_runs.Goals as goal
 
 pub returns-clause-written : goal.returns-clause-written
@@ -38,13 +42,17 @@ returns-clause-refused g c =
     IfErr-weaker c.merge.result (IsRefusal (map heading_held c.loop-run.sources.items)) (IsRefusal (headings_of runs))
     (λ error. subst (λ (hs : List Heading). IsRefusal hs error) are) c.merge.ensures.refused
 
-pub returns-clause-front : goal.returns-clause-front
-returns-clause-front g c =
+pub returns-clause-unfinished : goal.returns-clause-unfinished
+returns-clause-unfinished g c =
     let runs = c.args.runs.now in
-    let are : map heading_held c.loop-run.sources.items ≡ headings_of runs = ap (map heading_held) (c.loop-run.invariant.made ∙ ap (map unread) (take_all c.loop-run.run-index runs (omega arith))) ∙ headings_held runs in
+    let sources = c.loop-run.sources.items in
+    let are : sources ≡ map unread runs = c.loop-run.invariant.made ∙ ap (map unread) (take_all c.loop-run.run-index runs (omega arith)) in
     let before = g.W.Write.contents c.args.out.now in
     let now = g.W.Write.contents c.merge.new.out in
-    on_err_weaker c.merge.result (subst (λ (hs : List Heading). LeavesFront hs before now) are) c.merge.ensures.front
+    let Of : MergeError AllocError → List SourceValue → Type 0 = λ error sources. LeavesYieldedPart HasLeft heading_held sources before now (error ≡ Write) in
+    IfErr-weaker c.merge.result (λ error. Of error sources) (λ error. LeavesRunsPart runs before now (error ≡ Write))
+    (λ error left. runs_left runs before now (subst (All (IsUnread HasGiven)) are c.loop-run.invariant.unread) (error ≡ Write) (subst (Of error) are left))
+    (c.merge.ensures.unfinished (all_sure sources))
 
 pub loop-run-preserved : goal.loop-run-preserved
 loop-run-preserved g c =

@@ -1,8 +1,19 @@
-use Rattle.std.proofs.Common.{◌≡◌, ℕ, refl, ◌∙◌}
+use Rattle.std.proofs.Common.{rules, ◌≡◌, ℕ, refl, ◌∙◌}
 use Rattle.ix_run.specs.Heads.{Heading, heading_of}
 use Rattle.ix_build.specs.Stores.{CountsMore}
 use Rattle.ix_build.proofs.UnreadLemmas.{of_bytes, other_run}
 use Rattle.ix_build.proofs.read_back.open_run.Goals as goal
+
+pub returns-then-are_same-clause-read : goal.returns-then-are_same-clause-read
+returns-then-are_same-clause-read g c =
+    let opened = c.in-Ok-open.ensures in
+    record {
+      headed = search rules;
+      unread = opened.unread;
+      told =
+          of_bytes g.T.Reader.Read.remaining (g.T.RunStore.back c.args.store.now c.args.place) c.in-Ok.reader c.in-Ok-open.run' c.in-Ok.ensures.given
+          (λ bytes entries is yielded. (opened.yields bytes entries is yielded).0) opened.sure;
+    }
 
 -- the head that was read is another
 pub returns-else-are_same-clause-caused : goal.returns-else-are_same-clause-caused
@@ -16,5 +27,5 @@ returns-else-are_same-clause-caused g c =
     let run = c.in-Ok-open.run' in
     let opened = c.in-Ok-open.ensures in
     other_run remaining (CountsMore (g.T.RunStore.refusals store) (g.T.RunStore.refusals c.load.new.self)) kept back place run heading opened.unread
-    (of_bytes remaining (back place) c.in-Ok.reader run c.in-Ok.ensures.given (λ bytes entries is yielded. (opened.yields bytes entries is yielded).0))
+    (of_bytes remaining (back place) c.in-Ok.reader run c.in-Ok.ensures.given (λ bytes entries is yielded. (opened.yields bytes entries is yielded).0) opened.sure)
     (refl, refl) (λ same. c.if-are_same.ensures.other refl (c.head.ensures ∙ same))

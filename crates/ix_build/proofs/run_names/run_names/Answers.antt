@@ -1,7 +1,6 @@
-use Rattle.std.proofs.Common.{◌≡◌, ◌++◌, ◌∷◌, [], ℕ, List, length, map, sym, ap, subst, ◌∙◌, arith}
+use Rattle.std.proofs.Common.{◌≡◌, ◌++◌, ◌∷◌, [], length, map, sym, ap, subst, ◌∙◌, arith}
 use Rattle.std.proofs.lemmas.List.{length-map, map_push}
 use Rattle.ix_files.specs.Locations.{place_of}
-use Rattle.ix_files.specs.Slots.{Place}
 use Rattle.ix_build.specs.RunNames.{AreRunNames, run_place}
 use Rattle.ix_build.proofs.RunNameLemmas.{one_more_named}
 use Rattle.ix_build.proofs.run_names.run_names.Goals as goal
