@@ -3,10 +3,6 @@ use Rattle.std.proofs.Common.{◌≡◌, ◌≢◌, ℕ, ◌^◌, ◌<◌, ◌�
 use Rattle.std.specs.Prelude.{codes, decimal, MatchOption}
 use Rattle.std.specs.Str.Parse.{ParsesUnsigned}
 use Rattle.std.proofs.lemmas.Fmt.{decimal_nonempty, parse-decimal}
-use Rattle.ix_query.specs.QueryError.{QueryError}
-use Rattle.ix_query.specs.QueryError.TheVariants as query_error
-use Rattle.ix_query.specs.Tree.{Tree}
-use Rattle.ix_query.specs.QueryErrors.{Fails}
 use Rattle.ix_script.specs.Steps.{Add, Ask, IsNoNumber, IsNumber, Publish, Remove, Removes, RemovesNone, Step, Text, is_filled, line_of}
 
 -- the line of a step is not empty

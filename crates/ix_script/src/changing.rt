@@ -59,7 +59,7 @@ pub fn change_all<'t, R: Threads + Wait + Sync, F: Files>(
     Ok(())
 }
 
-/// Carries out an addition or a removal; an ask is left out.
+/// Carries out an addition or a removal; an ask or a publish is left out.
 fn change<'t, R: Threads + Wait + Sync, F: Files>(
     rt: &R,
     alloc: Global,
@@ -68,9 +68,9 @@ fn change<'t, R: Threads + Wait + Sync, F: Files>(
     indexer: &mut Indexer,
     step: &Step<'t>,
 ) -> Result<(), RunError<'t>>
-    requires { is_publish (step_of step.now) ≡ false }
     ensures same { KeepsPublished indexer.old indexer.new }
-    ensures changed { OnOk result (Changes (held_in (F.view files.now)) indexer.old.stop
+    ensures changed { is_publish (step_of step.now) ≡ false
+        → OnOk result (Changes (held_in (F.view files.now)) indexer.old.stop
         (step_of step.now ∷ []) (progress_of indexer.old) (progress_of indexer.new)) }
     ensures refused { IfErr result (RefusesStep (held_in (F.view files.now)) plan.now.workers
         indexer.old.stop (step_of step.now) (progress_of indexer.old)) }
@@ -81,8 +81,7 @@ fn change<'t, R: Threads + Wait + Sync, F: Files>(
             Ok(()) => Ok(()),
             Err(error) => Err(RunError::Live(error)),
         },
-        Step::Ask(_, _) => Ok(()),
-        Step::Publish => unreachable!(),
+        Step::Ask(_, _) | Step::Publish => Ok(()),
     }
 }
 

@@ -1,5 +1,5 @@
 -- The steps before the place were carried out.
-use Rattle.std.proofs.Common.{rules, ◌≡◌, false, ◌∙◌, ◌∷◌, [], arith, map, take, drop, subst, sym, suc}
+use Rattle.std.proofs.Common.{◌≡◌, false, ◌∙◌, ◌∷◌, [], arith, map, take, drop, subst, sym, suc}
 use Rattle.std.proofs.lemmas.List.{take_all}
 use Rattle.ix_files.specs.Reading.{held_in}
 use Rattle.ix_script.specs.Groups.{is_publish}
@@ -11,12 +11,6 @@ use Rattle.ix_script.proofs.RunLemmas.{changes_then}
 use Rattle.ix_script.proofs.StepLemmas.{cut_at, quiet_at}
 use Rattle.ix_script.proofs.changing.change_all.Goals as goal
 
-pub change-requires : goal.change-requires
-change-requires g c =
-    let quiet : is_publish (step_of c.index-group-place.result) ≡ false =
-    quiet_at c.args.group.now c.loop-place.place c.index-group-place.result c.loop-place-test.true (search rules) c.index-group-place.is in
-    search rules
-
 pub loop-place-preserved : goal.loop-place-preserved
 loop-place-preserved g c =
     let inv = c.loop-place.invariant in
@@ -24,7 +18,8 @@ loop-place-preserved g c =
     let step = c.index-group-place.result in
     let steps = c.args.group.now in
     let place = c.loop-place.place in
-    let changed = subst (λ stop. Changes holds stop (step_of step ∷ []) (progress_of c.loop-place.indexer) (progress_of c.change.new.indexer)) inv.stop c.in-Ok.ensures.changed in
+    let quiet : is_publish (step_of step) ≡ false = quiet_at steps place step c.loop-place-test.true c.requires c.index-group-place.is in
+    let changed = subst (λ stop. Changes holds stop (step_of step ∷ []) (progress_of c.loop-place.indexer) (progress_of c.change.new.indexer)) inv.stop (c.in-Ok.ensures.changed quiet) in
     record {
       within = omega arith;
       stop = c.change.ensures.same.0 ∙ inv.stop;

@@ -6,7 +6,8 @@ use Rattle.ix_script.proofs.changing.read.Goals as goal
 
 pub returns-then-len-eq-ROOM-clause-refused : goal.returns-then-len-eq-ROOM-clause-refused
 returns-then-len-eq-ROOM-clause-refused g c =
-    (refl, front_of_longer (held_in (g.F.Files.view c.args.files.now) c.args.path.now) _ (2 ^ 28) _ c.in-Ok.ensures.front (omega (arith, c.len.ensures, c.if-len-eq-ROOM.true)))
+    let long = front_of_longer (held_in (g.F.Files.view c.args.files.now) c.args.path.now) _ (2 ^ 28) _ c.in-Ok.ensures.front (omega (arith, c.len.ensures, c.if-len-eq-ROOM.true)) in
+    (refl, long.0, long.1, long.2)
 
 pub returns-else-len-eq-ROOM-clause-held : goal.returns-else-len-eq-ROOM-clause-held
 returns-else-len-eq-ROOM-clause-held g c =
