@@ -15,7 +15,9 @@ pub fn asks_alike(query: &Tree)
     ensures { IsAlike query.now }
 {
     match query {
-        Tree::Phrase(_) | Tree::Near { .. } | Tree::Pattern(_) => {}
+        Tree::Phrase(_) => {}
+        Tree::Near { .. } => {}
+        Tree::Pattern(_) => {}
         Tree::And(parts) => each_asks_alike(parts.as_slice()),
         Tree::Or(parts) => each_asks_alike(parts.as_slice()),
         Tree::Not(part) => asks_alike(part.get()),
