@@ -1,5 +1,5 @@
 -- A query asks the same of a token list and of one with fewer terms, by its kinds, and so has the same scan.
-use Rattle.std.proofs.Common.{◌≡◌, ◌↔◌, ℕ, ◌+◌, ◌<◌, inl, inr, true, List, Option, Some, length, get_or, slice_get, refl, sym, ◌∙◌, ap, subst}
+use Rattle.std.proofs.Common.{◌≡◌, ◌↔◌, ℕ, ◌+◌, ◌<◌, inl, inr, List, Option, Some, length, get_or, slice_get, refl, sym, subst}
 use Rattle.std.proofs.lemmas.Option.{get_or_from_slice_get, slice_get_within}
 use Rattle.std.specs.Prelude.{All, Any, Contains}
 use Rattle.ix_text.specs.Collections.{Collection, Document}

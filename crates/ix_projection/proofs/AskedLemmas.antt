@@ -1,5 +1,5 @@
 -- The terms that each kind of query asks about, as one equation, and one more part of a query.
-use Rattle.std.proofs.Common.{◌≡◌, ◌↔◌, ℕ, zero, suc, ◌+◌, ◌<◌, ◌⊎◌, inl, inr, Bool, true, false, List, [], ◌∷◌, Option, Some, map, length, get_or, refl, sym, ◌∙◌, ap, subst, arith}
+use Rattle.std.proofs.Common.{◌≡◌, ◌↔◌, ℕ, zero, suc, ◌⊎◌, inl, inr, List, [], ◌∷◌, Option, Some, map, refl, sym, ◌∙◌, ap, subst, arith}
 use Rattle.std.specs.Prelude.{Any, Contains}
 use Rattle.ix_gram.specs.Patterns.{Matches}
 use Rattle.ix_query_text.specs.declared.tree.Tree.{Tree}

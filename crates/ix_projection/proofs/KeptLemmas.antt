@@ -5,7 +5,7 @@ use Rattle.std.proofs.lemmas.List.Elements.{All-map, All-weaker}
 use Rattle.std.proofs.lemmas.List.Sums.{sum_by-cons}
 use Rattle.std.proofs.lemmas.Option.{slice_get-map}
 use Rattle.std.specs.Option.{option_map}
-use Rattle.ix_text.specs.Collections.{Collection, Document, HasPosting, IsLawful, IsLawfulEntry, IsName, token_total}
+use Rattle.ix_text.specs.Collections.{Collection, Document, HasPosting, IsLawful, IsLawfulEntry, IsName}
 use Rattle.ix_text.specs.Parts.{DocumentRow, row_of}
 use Rattle.ix_text.specs.TokenLists.{Entry}
 use Rattle.ix_text.proofs.PartsLemmas.{injected}

@@ -1,12 +1,11 @@
 -- The parts and the index text of a collection with fewer terms.
-use Rattle.std.proofs.Common.{◌≡◌, ◌↔◌, ℕ, Bool, true, false, cond, List, [], ◌∷◌, map, get_or, All, Contains, refl, sym, ◌∙◌, ap, subst, arith, inl, inr}
+use Rattle.std.proofs.Common.{◌≡◌, ℕ, Bool, true, false, cond, List, [], ◌∷◌, get_or, All, Contains, refl, sym, ◌∙◌, ap, subst, inl, inr}
 use Rattle.std.proofs.lemmas.List.Elements.{All-contains, All-filter, Contains-get_or, filter_passes}
 use Rattle.std.proofs.lemmas.List.Kept.{IsStrictlySortedBy-filter}
 use Rattle.std.specs.Cmp.Lexicographic.{slice_cmp}
 use Rattle.std.specs.List.{filter}
 use Rattle.std.specs.Ordering.{nat_cmp}
-use Rattle.ix_text.specs.ByteOrder.{IsAscending}
-use Rattle.ix_text.specs.Collections.{Collection, HasPosting, IsLawful, IsVocabulary}
+use Rattle.ix_text.specs.Collections.{Collection, IsLawful, IsVocabulary}
 use Rattle.ix_text.specs.Parts.{Parts, DictionaryEntry, GramEntry, ArePartsOf, IsEntryOf, terms_of}
 use Rattle.ix_text.proofs.AscendingLists.{contains_cases, contains_first, contains_later, contains_none}
 use Rattle.ix_index_text.specs.Grams.{AreGramsOfTerms}
