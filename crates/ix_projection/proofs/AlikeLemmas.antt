@@ -16,7 +16,7 @@ use Rattle.ix_projection.specs.Kept.{Test, kept_collection, kept_document, kept_
 use Rattle.ix_projection.proofs.AskedLemmas.{asks-Phrase, asks-Near, asks-Pattern, asks-And, asks-Or, asks-Not}
 use Rattle.ix_projection.proofs.KeptLemmas.{kept_numbered, numbered_kept, stands_kept}
 
--- two facts that are each as good as one of two that are
+-- facts that are equivalent to equivalent facts are equivalent
 between : {A B C D : Type 0} → A ↔ B → B ↔ C → D ↔ C → A ↔ D
 between f g h = (λ a. h.1 (g.0 (f.0 a)), λ d. f.1 (g.1 (h.0 d)))
 
@@ -64,7 +64,7 @@ module _ (keeps : Test) (tokens : List Entry) where
   all_alike : (parts : List Tree) → All IsAlike parts → KeepsNamed keeps tokens (And parts) → All (Satisfies (kept_tokens keeps tokens)) parts ↔ All (Satisfies tokens) parts
   all_alike parts alike kept =
       let at = λ (k : ℕ) (d : Tree) (below : k < length parts).
-          part_alike (And parts) parts (λ term. (asks-And term parts).1) alike kept k (get_or parts k d) below (same_default parts k (get_or parts k d) d below) in
+      part_alike (And parts) parts (λ term. (asks-And term parts).1) alike kept k (get_or parts k d) below (same_default parts k (get_or parts k d) d below) in
       (λ all k d below. (at k d below).0 (all k d below), λ all k d below. (at k d below).1 (all k d below))
 
   one_alike : (parts : List Tree) → All IsAlike parts → KeepsNamed keeps tokens (Or parts) → Any (Satisfies (kept_tokens keeps tokens)) parts ↔ Any (Satisfies tokens) parts

@@ -24,8 +24,8 @@ pub fn what_queries_ask_about()
         AsksAbout term (asks.Not part) ↔ AsksAbout term part }
 {}
 
-/// Whether the query asks about the term: whether it is a word of the query, or a pattern of the query matches it. Takes
-/// no memory.
+/// Whether the query asks about the term: whether it is a word of the query, or a pattern of the query matches it.
+/// Takes no memory.
 #[cycle(asked)]
 pub fn asks_about(term: &str, query: &Tree) -> bool
     ensures { IsTrue result ↔ AsksAbout term.now query.now }

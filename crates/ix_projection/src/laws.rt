@@ -1,5 +1,6 @@
 //! Laws of a collection with fewer terms. The functions change nothing and answer nothing: what they ensure is a fact.
-ghost use Rattle.ix_projection.specs.Laws.{KeepsIndexText, KeepsLawful, KeepsNames, KeepsParts, KeepsPostings, KeepsRows};
+ghost use Rattle.ix_projection.specs.Laws.{KeepsIndexText, KeepsLawful, KeepsNames, KeepsParts};
+ghost use Rattle.ix_projection.specs.Laws.{KeepsPostings, KeepsRows};
 
 /// A collection with fewer terms has the postings of the kept terms, and no others.
 pub fn keeps_postings()
