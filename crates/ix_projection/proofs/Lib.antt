@@ -1,0 +1,4 @@
+pub mod AlikeLemmas
+pub mod AskedLemmas
+pub mod KeptLemmas
+pub mod KeptParts

@@ -1,0 +1,4 @@
+pub mod Alike
+pub mod Asked
+pub mod Kept
+pub mod Laws
