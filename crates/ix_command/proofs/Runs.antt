@@ -1,5 +1,5 @@
 -- An output that was begun, and a build with runs in files behind that.
-use Rattle.std.proofs.Common.{◌≡◌, ◌≢◌, ◌∙◌, ◌⊎◌, ◌<◌, ℕ, List, Option, Some, None, Result, Ok, Err, OnOk, OnErr, inl, inr, sym, ap, subst, get_or, arith}
+use Rattle.std.proofs.Common.{◌≡◌, ◌∙◌, ◌⊎◌, ℕ, List, Option, Some, None, Result, Ok, Err, OnOk, OnErr, inl, inr, sym, ap, subst, get_or, arith}
 use Rattle.ix_text.specs.Collections.{NamedText}
 use Rattle.ix_build.specs.Plans.{PlanValue}
 use Rattle.ix_build.specs.RunNames.{HasNoRuns, IsRunOf, run_place}

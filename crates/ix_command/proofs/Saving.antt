@@ -1,5 +1,5 @@
 -- An output that was begun, written and ended is what was written, and no other file changed.
-use Rattle.std.proofs.Common.{◌≡◌, ◌≢◌, ◌∙◌, ◌⊎◌, ℕ, List, [], ◌++◌, Option, Some, None, Result, Ok, Err, inl, inr, refl, sym, ap, subst, ◌∷◌, IfErr, IsErrAnd}
+use Rattle.std.proofs.Common.{◌≡◌, ◌≢◌, ◌∙◌, ◌⊎◌, ℕ, List, [], Option, Some, None, Result, Ok, Err, inl, inr, refl, sym, ap, subst, ◌∷◌, IfErr, IsErrAnd}
 use Rattle.std.specs.Prelude.{IsOk, OnOk, OnErr, ⊤}
 use Rattle.std.specs.Io.KnownBytes.{Appends}
 use Rattle.ix_text.specs.Collections.{Collection}

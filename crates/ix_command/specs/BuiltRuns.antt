@@ -1,5 +1,5 @@
 -- The files in which a build kept its runs.
-use Rattle.std.specs.Prelude.{◌≡◌, ◌≢◌, List, None, Option}
+use Rattle.std.specs.Prelude.{◌≡◌, ◌≢◌, List, Option}
 use Rattle.std.specs.Borrow.{Bor}
 use Rattle.clap.specs.Walk.{Text}
 use Rattle.ix_text.specs.Collections.{NamedText}

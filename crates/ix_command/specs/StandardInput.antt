@@ -3,7 +3,7 @@ use Rattle.std.specs.Prelude.{◌≡◌, ◌<◌, Bool, Option, None, Some, byte
 use Rattle.std.specs.Borrow.{Bor}
 use Rattle.clap.specs.Walk.{Text}
 use Rattle.ix_line.specs.declared.line.Line.{Line}
-use Rattle.ix_line.specs.declared.line.Line.TheVariants.{Ask, Build, Live, Merge, Run, Search, Terms, Upgrade}
+use Rattle.ix_line.specs.declared.line.Line.TheVariants.{Ask, Build, Live, Merge, Run}
 
 -- the path is that of the standard input
 abbrev pub is_input : Bor Text → Bool

@@ -1,11 +1,9 @@
 -- The text that was written is that of the collection, if the runs came back.
-use Rattle.std.proofs.Common.{◌⊎◌, OnOk, inl}
+use Rattle.std.proofs.Common.{OnOk, inl}
 use Rattle.std.proofs.lemmas.Result.{on_ok_weaker}
 use Rattle.ix_text.specs.Collections.{collection_of}
 use Rattle.ix_file.specs.Endings.{WritesIndexText}
 use Rattle.ix_build.specs.AlikeFronts.{WritesAlike}
-use Rattle.ix_build.specs.RunNames.{HasNoRuns}
-use Rattle.ix_files.specs.Slots.{IsSame}
 use Rattle.ix_command.specs.BuiltIndexes.{ComeBack}
 use Rattle.ix_command.specs.Files.{keeping_of}
 use Rattle.ix_command.proofs.BuildLemmas.{come_back, unbuilt_unsaved}

@@ -2,7 +2,6 @@
 use Rattle.std.proofs.Common.{OnOk, inl}
 use Rattle.std.proofs.lemmas.Result.{on_ok_weaker}
 use Rattle.ix_file.specs.Endings.{WritesIndexText}
-use Rattle.ix_command.proofs.FileLemmas.{handed_up}
 use Rattle.ix_command.proofs.Saving.{if_unwritten, if_written, index_left, index_saved, kept_at, on_err, on_unwritten, on_written, others_left, others_through, refused_by, saved_by, target_left, undone_through}
 use Rattle.ix_command.proofs.commands.upgrade.save.Goals.{in-Ok, in-Err}
 use Rattle.ix_command.proofs.commands.upgrade.save.Goals as goal
