@@ -1,0 +1,6 @@
+pub mod FoundEntries
+pub mod FoundTerms
+pub mod Listed
+pub mod LookupErrors
+pub mod Rows
+pub mod Versions
