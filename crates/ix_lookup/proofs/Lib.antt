@@ -1,0 +1,3 @@
+pub mod FrontLemmas
+pub mod RowLemmas
+pub mod ScanLemmas

@@ -28,11 +28,16 @@ abbrev pub AreFoundIn : Version → List ℕ → ℕ → ℕ → (List ℕ → T
 AreFoundIn version section count postings wants found =
     (listings : List Listing) → IsOfListings version section count postings listings → AreFound wants 0 listings (map placed_of found)
 
--- One more term was found.
-pub record IsAdded (old new : List FoundTerm) (term : List ℕ) (documents start size : ℕ) : Type 0 where
+-- This term was found as well.
+pub record IsAdded (term : List ℕ) (documents start size : ℕ) (old new : List FoundTerm) : Type 0 where
   pub one : FoundTerm
   pub pushed : new ≡ old ++ one ∷ []
-  pub term_is : string_bytes one.term ≡ term
-  pub documents_are : one.documents ≡ documents
-  pub start_is : one.start ≡ start
-  pub size_is : one.size ≡ size
+  pub placed : placed_of one ≡ record { listing = record { term = term; documents = documents; size = size }; start = start }
+
+-- This term was found as well if it is looked for, and otherwise none.
+abbrev pub IsNoted : (List ℕ → Type 0) → List ℕ → ℕ → ℕ → ℕ → List FoundTerm → List FoundTerm → Type 0
+IsNoted wants term documents start size old new = (wants term × IsAdded term documents start size old new) ⊎ (¬ (wants term) × (new ≡ old))
+
+-- Some term was found as well, or none.
+abbrev pub HasAtMostOneMore : ℕ → ℕ → ℕ → List FoundTerm → List FoundTerm → Type 0
+HasAtMostOneMore documents start size old new = ((term : List ℕ) × IsAdded term documents start size old new) ⊎ (new ≡ old)

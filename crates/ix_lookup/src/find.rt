@@ -1,6 +1,6 @@
 //! The scan of a dictionary.
-ghost use Rattle.std.specs.Prelude.{◌≡◌, ◌≤◌, ◌+◌, ◌++◌, ◌∷◌, ◌⊎◌, [], ℕ, List, length, All, IfOk, IfErr, OnOk};
-ghost use Rattle.ix_lookup.specs.FoundTerms.{AreFoundIn, IsAdded};
+ghost use Rattle.std.specs.Prelude.{◌≡◌, ◌≤◌, ◌+◌, ◌++◌, ◌∷◌, ◌⊎◌, ◌↔◌, [], ℕ, List, length, take, All, IsUtf8, IfOk, IfErr, OnOk};
+ghost use Rattle.ix_lookup.specs.FoundTerms.{AreFoundIn, HasAtMostOneMore, IsAdded, IsNoted};
 ghost use Rattle.ix_lookup.specs.Listed.{IsOfNone};
 ghost use Rattle.ix_lookup.specs.Versions.{version_in};
 ghost use Rattle.ix_lookup.specs.declared.lookup_error.LookupError.TheVariants.{Memory};
@@ -42,8 +42,9 @@ pub fn find_terms<M: TermMatcher>(
         if row.size as usize > postings - start {
             return Err(LookupError::Malformed);
         }
-        if matcher.step(row.shared, row.own)? {
-            add(alloc, &mut found, matcher.term(), &row, start)?;
+        note(alloc, &mut found, matcher, &row, start)?;
+        if matcher.is_past() {
+            return Ok(found);
         }
         start += row.size as usize;
         left = row.rest;
@@ -52,6 +53,34 @@ pub fn find_terms<M: TermMatcher>(
         return Err(LookupError::Malformed);
     }
     Ok(found)
+}
+
+/// Steps to the term of a row, whose list begins at `start`, and appends it if it is looked for.
+#[inline]
+fn note<M: TermMatcher>(
+    alloc: Global,
+    found: &mut Vec<FoundTerm>,
+    matcher: &mut M,
+    row: &Row<'_>,
+    start: usize,
+) -> Result<(), AllocError>
+    ensures same { (term : List ℕ) → M.wants matcher.new term ↔ M.wants matcher.old term }
+    ensures moved { (before : List ℕ) → M.is_at matcher.old before
+        → row.now.shared ≤ length before
+        → OnOk result (M.is_at matcher.new (take row.now.shared before ++ row.now.own.now)) }
+    ensures noted { (before : List ℕ) → M.is_at matcher.old before
+        → row.now.shared ≤ length before
+        → IsUtf8 (take row.now.shared before ++ row.now.own.now)
+        → OnOk result (IsNoted (M.wants matcher.old)
+            (take row.now.shared before ++ row.now.own.now)
+            row.now.documents start row.now.size found.old.items found.new.items) }
+    ensures kept { OnOk result (HasAtMostOneMore row.now.documents start row.now.size
+        found.old.items found.new.items) }
+{
+    if matcher.step(row.shared, row.own)? {
+        add(alloc, found, matcher.term(), row, start)?;
+    }
+    Ok(())
 }
 
 /// Appends a term that was found, whose list begins at `start`.
@@ -63,8 +92,8 @@ fn add(
     row: &Row<'_>,
     start: usize,
 ) -> Result<(), AllocError>
-    ensures { OnOk result (IsAdded found.old.items found.new.items term.now row.now.documents
-        start row.now.size) }
+    ensures { OnOk result (IsAdded term.now row.now.documents start row.now.size
+        found.old.items found.new.items) }
 {
     found.push(FoundTerm {
         term: String::from_str(alloc, term)?,

@@ -8,6 +8,7 @@ use std::alloc::AllocError;
 /// puts together only the terms that it has to.
 pub trait TermMatcher {
     ghost use Rattle.std.specs.Prelude.{◌≡◌, ◌≤◌, ◌++◌, ◌↔◌, ℕ, List, length, take, IsTrue, IsUtf8, IfOk};
+    ghost use Rattle.ix_lookup.specs.TermOrder.{IsBelow};
 
     // The terms that are looked for. They stay the same.
     ghost wants: { Self → List ℕ → Type 0 };
@@ -31,4 +32,9 @@ pub trait TermMatcher {
     /// The term that the scan has come to, if it is looked for.
     fn term(&self) -> &str
         ensures { (term : List ℕ) → is_at self.now term → wants self.now term → result.now ≡ term };
+
+    /// Whether no term that may follow in ascending order is looked for, as far as the matcher knows.
+    fn is_past(&self) -> bool
+        ensures { IsTrue result → (term later : List ℕ) → is_at self.now term
+            → IsBelow term later → ¬ (wants self.now later) };
 }

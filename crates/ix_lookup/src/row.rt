@@ -1,6 +1,7 @@
 //! A row of a dictionary.
 ghost use Rattle.std.specs.Prelude.{◌≡◌, ℕ, ◌^◌, ◌<◌, ◌≤◌, ◌++◌, List, length, IsSomeAnd};
 ghost use Rattle.ix_vbyte.specs.Code.{code_of};
+ghost use Rattle.ix_vbyte.specs.Texts.{counted};
 ghost use Rattle.ix_index_text.specs.Listings.{Listing, listing_bytes, dictionary_term_bytes};
 ghost use Rattle.ix_lookup.specs.Listed.{IsReadable};
 ghost use Rattle.ix_lookup.specs.Rows.{IsRowRead, IsSharedRead};
@@ -30,10 +31,8 @@ pub(crate) fn read_row(version: Version, place: u32, left: &[u8]) -> Option<Row<
         → IsSomeAnd result (IsRowRead before listing rest) }
 {
     let (shared, behind) = read_shared(version, place, left)?;
-    let (size, bytes) = read_number(behind)?;
-    let (own, behind) = bytes.split_at_checked(size as usize)?;
-    let (documents, behind) = read_number(behind)?;
-    let (size, rest) = read_number(behind)?;
+    let (own, counts) = read_counted(behind)?;
+    let (documents, size, rest) = read_counts(counts)?;
     Some(Row {
         shared,
         own,
@@ -59,6 +58,28 @@ fn read_shared(version: Version, place: u32, left: &[u8]) -> Option<(u32, &[u8])
             read_number(left)
         }
     }
+}
+
+/// The text that the bytes begin with, behind the number of its bytes, and what follows it. `None` if there is none.
+#[inline]
+fn read_counted(bytes: &[u8]) -> Option<(&[u8], &[u8])>
+    ensures { (text rest : List ℕ) → length text < 2 ^ 32 → bytes.now ≡ counted text ++ rest
+        → IsSomeAnd result (λ read. (read.0.now ≡ text) × (read.1.now ≡ rest)) }
+{
+    let (size, behind) = read_number(bytes)?;
+    behind.split_at_checked(size as usize)
+}
+
+/// The two numbers whose codes the bytes begin with, and what follows them. `None` if they are not there.
+#[inline]
+fn read_counts(bytes: &[u8]) -> Option<(u32, u32, &[u8])>
+    ensures { (documents size : ℕ) (rest : List ℕ) → documents < 2 ^ 32 → size < 2 ^ 32
+        → bytes.now ≡ (code_of documents ++ code_of size) ++ rest
+        → IsSomeAnd result (λ read. (read.0 ≡ documents) × (read.1 ≡ size) × (read.2.now ≡ rest)) }
+{
+    let (documents, behind) = read_number(bytes)?;
+    let (size, rest) = read_number(behind)?;
+    Some((documents, size, rest))
 }
 
 /// The number whose code the bytes begin with, and what follows the code. `None` if there is none.
