@@ -1,3 +1,4 @@
+pub mod EntryLemmas
 pub mod FrontLemmas
 pub mod RowLemmas
 pub mod ScanLemmas

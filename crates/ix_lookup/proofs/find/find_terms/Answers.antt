@@ -28,7 +28,7 @@ returns-then-is_past-clause-found g c =
 
 pub returns-then-is_past-clause-within : goal.returns-then-is_past-clause-within
 returns-then-is_past-clause-within g c =
-    let after = scan_goes_on _ _ _ _ _ _ _ _ _ _ _ c.loop-place.invariant c.in-Some.row _ _ _ c.loop-place-test.true c.in-Some.ensures c.if-row-postings.false c.in_ok-note.ensures.same c.in_ok-note.ensures.moved c.in_ok-note.ensures.noted c.in_ok-note.ensures.kept in
+    let after = scan_goes_on _ _ _ _ _ (g.M.TermMatcher.wants c.loop-place.matcher) (g.M.TermMatcher.is_at c.loop-place.matcher) _ _ _ _ c.loop-place.invariant c.in-Some.row (g.M.TermMatcher.wants c.note.new.matcher) (g.M.TermMatcher.is_at c.note.new.matcher) c.note.new.found.items c.loop-place-test.true c.in-Some.ensures c.if-row-postings.false c.in_ok-note.ensures.same c.in_ok-note.ensures.moved c.in_ok-note.ensures.noted c.in_ok-note.ensures.kept in
     after.within
 
 pub returns-clause-found : goal.returns-clause-found

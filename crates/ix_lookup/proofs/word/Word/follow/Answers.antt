@@ -24,5 +24,5 @@ returns-clause-moved c = λ before at within.
         take_rest c.as_bytes.result.now c.args.shared ∙ ap (drop c.args.shared) bytes in
     record {
       common = ap (λ n. c.args.shared + n) (c.shared_front.ensures.value ∙ ap (common_prefix_len nat_eq c.args.own.now) rest) ∙ sym (common_on before c.args.own.now word c.args.shared within on);
-      below = ?;
+      below = c.is_lt-self.ensures ∙ ap is_lt (c.cmp.ensures ∙ ap (λ (bytes : List ℕ). slice_cmp nat_cmp bytes c.args.own.now) rest ∙ sym (order_on before c.args.own.now word c.args.shared within on));
     }
