@@ -2,3 +2,4 @@ pub mod EntryLemmas
 pub mod FrontLemmas
 pub mod RowLemmas
 pub mod ScanLemmas
+pub mod WordsLemmas

@@ -41,6 +41,7 @@ pub record HasNext (version : Version) (wants is_at : List ℕ → Type 0) (list
   pub short : length before ≤ 255
   pub readable : IsReadable listing
   pub readable_others : All IsReadable others
+  pub above : IsBelow before listing.term
   pub ascending : IsAscending (map (λ listing. listing.term) (listing ∷ others))
   pub counted : place + 1 + length others ≡ count
   pub sized : start + listing.size + sizes_sum others ≡ postings
@@ -78,13 +79,13 @@ module _ (version : Version) (wants : List ℕ → Type 0) (listings : List List
   module _ (is_at : List ℕ → Type 0) (place start : ℕ) (left : List ℕ) (found : List PlacedListing) where
     -- a listing is next
     pub next : GoesOn version wants is_at listings count postings place start left found → place < count → HasNext version wants is_at listings count postings place start left found
-    next on below = split on.others on.readable on.ascending on.counted on.sized on.spelled on.so_far
+    next on below = split on.others on.readable on.above on.ascending on.counted on.sized on.spelled on.so_far
       where
-        split : (others : List Listing) → All IsReadable others → IsAscending (map (λ (listing : Listing). listing.term) others) → place + length others ≡ count → start + sizes_sum others ≡ postings
+        split : (others : List Listing) → All IsReadable others → All (IsBelow on.before) (map (λ (listing : Listing). listing.term) others) → IsAscending (map (λ (listing : Listing). listing.term) others) → place + length others ≡ count → start + sizes_sum others ≡ postings
             → left ≡ listings_from version place on.before others → ((more : List PlacedListing) → AreFound wants start others more → AreFound wants 0 listings (found ++ more))
             → HasNext version wants is_at listings count postings place start left found
-        split [] readable ascending counted sized spelled so_far = absurd (omega arith)
-        split (listing ∷ others) readable ascending counted sized spelled so_far = record {
+        split [] readable above ascending counted sized spelled so_far = absurd (omega arith)
+        split (listing ∷ others) readable above ascending counted sized spelled so_far = record {
           before = on.before;
           listing = listing;
           others = others;
@@ -92,6 +93,7 @@ module _ (version : Version) (wants : List ℕ → Type 0) (listings : List List
           short = on.short;
           readable = All-head IsReadable listing others readable;
           readable_others = All-tail IsReadable listing others readable;
+          above = All-head (IsBelow on.before) listing.term (map (λ (l : Listing). l.term) others) above;
           ascending = ascending;
           counted = omega arith;
           sized = omega (arith, sum_by-cons (λ (l : Listing). l.size) listing others);
@@ -224,8 +226,8 @@ module _ (version : Version) (section : List ℕ) (count postings : ℕ) (wants 
       -- one more row
       pub scan_goes_on : place < count → ReadsRow version place left (λ before listing rest. IsRowRead before listing rest row) → row.size ≤ postings - start
           → ((term : List ℕ) → wants_next term ↔ wants_now term)
-          → ((before : List ℕ) → is_at before → row.shared ≤ length before → is_next (take row.shared before ++ row.own.now))
-          → ((before : List ℕ) → is_at before → row.shared ≤ length before → IsUtf8 (take row.shared before ++ row.own.now) → IsNoted wants_now (take row.shared before ++ row.own.now) row.documents start row.size found more)
+          → ((before : List ℕ) → is_at before → row.shared ≤ length before → IsBelow before (take row.shared before ++ row.own.now) → is_next (take row.shared before ++ row.own.now))
+          → ((before : List ℕ) → is_at before → row.shared ≤ length before → IsBelow before (take row.shared before ++ row.own.now) → IsUtf8 (take row.shared before ++ row.own.now) → IsNoted wants_now (take row.shared before ++ row.own.now) row.documents start row.size found more)
           → HasAtMostOneMore row.documents start row.size found more
           → IsScanned version section count postings wants wants_next is_next (place + 1) (start + row.size) row.rest.now more
       scan_goes_on below reads fits same moved noted kept = record {
@@ -242,8 +244,9 @@ module _ (version : Version) (section : List ℕ) (count postings : ℕ) (wants 
               with_row : IsRowRead has.before has.listing (listings_from version (place + 1) has.listing.term has.others) row → GoesOn version wants is_next listings count postings (place + 1) (start + row.size) row.rest.now (map placed_of more)
               with_row read =
                   let term = take row.shared has.before ++ row.own.now in
-                  let at = moved has.before has.at read.within in
-                  elim (noted has.before has.at read.within (subst IsUtf8 read.term has.readable.term.text)) [
+                  let above = subst (IsBelow has.before) read.term has.above in
+                  let at = moved has.before has.at read.within above in
+                  elim (noted has.before has.at read.within above (subst IsUtf8 read.term has.readable.term.text)) [
                     inl add ↦
                       let one = placed_of add.1.one in
                       let wanted : wants has.listing.term = subst wants (sym read.term) ((scanned.same term).0 add.0) in

@@ -2,6 +2,7 @@
 ghost use Rattle.std.specs.Prelude.{◌≡◌, ◌≤◌, ◌+◌, ◌++◌, ◌∷◌, ◌⊎◌, ◌↔◌, [], ℕ, List, length, take, All, IsUtf8, IfOk, IfErr, OnOk};
 ghost use Rattle.ix_lookup.specs.FoundTerms.{AreFoundIn, HasAtMostOneMore, IsAdded, IsNoted};
 ghost use Rattle.ix_lookup.specs.Listed.{IsOfNone};
+ghost use Rattle.ix_lookup.specs.TermOrder.{IsBelow};
 ghost use Rattle.ix_lookup.specs.Versions.{version_in};
 ghost use Rattle.ix_lookup.specs.declared.lookup_error.LookupError.TheVariants.{Memory};
 
@@ -67,9 +68,11 @@ fn note<M: TermMatcher>(
     ensures same { (term : List ℕ) → M.wants matcher.new term ↔ M.wants matcher.old term }
     ensures moved { (before : List ℕ) → M.is_at matcher.old before
         → row.now.shared ≤ length before
+        → IsBelow before (take row.now.shared before ++ row.now.own.now)
         → OnOk result (M.is_at matcher.new (take row.now.shared before ++ row.now.own.now)) }
     ensures noted { (before : List ℕ) → M.is_at matcher.old before
         → row.now.shared ≤ length before
+        → IsBelow before (take row.now.shared before ++ row.now.own.now)
         → IsUtf8 (take row.now.shared before ++ row.now.own.now)
         → OnOk result (IsNoted (M.wants matcher.old)
             (take row.now.shared before ++ row.now.own.now)

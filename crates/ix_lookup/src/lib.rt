@@ -9,6 +9,7 @@ mod matcher;
 mod row;
 mod version;
 mod word;
+mod words;
 
 pub use find::find_terms;
 pub use found_term::FoundTerm;
@@ -17,3 +18,4 @@ pub use lookup_error::LookupError;
 pub use matcher::TermMatcher;
 pub use version::Version;
 pub use word::Word;
+pub use words::Words;

@@ -4,7 +4,7 @@ use std::alloc::AllocError;
 
 /// Terms that are looked for, and how far a scan of a dictionary has come.
 ///
-/// A scan steps from term to term. Each step has the bytes by which the term differs from the term before, so a matcher
+/// A scan steps from term to term, which ascend. Each step has the bytes by which the term differs from the term before, so a matcher
 /// puts together only the terms that it has to.
 pub trait TermMatcher {
     ghost use Rattle.std.specs.Prelude.{◌≡◌, ◌≤◌, ◌++◌, ◌↔◌, ℕ, List, length, take, IsTrue, IsUtf8, IfOk};
@@ -24,8 +24,10 @@ pub trait TermMatcher {
     fn step(&mut self, shared: u32, own: &[u8]) -> Result<bool, AllocError>
         ensures same { (term : List ℕ) → wants self.new term ↔ wants self.old term }
         ensures moved { (before : List ℕ) → is_at self.old before → shared ≤ length before
+            → IsBelow before (take shared before ++ own.now)
             → IfOk result (λ _. is_at self.new (take shared before ++ own.now)) }
         ensures answered { (before : List ℕ) → is_at self.old before → shared ≤ length before
+            → IsBelow before (take shared before ++ own.now)
             → IsUtf8 (take shared before ++ own.now)
             → IfOk result (λ found. IsTrue found ↔ wants self.old (take shared before ++ own.now)) };
 

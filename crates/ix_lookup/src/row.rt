@@ -82,12 +82,16 @@ fn read_counts(bytes: &[u8]) -> Option<(u32, u32, &[u8])>
     Some((documents, size, rest))
 }
 
-/// The number whose code the bytes begin with, and what follows the code. `None` if there is none.
+/// The number whose code the bytes begin with, and what follows the code. `None` if there is none. Most codes have one
+/// byte.
 #[inline]
 fn read_number(bytes: &[u8]) -> Option<(u32, &[u8])>
     ensures { (number : ℕ) (rest : List ℕ) → number < 2 ^ 32 → bytes.now ≡ code_of number ++ rest
         → IsSomeAnd result (λ read. (read.0 ≡ number) × (read.1.now ≡ rest)) }
 {
+    if !bytes.is_empty() && bytes[0] >= 128 {
+        return Some((u32::from(bytes[0] % 128), &bytes[1..]));
+    }
     match decode(bytes) {
         Ok((number, size)) => Some((number, &bytes[size..])),
         Err(_) => None,

@@ -11,9 +11,9 @@ use std::alloc::AllocError;
 /// one shares.
 #[derive(Clone, Copy, Debug)]
 pub struct Word<'a> {
-    text: &'a str,
+    pub(crate) text: &'a str,
     common: usize,
-    is_below: bool,
+    pub(crate) is_below: bool,
     ghost within: { common ≤ length text.now },
 }
 
@@ -32,20 +32,43 @@ impl Word<'_> {
         }
     }
 
+    /// A word, at some term.
+    pub(crate) fn at<'a>(text: &'a str, term: &str) -> Word<'a>
+        ensures text { result.text.now ≡ text.now }
+        ensures at { IsAtTerm result term.now }
+    {
+        Word {
+            text,
+            common: shared_front(term.as_bytes(), text.as_bytes()),
+            is_below: text.as_bytes().cmp(term.as_bytes()).is_lt(),
+        }
+    }
+
     /// Goes on to the term that has the first `shared` bytes of the term before and then these of its own.
     ///
     /// If the word shares fewer with the term before, the byte that tells them apart is still there.
-    fn follow(&mut self, shared: usize, own: &[u8])
+    pub(crate) fn follow(&mut self, shared: u32, own: &[u8])
         ensures text { self.new.text ≡ self.old.text }
         ensures moved { (before : List ℕ) → IsAtTerm self.old before → shared ≤ length before
             → IsAtTerm self.new (take shared before ++ own.now) }
     {
+        let shared = shared as usize;
         if shared > self.common {
             return;
         }
         let rest = &self.text.as_bytes()[shared..];
         self.common = shared + shared_front(own, rest);
         self.is_below = rest.cmp(own).is_lt();
+    }
+
+    /// Whether it is the term that has the first `shared` bytes of the term before and then these of its own, to which
+    /// it has gone on.
+    pub(crate) fn is_whole(&self, shared: u32, own: &[u8]) -> bool
+        ensures { (before : List ℕ) → shared ≤ length before
+            → IsAtTerm self.now (take shared before ++ own.now)
+            → IsTrue result ↔ (take shared before ++ own.now ≡ self.now.text.now) }
+    {
+        self.common == self.text.len() && shared as usize + own.len() == self.text.len()
     }
 }
 
@@ -58,10 +81,8 @@ impl TermMatcher for Word<'_> {
     ghost is_at = { IsAtTerm };
 
     fn step(&mut self, shared: u32, own: &[u8]) -> Result<bool, AllocError> {
-        let shared = shared as usize;
         self.follow(shared, own);
-        let size = self.text.len();
-        Ok(self.common == size && shared + own.len() == size)
+        Ok(self.is_whole(shared, own))
     }
 
     fn term(&self) -> &str {
