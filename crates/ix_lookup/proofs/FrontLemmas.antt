@@ -11,13 +11,13 @@ use Rattle.std.specs.Ordering.{nat_cmp, ordering_reverse, ordering_then, is_lt}
 abbrev pub common : List ℕ → List ℕ → ℕ
 common term word = common_prefix_len nat_eq term word
 
-nat_eq-same : (x : ℕ) → nat_eq x x ≡ true
+pub nat_eq-same : (x : ℕ) → nat_eq x x ≡ true
 nat_eq-same x = grind (arith, nat_tests)
 
-nat_cmp-same : (x y : ℕ) → nat_eq x y ≡ true → (o : Ordering) → ordering_then (nat_cmp y x) o ≡ o
+pub nat_cmp-same : (x y : ℕ) → nat_eq x y ≡ true → (o : Ordering) → ordering_then (nat_cmp y x) o ≡ o
 nat_cmp-same x y same o = grind (arith, nat_tests)
 
-nat_cmp-apart : (x y : ℕ) → nat_eq x y ≡ false → (o p : Ordering) → ordering_then (nat_cmp y x) o ≡ ordering_then (nat_cmp y x) p
+pub nat_cmp-apart : (x y : ℕ) → nat_eq x y ≡ false → (o p : Ordering) → ordering_then (nat_cmp y x) o ≡ ordering_then (nat_cmp y x) p
 nat_cmp-apart x y other o p = decided (nat_cmp y x) (λ e. grind (arith, nat_tests))
   where
     decided : (r : Ordering) → (r ≡ Equal → ⊥) → ordering_then r o ≡ ordering_then r p

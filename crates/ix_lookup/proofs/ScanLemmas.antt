@@ -1,5 +1,5 @@
 -- How a scan of a dictionary goes on.
-use Rattle.std.proofs.Common.{◌≡◌, ℕ, ◌+◌, ◌<◌, ◌≤◌, List, [], ◌∷◌, ◌++◌, length, map, take, All, refl, sym, ap, ◌∙◌, subst, inl, inr, Less, ◌⊎◌, ◌↔◌, ◌-◌, ◌≢◌, IsUtf8, arith, length-append}
+use Rattle.std.proofs.Common.{◌≡◌, ℕ, ◌+◌, ◌<◌, ◌≤◌, List, [], ◌∷◌, ◌++◌, length, map, take, All, refl, sym, ap, ◌∙◌, subst, inl, inr, Less, ◌⊎◌, ◌↔◌, ◌-◌, ◌≢◌, arith, length-append}
 use Rattle.std.proofs.lemmas.List.{append_assoc, append-nil, map-append}
 use Rattle.std.proofs.lemmas.List.Elements.{All-cons, All-head, All-tail, All-push}
 use Rattle.std.proofs.lemmas.List.Sums.{sum_by-cons}
@@ -8,6 +8,7 @@ use Rattle.std.proofs.lemmas.Map.Views.{All-after_first}
 use Rattle.std.specs.Cmp.Lexicographic.{slice_cmp}
 use Rattle.std.specs.Ordering.{nat_cmp}
 use Rattle.ix_text.specs.ByteOrder.{IsAscending}
+use Rattle.ix_text.specs.Terms.{IsTerm}
 use Rattle.ix_index_text.specs.Listings.{Listing, listing_bytes, listings_from, listings_section}
 use Rattle.ix_index_text.specs.Sections.{Version}
 use Rattle.ix_lookup.specs.FoundTerms.{PlacedListing, AreFound, HasAtMostOneMore, IsAdded, IsNoted, placed_of}
@@ -227,7 +228,7 @@ module _ (version : Version) (section : List ℕ) (count postings : ℕ) (wants 
       pub scan_goes_on : place < count → ReadsRow version place left (λ before listing rest. IsRowRead before listing rest row) → row.size ≤ postings - start
           → ((term : List ℕ) → wants_next term ↔ wants_now term)
           → ((before : List ℕ) → is_at before → row.shared ≤ length before → IsBelow before (take row.shared before ++ row.own.now) → is_next (take row.shared before ++ row.own.now))
-          → ((before : List ℕ) → is_at before → row.shared ≤ length before → IsBelow before (take row.shared before ++ row.own.now) → IsUtf8 (take row.shared before ++ row.own.now) → IsNoted wants_now (take row.shared before ++ row.own.now) row.documents start row.size found more)
+          → ((before : List ℕ) → is_at before → row.shared ≤ length before → IsBelow before (take row.shared before ++ row.own.now) → IsTerm (take row.shared before ++ row.own.now) → IsNoted wants_now (take row.shared before ++ row.own.now) row.documents start row.size found more)
           → HasAtMostOneMore row.documents start row.size found more
           → IsScanned version section count postings wants wants_next is_next (place + 1) (start + row.size) row.rest.now more
       scan_goes_on below reads fits same moved noted kept = record {
@@ -246,7 +247,7 @@ module _ (version : Version) (section : List ℕ) (count postings : ℕ) (wants 
                   let term = take row.shared has.before ++ row.own.now in
                   let above = subst (IsBelow has.before) read.term has.above in
                   let at = moved has.before has.at read.within above in
-                  elim (noted has.before has.at read.within above (subst IsUtf8 read.term has.readable.term.text)) [
+                  elim (noted has.before has.at read.within above (subst IsTerm read.term has.readable.term)) [
                     inl add ↦
                       let one = placed_of add.1.one in
                       let wanted : wants has.listing.term = subst wants (sym read.term) ((scanned.same term).0 add.0) in

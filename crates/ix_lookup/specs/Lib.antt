@@ -1,5 +1,6 @@
 pub mod FoundEntries
 pub mod FoundTerms
+pub mod Fronts
 pub mod Listed
 pub mod LookupErrors
 pub mod Rows

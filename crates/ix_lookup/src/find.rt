@@ -1,5 +1,6 @@
 //! The scan of a dictionary.
-ghost use Rattle.std.specs.Prelude.{◌≡◌, ◌≤◌, ◌+◌, ◌++◌, ◌∷◌, ◌⊎◌, ◌↔◌, [], ℕ, List, length, take, All, IsUtf8, IfOk, IfErr, OnOk};
+ghost use Rattle.std.specs.Prelude.{◌≡◌, ◌≤◌, ◌+◌, ◌++◌, ◌∷◌, ◌⊎◌, ◌↔◌, [], ℕ, List, length, take, All, IfOk, IfErr, OnOk};
+ghost use Rattle.ix_text.specs.Terms.{IsTerm};
 ghost use Rattle.ix_lookup.specs.FoundTerms.{AreFoundIn, HasAtMostOneMore, IsAdded, IsNoted};
 ghost use Rattle.ix_lookup.specs.Listed.{IsOfNone};
 ghost use Rattle.ix_lookup.specs.TermOrder.{IsBelow};
@@ -73,7 +74,7 @@ fn note<M: TermMatcher>(
     ensures noted { (before : List ℕ) → M.is_at matcher.old before
         → row.now.shared ≤ length before
         → IsBelow before (take row.now.shared before ++ row.now.own.now)
-        → IsUtf8 (take row.now.shared before ++ row.now.own.now)
+        → IsTerm (take row.now.shared before ++ row.now.own.now)
         → OnOk result (IsNoted (M.wants matcher.old)
             (take row.now.shared before ++ row.now.own.now)
             row.now.documents start row.now.size found.old.items found.new.items) }

@@ -7,7 +7,8 @@ use std::alloc::AllocError;
 /// A scan steps from term to term, which ascend. Each step has the bytes by which the term differs from the term before, so a matcher
 /// puts together only the terms that it has to.
 pub trait TermMatcher {
-    ghost use Rattle.std.specs.Prelude.{◌≡◌, ◌≤◌, ◌++◌, ◌↔◌, ℕ, List, length, take, IsTrue, IsUtf8, IfOk};
+    ghost use Rattle.std.specs.Prelude.{◌≡◌, ◌≤◌, ◌++◌, ◌↔◌, ℕ, List, length, take, IsTrue, IfOk};
+    ghost use Rattle.ix_text.specs.Terms.{IsTerm};
     ghost use Rattle.ix_lookup.specs.TermOrder.{IsBelow};
 
     // The terms that are looked for. They stay the same.
@@ -28,12 +29,13 @@ pub trait TermMatcher {
             → IfOk result (λ _. is_at self.new (take shared before ++ own.now)) }
         ensures answered { (before : List ℕ) → is_at self.old before → shared ≤ length before
             → IsBelow before (take shared before ++ own.now)
-            → IsUtf8 (take shared before ++ own.now)
+            → IsTerm (take shared before ++ own.now)
             → IfOk result (λ found. IsTrue found ↔ wants self.old (take shared before ++ own.now)) };
 
     /// The term that the scan has come to, if it is looked for.
     fn term(&self) -> &str
-        ensures { (term : List ℕ) → is_at self.now term → wants self.now term → result.now ≡ term };
+        ensures { (term : List ℕ) → is_at self.now term → IsTerm term → wants self.now term
+            → result.now ≡ term };
 
     /// Whether no term that may follow in ascending order is looked for, as far as the matcher knows.
     fn is_past(&self) -> bool

@@ -12,7 +12,7 @@ use std::alloc::AllocError;
 #[derive(Clone, Copy, Debug)]
 pub struct Word<'a> {
     pub(crate) text: &'a str,
-    common: usize,
+    pub(crate) common: usize,
     pub(crate) is_below: bool,
     ghost within: { common ≤ length text.now },
 }

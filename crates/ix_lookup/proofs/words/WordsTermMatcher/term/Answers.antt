@@ -5,7 +5,7 @@ use Rattle.ix_lookup.proofs.WordsLemmas.{none_left, next_is_term}
 use Rattle.ix_lookup.proofs.words.WordsTermMatcher.term.Goals as goal
 
 pub returns : goal.returns
-returns c = λ term at among.
+returns c = λ term at is_term among.
     let words = c.args.self.now in
     let is : AreAtTerm words term = at in
     ⊎_elim (λ (left : words.place < length (texts_of words)).
