@@ -10,6 +10,8 @@ mod prefixed;
 mod row;
 mod term_test;
 mod version;
+#[cfg(test)]
+mod tests;
 mod word;
 mod words;
 
