@@ -1,9 +1,8 @@
 -- How far the scan of a word, and of several, has come.
-use Rattle.std.specs.Prelude.{◌≡◌, ℕ, ◌<◌, ◌≤◌, false, List, [], map, length, nat_eq, slice_index_or}
+use Rattle.std.specs.Prelude.{◌≡◌, ℕ, ◌+◌, ◌<◌, ◌≤◌, false, List, [], map, length, nat_eq, slice_index_or}
 use Rattle.std.specs.List.{common_prefix_len}
 use Rattle.std.specs.Ordering.{nat_cmp, is_lt}
 use Rattle.std.specs.Cmp.Lexicographic.{slice_cmp}
-use Rattle.ix_text.specs.ByteOrder.{IsAscending}
 use Rattle.ix_lookup.specs.TermOrder.{IsBelow}
 use Rattle.ix_lookup.specs.declared.word.Word.{Word}
 use Rattle.ix_lookup.specs.declared.words.Words.{Words}
@@ -15,7 +14,11 @@ pub record IsAtTerm (word : Word) (term : List ℕ) : Type 0 where
 
 -- The words that are looked for.
 abbrev pub texts_of : Words → List (List ℕ)
-texts_of words = map (λ text. text.now) words.texts.now
+texts_of words = map (λ text. text.now) words.texts.items
+
+-- No text stands below the one before it.
+abbrev pub AreSorted : List (List ℕ) → Type 0
+AreSorted texts = (before : ℕ) → before + 1 < length texts → ¬ (IsBelow (slice_index_or texts (before + 1) []) (slice_index_or texts before []))
 
 -- The word is one of the texts, does not stand below the term, and has come to it.
 pub record IsNext (texts : List (List ℕ)) (place : ℕ) (word : Word) (term : List ℕ) : Type 0 where
@@ -27,9 +30,9 @@ pub record IsNext (texts : List (List ℕ)) (place : ℕ) (word : Word) (term : 
 abbrev pub HasPassed : List (List ℕ) → ℕ → List ℕ → Type 0
 HasPassed texts place term = (before : ℕ) → before < place → IsBelow (slice_index_or texts before []) term
 
--- Words ascend, those before a place stand below the term, and the one there is next.
+-- Words are sorted, those before a place stand below the term, and the one there is next.
 pub record AreAtTerm (words : Words) (term : List ℕ) : Type 0 where
-  pub ascending : IsAscending (texts_of words)
+  pub sorted : AreSorted (texts_of words)
   pub passed : HasPassed (texts_of words) words.place term
   pub within : words.place ≤ length (texts_of words)
   pub next : words.place < length (texts_of words) → IsNext (texts_of words) words.place words.word term

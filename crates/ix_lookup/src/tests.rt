@@ -100,11 +100,11 @@ fn count_prefixed(
 #[test]
 fn several_words_and_fronts(rt: HostRuntime) -> Result<(), Fail> {
     for (version, section) in BOTH {
-        let mut words = Words::new(&["raw", "red", "reds", "retired", "zoo"]);
+        let mut words = Words::new(vec![in rt.alloc(); "zoo", "red", "raw", "red", "retired"]?);
         let found = find_terms(rt.alloc(), version, section, 3, POSTINGS, &mut words)?;
         assert!(rt; found.len() == 2);
         assert!(rt; is_listed(&found[0], LISTED[0]) && is_listed(&found[1], LISTED[2]));
-        let mut none = Words::new(&[]);
+        let mut none = Words::new(Vec::new(rt.alloc()));
         let found = find_terms(rt.alloc(), version, section, 3, POSTINGS, &mut none)?;
         assert!(rt; found.is_empty());
         for (front, size, count) in [
@@ -123,13 +123,19 @@ fn several_words_and_fronts(rt: HostRuntime) -> Result<(), Fail> {
 }
 
 /// Looks for words and fronts in bytes that may be anything.
-fn search_any(alloc: Global, version: Version, section: &[u8], count: u32) {
+fn search_any(
+    alloc: Global,
+    version: Version,
+    section: &[u8],
+    count: u32,
+) -> Result<(), AllocError> {
     for text in ["", "redo", "z"] {
         let _word = find_word(alloc, version, section, count, POSTINGS, text);
         let _prefixed = count_prefixed(alloc, version, section, text, 4);
     }
-    let mut words = Words::new(&["red", "retired", "z"]);
+    let mut words = Words::new(vec![in alloc; "red", "retired", "z"]?);
     let _words = find_terms(alloc, version, section, count, POSTINGS, &mut words);
+    Ok(())
 }
 
 /// These bytes with another one at a place.
@@ -149,8 +155,8 @@ fn other_bytes_end(rt: HostRuntime) -> Result<(), Fail> {
             assert!(rt; matches!(found, Err(LookupError::Malformed)), "{end}");
             for byte in [0, 1, 3, 0x7f, 0x80, 0x84, 0xff] {
                 let bytes = changed(rt.alloc(), section, end, byte)?;
-                search_any(rt.alloc(), version, bytes.as_slice(), 3);
-                search_any(rt.alloc(), version, bytes.as_slice(), u32::MAX);
+                search_any(rt.alloc(), version, bytes.as_slice(), 3)?;
+                search_any(rt.alloc(), version, bytes.as_slice(), u32::MAX)?;
             }
         }
         for (count, postings) in [(2, POSTINGS), (4, POSTINGS), (3, 309), (3, 311), (3, 0)] {

@@ -1,47 +1,54 @@
 //! Several words that are looked for.
-ghost use Rattle.std.specs.Prelude.{◌≡◌, ◌≤◌, ◌<◌, ◌+◌, ◌++◌, ◌↔◌, [], List, ℕ, length, map, take, Contains};
-ghost use Rattle.ix_text.specs.ByteOrder.{IsAscending};
+ghost use Rattle.std.specs.Prelude.{◌≡◌, ◌≤◌, ◌<◌, ◌+◌, ◌++◌, ◌↔◌, [], List, ℕ, length, map, take, Contains, IsTrue};
 
 use crate::{TermMatcher, Word};
 use std::alloc::AllocError;
 
-/// Words that are looked for as terms, in ascending order.
+/// Words that are looked for as terms.
 ///
-/// Terms ascend too, so each is compared with one word: the first that does not stand below it.
-#[derive(Clone, Copy, Debug)]
+/// They are sorted, and terms ascend, so each term is compared with one word: the first that does not stand below it.
+#[derive(Debug, Drop)]
 pub struct Words<'a> {
-    texts: &'a [&'a str],
+    texts: Vec<&'a str>,
     place: usize,
     word: Word<'a>,
 }
 
 impl<'a> Words<'a> {
     ghost use Rattle.ix_lookup.specs.TermOrder.{IsBelow};
-    ghost use Rattle.ix_lookup.specs.Words.{AreAtTerm, HasPassed, texts_of};
+    ghost use Rattle.ix_lookup.specs.Words.{AreAtTerm, AreSorted, HasPassed, texts_of};
 
-    /// Words, before the first term.
-    pub fn new(texts: &'a [&'a str]) -> Words<'a>
-        requires { IsAscending (map (λ text. text.now) texts.now) }
+    /// Words, before the first term. Takes no memory.
+    pub fn new(texts: Vec<&'a str>) -> Words<'a>
         ensures wanted { (term : List ℕ) → ⟦<Words<'static> as TermMatcher>⟧.wants result term
-            ↔ Contains (map (λ text. text.now) texts.now) term }
+            ↔ Contains (map (λ text. text.now) texts.entry.items) term }
         ensures begun { ⟦<Words<'static> as TermMatcher>⟧.is_at result [] }
     {
+        let mut texts = texts;
+        texts.sort_unstable();
         let first = texts.first().copied().unwrap_or("");
         Words {
+            word: Word::at(first, ""),
             texts,
             place: 0,
-            word: Word::at(first, ""),
         }
+    }
+
+    /// Whether each word stands below the last term.
+    fn is_behind(&self) -> bool
+        ensures { IsTrue result ↔ (length self.now.texts.items ≤ self.now.place) }
+    {
+        self.place >= self.texts.len()
     }
 
     /// Goes on to the term that has the first `shared` bytes of the term before and then these of its own.
     fn follow(&mut self, shared: u32, own: &[u8])
-        ensures texts { self.new.texts ≡ self.old.texts }
+        ensures texts { self.new.texts.items ≡ self.old.texts.items }
         ensures moved { (before : List ℕ) → AreAtTerm self.old before → shared ≤ length before
             → IsBelow before (take shared before ++ own.now)
             → AreAtTerm self.new (take shared before ++ own.now) }
     {
-        if self.place >= self.texts.len() {
+        if self.is_behind() {
             return;
         }
         self.word.follow(shared, own);
@@ -54,9 +61,9 @@ impl<'a> Words<'a> {
     /// Goes on to the next word that does not stand below the term which has the first `shared` bytes of the current word
     /// and then these of its own.
     fn advance(&mut self, shared: u32, own: &[u8])
-        requires { self.old.place < length self.old.texts.now }
-        ensures texts { self.new.texts ≡ self.old.texts }
-        ensures moved { IsAscending (texts_of self.old) → shared ≤ length self.old.word.text.now
+        requires { self.old.place < length self.old.texts.items }
+        ensures texts { self.new.texts.items ≡ self.old.texts.items }
+        ensures moved { AreSorted (texts_of self.old) → shared ≤ length self.old.word.text.now
             → HasPassed (texts_of self.old) (self.old.place + 1)
                 (take shared self.old.word.text.now ++ own.now)
             → AreAtTerm self.new (take shared self.old.word.text.now ++ own.now) }
@@ -84,7 +91,7 @@ impl TermMatcher for Words<'_> {
 
     fn step(&mut self, shared: u32, own: &[u8]) -> Result<bool, AllocError> {
         self.follow(shared, own);
-        if self.place >= self.texts.len() {
+        if self.is_behind() {
             return Ok(false);
         }
         Ok(self.word.is_whole(shared, own))
@@ -95,6 +102,6 @@ impl TermMatcher for Words<'_> {
     }
 
     fn is_past(&self) -> bool {
-        self.place >= self.texts.len()
+        self.is_behind()
     }
 }

@@ -1,5 +1,4 @@
 use Rattle.std.proofs.Common.{◌≡◌, ◌≤◌, ◌+◌, ◌++◌, length, take}
-use Rattle.ix_text.specs.ByteOrder.{IsAscending}
 use Rattle.ix_lookup.specs.Words.{HasPassed, texts_of}
 use Rattle.ix_lookup.proofs.words.Words.advance.Given as goal
 

@@ -10,6 +10,6 @@ returns c = λ term at is_term among.
     let is : AreAtTerm words term = at in
     ⊎_elim (λ (left : words.place < length (texts_of words)).
         let next : IsNext (texts_of words) words.place words.word term = is.next left in
-        next_is_term (texts_of words) words.place words.word.text.now term is.ascending is.passed next.text (sym next.at.below ∙ next.reached) among)
+        next_is_term (texts_of words) words.place words.word.text.now term is.sorted is.passed next.text (sym next.at.below ∙ next.reached) among)
     (λ (all : length (texts_of words) ≤ words.place). absurd (none_left (texts_of words) words.place term is.passed all among))
     (cases_lt words.place (length (texts_of words)))
