@@ -1,5 +1,5 @@
 -- What is found in the dictionary of a lawful collection are entries of it.
-use Rattle.std.proofs.Common.{◌≡◌, ℕ, ◌+◌, ◌-◌, ◌^◌, ◌<◌, List, [], ◌∷◌, ◌++◌, ◌⊎◌, inl, inr, map, flat_map, length, take, drop, All, slice_range, refl, sym, ap, ◌∙◌, subst, arith, length-append}
+use Rattle.std.proofs.Common.{◌≡◌, ℕ, ◌+◌, ◌-◌, List, [], ◌∷◌, ◌++◌, inl, inr, map, flat_map, length, take, drop, All, slice_range, refl, sym, ap, ◌∙◌, subst, arith, length-append}
 use Rattle.std.proofs.lemmas.List.{append_assoc, length-map}
 use Rattle.std.proofs.lemmas.List.Elements.{All-cons, All-head, All-tail}
 use Rattle.std.proofs.lemmas.List.Sums.{sum_by-cons}
@@ -7,14 +7,13 @@ use Rattle.std.proofs.Math.Seq.{drop-append_seam, take-append_seam}
 use Rattle.ix_text.specs.ByteOrder.{IsAscending}
 use Rattle.ix_text.specs.Collections.{Collection, IsLawful}
 use Rattle.ix_text.specs.Parts.{DictionaryEntry, Parts, ArePartsOf, terms_of}
-use Rattle.ix_text.specs.Terms.{IsTerm}
 use Rattle.ix_vbyte.specs.Postings.{list_bytes}
 use Rattle.ix_index_text.specs.Listings.{Listing, listing_of}
 use Rattle.ix_index_text.specs.Sections.{Version, postings_section, dictionary_section}
 use Rattle.ix_index_text.proofs.ListingsTold.{dictionary_listings}
-use Rattle.ix_index_text.proofs.SectionSizes.{AreSmall, IsSmallEntry, small_parts, small_entries}
+use Rattle.ix_index_text.proofs.SectionSizes.{AreSmall, small_parts, small_entries}
 use Rattle.ix_lookup.specs.FoundEntries.{IsFoundEntry, AreFoundEntries, FindsEntries}
-use Rattle.ix_lookup.specs.FoundTerms.{PlacedListing, placed_of, AreFound, AreFoundIn}
+use Rattle.ix_lookup.specs.FoundTerms.{PlacedListing, placed_of, AreFound}
 use Rattle.ix_lookup.specs.Listed.{IsReadable, IsOfListings, sizes_sum}
 use Rattle.ix_lookup.specs.declared.found_term.FoundTerm.{FoundTerm}
 
@@ -46,10 +45,10 @@ of_entries version collection parts lawful of =
     let each = small_entries parts small in
     record {
       readable = listed_readable parts.entries (λ k d h. record {
-            term = (small.lawful.terms k d h).term;
-            documents = (each k d h).documents;
-            size = (each k d h).size;
-          });
+        term = (small.lawful.terms k d h).term;
+        documents = (each k d h).documents;
+        size = (each k d h).size;
+      });
       ascending = subst IsAscending (sym (listed_terms parts.entries)) small.lawful.ascending;
       counted = length-map parts.entries listing_of;
       sized = listed_sizes parts.entries;

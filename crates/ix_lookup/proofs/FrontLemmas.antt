@@ -96,8 +96,7 @@ below_none (x ∷ xs) = refl
 pub is_word : (before own word : List ℕ) (shared n : ℕ) → shared ≤ length before → n ≡ common (take shared before ++ own) word → n ≡ length word → IsTrue (nat_eq (shared + length own) (length word)) ↔ (take shared before ++ own ≡ word)
 is_word before own word shared n within is all =
     let long = length-append (take shared before) own in
-    let front = length-take-le shared before within in
-    (
+    let front = length-take-le shared before within in (
       λ same. same_from_common (take shared before ++ own) word (sym is ∙ all) (omega (arith, eqb-true (shared + length own) (length word) same)),
       λ e. eq-eqb (shared + length own) (length word) (omega (arith, ap length e)),
     )

@@ -1,5 +1,5 @@
 -- Terms that begin with a text, and how they are put together.
-use Rattle.std.proofs.Common.{◌≡◌, ◌≢◌, ℕ, ◌+◌, ◌<◌, ◌≤◌, ◌↔◌, Bool, true, false, cond, not, IsTrue, List, [], ◌∷◌, ◌++◌, length, take, drop, nat_eq, Less, refl, sym, ap, ap₂, ◌∙◌, subst, ⊎_elim, arith}
+use Rattle.std.proofs.Common.{◌≡◌, ◌≢◌, ℕ, ◌+◌, ◌<◌, ◌≤◌, ◌↔◌, Bool, true, false, cond, not, IsTrue, List, [], ◌∷◌, ◌++◌, length, take, drop, nat_eq, Less, refl, sym, ap, ◌∙◌, ⊎_elim, arith}
 use Rattle.std.proofs.lemmas.Bool.{cases_lt}
 use Rattle.std.proofs.lemmas.List.{take-append-drop}
 use Rattle.std.proofs.lemmas.List.Sums.{common_prefix_len-le}
@@ -24,11 +24,10 @@ pub front_shared : (front term : List ℕ) → HasFront front term → common te
 front_shared front term has = ap (λ t. common t front) has.1 ∙ common_front front has.0
 
 pub front_from_shared : (front term : List ℕ) → common term front ≡ length front → HasFront front term
-front_from_shared front term all =
-    (
-      drop (length front) term,
-      sym (take-append-drop (length front) term) ∙ ap (λ xs. xs ++ drop (length front) term) (same_front term front (length front) (omega arith) ∙ take_all front),
-    )
+front_from_shared front term all = (
+  drop (length front) term,
+  sym (take-append-drop (length front) term) ∙ ap (λ xs. xs ++ drop (length front) term) (same_front term front (length front) (omega arith) ∙ take_all front),
+)
 
 -- The term, put together from the term before if that begins with the text, and otherwise from the text.
 pub put_together : (is_held : Bool) (text held before own : List ℕ) (shared : ℕ) → shared ≤ length before → IsTrue is_held ↔ (common before text ≡ length text) → (common before text ≡ length text → held ≡ before)

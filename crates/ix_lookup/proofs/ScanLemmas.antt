@@ -1,5 +1,5 @@
 -- How a scan of a dictionary goes on.
-use Rattle.std.proofs.Common.{◌≡◌, ℕ, ◌+◌, ◌<◌, ◌≤◌, List, [], ◌∷◌, ◌++◌, length, map, take, All, refl, sym, ap, ◌∙◌, subst, inl, inr, Less, ◌⊎◌, ◌↔◌, ◌-◌, ◌≢◌, arith, length-append}
+use Rattle.std.proofs.Common.{◌≡◌, ℕ, ◌+◌, ◌<◌, ◌≤◌, List, [], ◌∷◌, ◌++◌, length, map, take, All, refl, sym, ap, ◌∙◌, subst, inl, inr, ◌⊎◌, ◌↔◌, ◌-◌, ◌≢◌, arith, length-append}
 use Rattle.std.proofs.lemmas.List.{append_assoc, append-nil, map-append}
 use Rattle.std.proofs.lemmas.List.Elements.{All-cons, All-head, All-tail, All-push}
 use Rattle.std.proofs.lemmas.List.Sums.{sum_by-cons}
@@ -11,7 +11,7 @@ use Rattle.ix_text.specs.ByteOrder.{IsAscending}
 use Rattle.ix_text.specs.Terms.{IsTerm}
 use Rattle.ix_index_text.specs.Listings.{Listing, listing_bytes, listings_from, listings_section}
 use Rattle.ix_index_text.specs.Sections.{Version}
-use Rattle.ix_lookup.specs.FoundTerms.{PlacedListing, AreFound, HasAtMostOneMore, IsAdded, IsNoted, placed_of}
+use Rattle.ix_lookup.specs.FoundTerms.{PlacedListing, AreFound, HasAtMostOneMore, IsNoted, placed_of}
 use Rattle.ix_lookup.specs.Listed.{IsReadable, IsOfListings, IsOfNone, sizes_sum}
 use Rattle.ix_lookup.specs.Rows.{IsRowRead}
 use Rattle.ix_lookup.specs.TermOrder.{IsBelow}
@@ -248,17 +248,17 @@ module _ (version : Version) (section : List ℕ) (count postings : ℕ) (wants 
                   let above = subst (IsBelow has.before) read.term has.above in
                   let at = moved has.before has.at read.within above in
                   elim (noted has.before has.at read.within above (subst IsTerm read.term has.readable.term)) [
-                    inl add ↦
-                      let one = placed_of add.1.one in
-                      let wanted : wants has.listing.term = subst wants (sym read.term) ((scanned.same term).0 add.0) in
-                      let placed : one ≡ record { listing = has.listing; start = start } =
-                          add.1.placed ∙ same_placed term row.documents row.size has.listing start (sym read.term) read.documents read.size in
-                      subst (λ fs. GoesOn version wants is_next listings count postings (place + 1) (start + row.size) row.rest.now fs) (sym (ap (map placed_of) add.1.pushed ∙ map-append placed_of found (add.1.one ∷ [])))
-                      (gains version wants listings count postings is_at place start left (map placed_of found) is_next has row read at one wanted placed)
-                  | inr none ↦
-                      let unwanted : ¬ (wants has.listing.term) = λ wanted. none.0 ((scanned.same term).1 (subst wants read.term wanted)) in
-                      subst (λ fs. GoesOn version wants is_next listings count postings (place + 1) (start + row.size) row.rest.now fs) (sym (ap (map placed_of) none.1))
-                      (passes version wants listings count postings is_at place start left (map placed_of found) is_next has row read at unwanted)
+                    | inl add ↦
+                        let one = placed_of add.1.one in
+                        let wanted : wants has.listing.term = subst wants (sym read.term) ((scanned.same term).0 add.0) in
+                        let placed : one ≡ record { listing = has.listing; start = start } =
+                        add.1.placed ∙ same_placed term row.documents row.size has.listing start (sym read.term) read.documents read.size in
+                        subst (λ fs. GoesOn version wants is_next listings count postings (place + 1) (start + row.size) row.rest.now fs) (sym (ap (map placed_of) add.1.pushed ∙ map-append placed_of found (add.1.one ∷ [])))
+                        (gains version wants listings count postings is_at place start left (map placed_of found) is_next has row read at one wanted placed)
+                    | inr none ↦
+                        let unwanted : ¬ (wants has.listing.term) = λ wanted. none.0 ((scanned.same term).1 (subst wants read.term wanted)) in
+                        subst (λ fs. GoesOn version wants is_next listings count postings (place + 1) (start + row.size) row.rest.now fs) (sym (ap (map placed_of) none.1))
+                        (passes version wants listings count postings is_at place start left (map placed_of found) is_next has row read at unwanted)
                   ]
 
           within_after : HasAtMostOneMore row.documents start row.size found more → All (λ (one : FoundTerm). one.start + one.size ≤ postings) more

@@ -1,5 +1,5 @@
 -- How several words stand to ascending terms.
-use Rattle.std.proofs.Common.{◌≡◌, ℕ, zero, suc, ◌+◌, ◌<◌, ◌≤◌, Bool, true, false, cond, map, List, [], ◌∷◌, ◌++◌, length, get_or, take, nat_eq, Ordering, Less, Equal, Greater, ◌-◌, Contains, ◌↔◌, Option, Some, Bor, Vec, Global, slice_get, unwrap_or, refl, ⊎_elim, below_more, sym, ap, ap₂, ◌∙◌, subst, arith}
+use Rattle.std.proofs.Common.{◌≡◌, ℕ, zero, suc, ◌+◌, ◌<◌, ◌≤◌, Bool, true, false, cond, map, List, [], ◌∷◌, ◌++◌, length, get_or, take, nat_eq, Ordering, Less, Equal, Greater, ◌-◌, Contains, ◌↔◌, Option, Bor, Vec, Global, slice_get, unwrap_or, refl, ⊎_elim, below_more, sym, ap, ap₂, ◌∙◌, subst, arith}
 use Rattle.std.proofs.Math.ListN.{get_or-map}
 use Rattle.std.proofs.lemmas.Bool.{cases_lt, eqb-true}
 use Rattle.std.proofs.lemmas.Cmp.{nat_list_cmp_total}
@@ -126,10 +126,10 @@ reaches words new before term at left texts place text is reached above =
       passed = subst (λ (ts : List (List ℕ)). HasPassed ts new.place term) (sym same) (subst (λ k. HasPassed (texts_of words) k term) (sym place) (passed_on (texts_of words) words.place before term at.passed above));
       within = omega (arith, at.within, ap length same);
       next = λ within. record {
-            text = ap (λ (t : Bor (List ℕ)). t.now) text ∙ next.text ∙ ap₂ (λ (ts : List (List ℕ)) k. get_or ts k []) (sym same) (sym place);
-            reached = reached;
-            at = is;
-          };
+        text = ap (λ (t : Bor (List ℕ)). t.now) text ∙ next.text ∙ ap₂ (λ (ts : List (List ℕ)) k. get_or ts k []) (sym same) (sym place);
+        reached = reached;
+        at = is;
+      };
     }
 
 -- the scan has come to the words from a place on
@@ -190,8 +190,7 @@ sorted_texts (text ∷ texts) sorted k within below =
 pub texts_kept : (texts sorted : List (Bor (List ℕ))) (term : List ℕ) → IsPermutation texts sorted → Contains (map (λ (t : Bor (List ℕ)). t.now) sorted) term ↔ Contains (map (λ (t : Bor (List ℕ)). t.now) texts) term
 texts_kept texts sorted term moved =
     let now = λ (t : Bor (List ℕ)). t.now in
-    let same = IsPermutation-map now texts sorted moved in
-    (
+    let same = IsPermutation-map now texts sorted moved in (
       λ among. Contains-permutation (map now sorted) (map now texts) term (IsPermutation-sym (map now texts) (map now sorted) same) among,
       λ among. Contains-permutation (map now texts) (map now sorted) term same among,
     )

@@ -1,5 +1,5 @@
 -- What the terms that are found say of a collection.
-use Rattle.std.specs.Prelude.{◌≡◌, ℕ, ◌+◌, List, [], ◌∷◌, ◌⊎◌, length, map, slice_range, string_bytes}
+use Rattle.std.specs.Prelude.{◌≡◌, ℕ, ◌+◌, List, [], ◌∷◌, ◌⊎◌, length, slice_range, string_bytes}
 use Rattle.ix_text.specs.Collections.{Collection, IsLawful}
 use Rattle.ix_text.specs.Parts.{DictionaryEntry, Parts, ArePartsOf}
 use Rattle.ix_vbyte.specs.Postings.{list_bytes}

@@ -76,8 +76,8 @@ fn note<M: TermMatcher>(
         → IsBelow before (take row.now.shared before ++ row.now.own.now)
         → IsTerm (take row.now.shared before ++ row.now.own.now)
         → OnOk result (IsNoted (M.wants matcher.old)
-            (take row.now.shared before ++ row.now.own.now)
-            row.now.documents start row.now.size found.old.items found.new.items) }
+        (take row.now.shared before ++ row.now.own.now)
+        row.now.documents start row.now.size found.old.items found.new.items) }
     ensures kept { OnOk result (HasAtMostOneMore row.now.documents start row.now.size
         found.old.items found.new.items) }
 {

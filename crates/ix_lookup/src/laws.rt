@@ -7,5 +7,4 @@ use crate::TermMatcher;
 /// the number of its documents and the place of its list in POSTINGS.
 pub fn found_terms_are_entries<M: TermMatcher>(_matcher: &M)
     ensures { FindsEntries (M.wants _matcher.now) }
-{
-}
+{}

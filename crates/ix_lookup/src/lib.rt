@@ -9,9 +9,9 @@ mod matcher;
 mod prefixed;
 mod row;
 mod term_test;
-mod version;
 #[cfg(test)]
 mod tests;
+mod version;
 mod word;
 mod words;
 

@@ -45,7 +45,7 @@ impl<'a, T: TermTest> Prefixed<'a, T> {
         ensures moved { (before : List ℕ) → IsHeld self.old.front self.old.term.items before
             → shared ≤ length before
             → OnOk result (IsHeld self.new.front self.new.term.items
-                (take shared before ++ own.now)) }
+            (take shared before ++ own.now)) }
     {
         let is_held = self.has_front();
         self.front.follow(shared, own);

@@ -1,9 +1,7 @@
 //! Dictionaries that were spelled by hand, from the definition of the format.
 ghost use Rattle.std.specs.Prelude.{IfOk};
 
-use crate::{
-    FoundTerm, LookupError, Prefixed, TermTest, Version, Word, Words, find_terms,
-};
+use crate::{FoundTerm, LookupError, Prefixed, TermTest, Version, Word, Words, find_terms};
 use std::alloc::{AllocError, Global};
 use std::test::Fail;
 
@@ -56,16 +54,25 @@ fn words_are_found_where_they_are_listed(rt: HostRuntime) -> Result<(), Fail> {
     for (version, section) in BOTH {
         for listed in LISTED {
             let found = find_word(rt.alloc(), version, section, 3, POSTINGS, listed.0)?;
-            assert!(rt; found.len() == 1 && is_listed(&found[0], listed), "{}", listed.0);
+            assert!(rt;
+                found.len() == 1 && is_listed(&found[0], listed),
+                "{}",
+                listed.0
+            );
         }
-        for text in ["", "r", "re", "reda", "reds", "redoo", "retire", "retiree", "z"] {
+        for text in [
+            "", "r", "re", "reda", "reds", "redoo", "retire", "retiree", "z",
+        ] {
             let found = find_word(rt.alloc(), version, section, 3, POSTINGS, text)?;
             assert!(rt; found.is_empty(), "{text}");
         }
     }
     for (place, text) in ["a", "ab", "abc", "abcd", "abcde"].iter().enumerate() {
         let found = find_word(rt.alloc(), Version::FrontCoded, FIVE, 5, 15, text)?;
-        assert!(rt; found.len() == 1 && is_listed(&found[0], (text, 1, 3 * place, 3)), "{text}");
+        assert!(rt;
+            found.len() == 1 && is_listed(&found[0], (text, 1, 3 * place, 3)),
+            "{text}"
+        );
     }
     Ok(())
 }
@@ -161,7 +168,10 @@ fn other_bytes_end(rt: HostRuntime) -> Result<(), Fail> {
         }
         for (count, postings) in [(2, POSTINGS), (4, POSTINGS), (3, 309), (3, 311), (3, 0)] {
             let found = find_word(rt.alloc(), version, section, count, postings, "z");
-            assert!(rt; matches!(found, Err(LookupError::Malformed)), "{count} {postings}");
+            assert!(rt;
+                matches!(found, Err(LookupError::Malformed)),
+                "{count} {postings}"
+            );
         }
     }
     Ok(())

@@ -65,7 +65,7 @@ impl<'a> Words<'a> {
         ensures texts { self.new.texts.items ≡ self.old.texts.items }
         ensures moved { AreSorted (texts_of self.old) → shared ≤ length self.old.word.text.now
             → HasPassed (texts_of self.old) (self.old.place + 1)
-                (take shared self.old.word.text.now ++ own.now)
+            (take shared self.old.word.text.now ++ own.now)
             → AreAtTerm self.new (take shared self.old.word.text.now ++ own.now) }
     {
         let last = self.word.text;

@@ -1,7 +1,7 @@
-use Rattle.std.proofs.Common.{◌≡◌, ◌⊎◌, ◌≢◌, [], ℕ, List, inl, inr, arith, subst, sym}
+use Rattle.std.proofs.Common.{List, inr, arith, subst, sym}
 use Rattle.ix_lookup.specs.Versions.{version_in}
 use Rattle.ix_lookup.specs.declared.found_term.FoundTerm.{FoundTerm}
-use Rattle.ix_lookup.proofs.ScanLemmas.{IsScanned, scan_begins, scan_goes_on, no_row, long_list, wrong_end, found_all, found_before}
+use Rattle.ix_lookup.proofs.ScanLemmas.{IsScanned, scan_begins, scan_goes_on, no_row, long_list, found_all, found_before}
 use Rattle.ix_lookup.proofs.find.find_terms.Goals as goal
 
 pub loop-place-init : goal.loop-place-init

@@ -15,7 +15,7 @@ returns-clause-moved g c = λ before at within.
     let is : IsAtTerm front term = c.follow.ensures.moved before was.at within in
     let text : front.text.now ≡ old.front.text.now = ap (λ (t : Bor (List ℕ)). t.now) c.follow.ensures.text in
     let has : IsTrue c.has_front-is_held.result ↔ (common before old.front.text.now ≡ length old.front.text.now) =
-        (λ found. sym was.at.common ∙ c.has_front-is_held.ensures.0 found, λ all. c.has_front-is_held.ensures.1 (was.at.common ∙ all)) in
+    (λ found. sym was.at.common ∙ c.has_front-is_held.ensures.0 found, λ all. c.has_front-is_held.ensures.1 (was.at.common ∙ all)) in
     let kept : common before old.front.text.now ≡ length old.front.text.now → old.term.items ≡ before = λ all. was.kept (was.at.common ∙ all) in
     record {
       at = subst (λ (word : Word). IsAtTerm word term) (sym c.in_ok-put.ensures.front) is;

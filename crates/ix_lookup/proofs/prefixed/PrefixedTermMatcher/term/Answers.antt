@@ -1,4 +1,4 @@
-use Rattle.std.proofs.Common.{◌≡◌, length, sym, ◌∙◌, subst, IsUtf8}
+use Rattle.std.proofs.Common.{◌≡◌, sym, ◌∙◌, subst, IsUtf8}
 use Rattle.ix_text.specs.Terms.{IsTerm}
 use Rattle.ix_lookup.specs.Fronts.{IsHeld}
 use Rattle.ix_lookup.proofs.PrefixLemmas.{front_shared}

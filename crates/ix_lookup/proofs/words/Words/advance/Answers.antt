@@ -1,4 +1,4 @@
-use Rattle.std.proofs.Common.{◌≡◌, ◌≤◌, ◌<◌, ◌+◌, ◌++◌, List, ℕ, [], get_or, length, map, take, Bor, Vec, Global, sym, ap, ◌∙◌, subst, arith}
+use Rattle.std.proofs.Common.{◌≡◌, ◌++◌, List, ℕ, [], get_or, length, map, take, Bor, Vec, Global, sym, ap, ◌∙◌, subst, arith}
 use Rattle.std.specs.Cmp.Lexicographic.{slice_cmp}
 use Rattle.std.specs.Ordering.{nat_cmp}
 use Rattle.ix_lookup.specs.TermOrder.{IsBelow}
@@ -17,10 +17,10 @@ loop-place-preserved c =
           let is : IsAtTerm c.follow.new.self term = c.follow.ensures.moved c.args.self.now.word.text.now c.at-self.ensures.at within in
           let less : IsBelow c.follow.new.self.text.now term = lt_less (slice_cmp nat_cmp c.follow.new.self.text.now term) (sym is.below ∙ c.if-not-self.false) in
           let found : c.index.result.now.now ≡ get_or (texts_of c.args.self.now) c.loop-place.place [] =
-              text_found c.loop-place.self.texts.items c.loop-place.place c.index.result.now (omega (arith, ap length texts, c.len-place-end.ensures)) c.index.ensures
-              ∙ ap (λ (ts : List (Bor (List ℕ))). get_or (map (λ (text : Bor (List ℕ)). text.now) ts) c.loop-place.place []) texts in
+          text_found c.loop-place.self.texts.items c.loop-place.place c.index.result.now (omega (arith, ap length texts, c.len-place-end.ensures)) c.index.ensures
+          ∙ ap (λ (ts : List (Bor (List ℕ))). get_or (map (λ (text : Bor (List ℕ)). text.now) ts) c.loop-place.place []) texts in
           let text : c.follow.new.self.text.now ≡ get_or (texts_of c.args.self.now) c.loop-place.place [] =
-              ap (λ (text : Bor (List ℕ)). text.now) c.follow.ensures.text ∙ c.at-self.ensures.text ∙ found in
+          ap (λ (text : Bor (List ℕ)). text.now) c.follow.ensures.text ∙ c.at-self.ensures.text ∙ found in
           passed_more (texts_of c.args.self.now) c.loop-place.place term (c.loop-place.invariant.before passed within) (subst (λ (t : List ℕ). IsBelow t term) text less);
     }
 
@@ -29,8 +29,8 @@ returns-then-not-self-clause-moved c = λ sorted within passed.
     let term = take c.args.shared c.args.self.now.word.text.now ++ c.args.own.now in
     let texts = ap (λ (ts : Vec (Bor (List ℕ)) Global). ts.items) c.loop-place.invariant.texts in
     let found : c.index.result.now.now ≡ get_or (texts_of c.args.self.now) c.loop-place.place [] =
-        text_found c.loop-place.self.texts.items c.loop-place.place c.index.result.now (omega (arith, ap length texts, c.len-place-end.ensures)) c.index.ensures
-        ∙ ap (λ (ts : List (Bor (List ℕ))). get_or (map (λ (text : Bor (List ℕ)). text.now) ts) c.loop-place.place []) texts in
+    text_found c.loop-place.self.texts.items c.loop-place.place c.index.result.now (omega (arith, ap length texts, c.len-place-end.ensures)) c.index.ensures
+    ∙ ap (λ (ts : List (Bor (List ℕ))). get_or (map (λ (text : Bor (List ℕ)). text.now) ts) c.loop-place.place []) texts in
     arrives c.args.self.now _ term c.loop-place.invariant.texts sorted (c.loop-place.invariant.before passed within) (omega (arith, c.len-place-end.ensures))
     (λ left. record {
       text = ap (λ (text : Bor (List ℕ)). text.now) c.follow.ensures.text ∙ c.at-self.ensures.text ∙ found;

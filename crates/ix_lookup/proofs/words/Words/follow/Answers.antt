@@ -1,4 +1,4 @@
-use Rattle.std.proofs.Common.{◌≡◌, ◌≤◌, ◌<◌, ◌+◌, ◌++◌, Less, true, List, ℕ, length, take, nat_eq, refl, sym, ap, ◌∙◌, subst, arith, Bor, Bool, false, IsTrue, ⊎_elim}
+use Rattle.std.proofs.Common.{◌≡◌, ◌≤◌, ◌<◌, ◌+◌, ◌++◌, true, List, ℕ, length, take, nat_eq, refl, sym, ap, ◌∙◌, subst, arith, Bor, Bool, false, IsTrue, ⊎_elim}
 use Rattle.std.proofs.lemmas.Bool.{cases_lt}
 use Rattle.std.proofs.lemmas.List.Sums.{common_prefix_len-le}
 use Rattle.std.specs.Cmp.Lexicographic.{slice_cmp}

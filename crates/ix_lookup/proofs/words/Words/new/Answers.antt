@@ -11,10 +11,10 @@ returns-clause-begun c =
       passed = λ k before. absurd (omega arith);
       within = omega arith;
       next = λ left. record {
-            text = c.at.ensures.text ∙ first;
-            reached = c.at.ensures.at.below ∙ sym (below_none c.at.result.text.now);
-            at = c.at.ensures.at;
-          };
+        text = c.at.ensures.text ∙ first;
+        reached = c.at.ensures.at.below ∙ sym (below_none c.at.result.text.now);
+        at = c.at.ensures.at;
+      };
     }
 
 pub returns-clause-wanted : goal.returns-clause-wanted

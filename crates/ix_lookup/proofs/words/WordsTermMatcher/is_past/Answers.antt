@@ -1,4 +1,4 @@
-use Rattle.std.proofs.Common.{arith, length}
+use Rattle.std.proofs.Common.{arith}
 use Rattle.ix_lookup.specs.Words.{AreAtTerm, texts_of}
 use Rattle.ix_lookup.proofs.WordsLemmas.{none_left, passed_on, texts_count}
 use Rattle.ix_lookup.proofs.words.WordsTermMatcher.is_past.Goals as goal
