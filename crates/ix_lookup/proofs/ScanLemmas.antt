@@ -18,8 +18,8 @@ use Rattle.ix_lookup.specs.TermOrder.{IsBelow}
 use Rattle.ix_lookup.specs.declared.found_term.FoundTerm.{FoundTerm}
 use Rattle.ix_lookup.specs.declared.row.Row.{Row}
 
--- Of these listings the scan has others before it, from a place on, whose lists begin at `start`: what was found is that of those behind
--- it, and goes on with what is found of the others.
+-- Of these listings the scan has others before it, from a place on, whose lists begin at `start`: what was found is that
+-- of those behind it, and goes on with what is found of the others.
 pub record GoesOn (version : Version) (wants is_at : List ℕ → Type 0) (listings : List Listing) (count postings place start : ℕ) (left : List ℕ) (found : List PlacedListing) : Type 0 where
   pub before : List ℕ
   pub others : List Listing

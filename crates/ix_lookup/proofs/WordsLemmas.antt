@@ -162,8 +162,8 @@ same_front (x ∷ xs) (y ∷ ys) (suc n) within = at (nat_eq x y) refl (λ withi
     at true same rest within = ap₂ (λ z zs. z ∷ zs) (eqb-true x y same) (rest (omega arith))
     at false other rest within = absurd (omega arith)
 
--- A word that did not stand below the term before, and stands below the next one, shares the front with the term before that both
--- terms share.
+-- A word that did not stand below the term before, and stands below the next one, shares with the term before the front
+-- that both terms share.
 pub shared_within : (before own text : List ℕ) (shared : ℕ) → shared ≤ length before → is_lt (slice_cmp nat_cmp text before) ≡ false → is_lt (slice_cmp nat_cmp text (take shared before ++ own)) ≡ true → shared ≤ common before text
 shared_within before own text shared within reached below =
     ⊎_elim (λ (past : common before text < shared). absurd (apart past)) (λ (on : shared ≤ common before text). on) (cases_lt (common before text) shared)

@@ -15,8 +15,8 @@ abbrev pub placed_of : FoundTerm → PlacedListing
 placed_of found =
     record { listing = record { term = string_bytes found.term; documents = found.documents; size = found.size }; start = found.start }
 
--- Of listings whose lists begin at `start`, exactly those of the terms that are looked for were found, in their order, each with
--- the place at which its list begins.
+-- Of listings whose lists begin at `start`, exactly those of terms that are looked for were found, in their order, each
+-- with the place at which its list begins.
 abbrev pub AreFound : (List ℕ → Type 0) → ℕ → List Listing → List PlacedListing → Type 0
 AreFound wants start [] found = found ≡ []
 AreFound wants start (listing ∷ listings) found =

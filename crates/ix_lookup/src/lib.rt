@@ -1,4 +1,23 @@
-//! Finds terms in the dictionary of an index text without opening the index.
+//! Finds terms in the DICTIONARY of an index text without opening the index.
+//!
+//! [`find_terms`] scans the section once. A [`TermMatcher`] says which terms are looked for: a [`Word`], several
+//! [`Words`], or the terms that begin with a text and pass a test ([`Prefixed`]), as those that match a pattern. The scan
+//! tells it only by which bytes each term differs from the term before, so a term is put together only if its matcher
+//! needs it, and it ends behind the last term that can be looked for. What is found says where the term's list is in
+//! POSTINGS, so that it can be read by itself:
+//!
+//! ```text
+//! let mut words = Words::new(vec![in alloc; "red", "retired"]?);
+//! for found in &find_terms(alloc, version, dictionary, terms, postings.len(), &mut words)? {
+//!     let list = &postings[found.start..found.start + found.size as usize];
+//! }
+//! ```
+//!
+//! Proved, for both versions: if the section is the dictionary of a lawful collection, exactly its terms that are looked
+//! for are found, in their order, each with its number of documents and the place of its list
+//! ([`found_terms_are_entries`]). For all other bytes a call is safe, ends, and finds lists within POSTINGS or returns
+//! an error; `Malformed` is returned only for bytes that are no such dictionary. What else is found in other bytes is
+//! left open: not each fault is looked for.
 #![tactic(auto)]
 
 mod find;

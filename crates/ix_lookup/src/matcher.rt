@@ -4,8 +4,8 @@ use std::alloc::AllocError;
 
 /// Terms that are looked for, and how far a scan of a dictionary has come.
 ///
-/// A scan steps from term to term, which ascend. Each step has the bytes by which the term differs from the term before, so a matcher
-/// puts together only the terms that it has to.
+/// A scan steps from term to term, which ascend. Each step has the bytes by which the term differs from the term before,
+/// so a matcher puts together only the terms that it has to.
 pub trait TermMatcher {
     ghost use Rattle.std.specs.Prelude.{◌≡◌, ◌≤◌, ◌++◌, ◌↔◌, ℕ, List, length, take, IsTrue, IfOk};
     ghost use Rattle.ix_text.specs.Terms.{IsTerm};
@@ -17,8 +17,8 @@ pub trait TermMatcher {
     // The scan has come to this term.
     ghost is_at: { Self → List ℕ → Type 0 };
 
-    /// Steps to the term that has the first `shared` bytes of the term before and then these of its own. Returns whether
-    /// it is looked for.
+    /// Steps to the term that has the first `shared` bytes of the term before, and then these of its own. Returns
+    /// whether it is looked for.
     ///
     /// # Errors
     /// Out of memory.
@@ -30,7 +30,8 @@ pub trait TermMatcher {
         ensures answered { (before : List ℕ) → is_at self.old before → shared ≤ length before
             → IsBelow before (take shared before ++ own.now)
             → IsTerm (take shared before ++ own.now)
-            → IfOk result (λ found. IsTrue found ↔ wants self.old (take shared before ++ own.now)) };
+            → IfOk result (λ found. IsTrue found
+            ↔ wants self.old (take shared before ++ own.now)) };
 
     /// The term that the scan has come to, if it is looked for.
     fn term(&self) -> &str

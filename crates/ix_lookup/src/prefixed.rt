@@ -56,8 +56,8 @@ impl<'a, T: TermTest> Prefixed<'a, T> {
         Ok(())
     }
 
-    /// Puts the term together that has the first `shared` bytes of the term before and then these of its own. If the term
-    /// before is not held, it shares no more than the text.
+    /// Puts the term together that has the first `shared` bytes of the term before, and then these of its own. If the
+    /// term before is not held, they are bytes of the text.
     fn put(&mut self, is_held: bool, shared: u32, own: &[u8]) -> Result<(), AllocError>
         ensures front { self.new.front ≡ self.old.front }
         ensures test { self.new.test ≡ self.old.test }
@@ -98,7 +98,8 @@ impl<'a, T: TermTest> Prefixed<'a, T> {
 impl<T: TermTest> TermMatcher for Prefixed<'_, T> {
     ghost use Rattle.ix_lookup.specs.Fronts.{HasFront, IsHeld};
 
-    ghost wants = { λ prefixed term. HasFront prefixed.front.text.now term × T.passes prefixed.test term };
+    ghost wants = { λ prefixed term. HasFront prefixed.front.text.now term
+        × T.passes prefixed.test term };
 
     ghost is_at = { λ prefixed term. IsHeld prefixed.front prefixed.term.items term };
 

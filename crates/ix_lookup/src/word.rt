@@ -22,7 +22,8 @@ impl Word<'_> {
 
     /// A word, before the first term.
     pub fn new(text: &str) -> Word<'_>
-        ensures wanted { (term : List ℕ) → ⟦<Word<'static> as TermMatcher>⟧.wants result term ↔ (term ≡ text.now) }
+        ensures wanted { (term : List ℕ) → ⟦<Word<'static> as TermMatcher>⟧.wants result term
+            ↔ (term ≡ text.now) }
         ensures begun { ⟦<Word<'static> as TermMatcher>⟧.is_at result [] }
     {
         Word {

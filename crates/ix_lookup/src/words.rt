@@ -58,8 +58,8 @@ impl<'a> Words<'a> {
         self.advance(shared, own);
     }
 
-    /// Goes on to the next word that does not stand below the term which has the first `shared` bytes of the current word
-    /// and then these of its own.
+    /// Goes on to the next word that does not stand below the term. That has the first `shared` bytes of the current
+    /// word, and then these of its own.
     fn advance(&mut self, shared: u32, own: &[u8])
         requires { self.old.place < length self.old.texts.items }
         ensures texts { self.new.texts.items ≡ self.old.texts.items }
