@@ -1,5 +1,6 @@
 pub mod EntryLemmas
 pub mod FrontLemmas
+pub mod MatcherLemmas
 pub mod PrefixLemmas
 pub mod RowLemmas
 pub mod ScanLemmas

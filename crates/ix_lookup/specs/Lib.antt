@@ -3,6 +3,7 @@ pub mod FoundTerms
 pub mod Fronts
 pub mod Listed
 pub mod LookupErrors
+pub mod Matchers
 pub mod Rows
 pub mod TermOrder
 pub mod Versions

@@ -20,6 +20,7 @@
 //! left open: not each fault is looked for.
 #![tactic(auto)]
 
+mod any_of;
 mod find;
 mod found_term;
 mod laws;
@@ -34,6 +35,7 @@ mod version;
 mod word;
 mod words;
 
+pub use any_of::AnyOf;
 pub use find::find_terms;
 pub use found_term::FoundTerm;
 pub use laws::found_terms_are_entries;
