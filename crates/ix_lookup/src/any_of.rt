@@ -1,11 +1,11 @@
 //! Several matchers in one pass.
-ghost use Rattle.std.specs.Prelude.{◌≡◌, ◌≤◌, ◌++◌, ◌↔◌, [], List, ℕ, length, take, All, Any, IfOk, if◌then◌else◌};
+ghost use Rattle.std.specs.Prelude.{◌≡◌, ◌≤◌, ◌++◌, ◌↔◌, ◌⊎◌, [], List, ℕ, length, take, All, Any, IfOk, OnOk, OnErr, if◌then◌else◌};
 ghost use Rattle.ix_text.specs.Terms.{IsTerm};
 ghost use Rattle.ix_lookup.specs.Matchers.{KeepsWants, HasFoundPlace};
 ghost use Rattle.ix_lookup.specs.TermOrder.{IsBelow};
 
 use crate::TermMatcher;
-use std::alloc::AllocError;
+use std::alloc::{AllocError, Global};
 
 /// Terms that one of several matchers looks for.
 #[derive(Drop)]
@@ -14,15 +14,33 @@ pub struct AnyOf<M> {
     found: usize,
 }
 
-impl<M: TermMatcher> AnyOf<M> {
-    /// Terms that one of these matchers looks for, before the first term. Takes no memory.
-    pub fn new(matchers: Vec<M>) -> AnyOf<M>
-        requires { All (λ one. M.is_at one []) matchers.items }
-        ensures wanted { (term : List ℕ) → ⟦<AnyOf<M> as TermMatcher>⟧.wants result term
-            ↔ Any (λ one. M.wants one term) matchers.items }
+impl<M: TermMatcher + Drop> AnyOf<M> {
+    /// No matcher, before the first term. Takes no memory.
+    pub fn new(alloc: Global) -> AnyOf<M>
+        ensures wanted { (term : List ℕ) → ¬ (⟦<AnyOf<M> as TermMatcher>⟧.wants result term) }
         ensures begun { ⟦<AnyOf<M> as TermMatcher>⟧.is_at result [] }
     {
-        AnyOf { matchers, found: 0 }
+        AnyOf {
+            matchers: Vec::new(alloc),
+            found: 0,
+        }
+    }
+
+    /// One more matcher, before the first term.
+    ///
+    /// # Errors
+    /// Out of memory. The matchers are then those before.
+    pub fn push(&mut self, matcher: M) -> Result<(), AllocError>
+        requires begun { ⟦<AnyOf<M> as TermMatcher>⟧.is_at self.old [] }
+        requires matcher { M.is_at matcher [] }
+        ensures wanted { (term : List ℕ) → OnOk result (⟦<AnyOf<M> as TermMatcher>⟧.wants self.new term
+            ↔ (⟦<AnyOf<M> as TermMatcher>⟧.wants self.old term ⊎ M.wants matcher term)) }
+        ensures same { (term : List ℕ) → OnErr result (⟦<AnyOf<M> as TermMatcher>⟧.wants self.new term
+            ↔ ⟦<AnyOf<M> as TermMatcher>⟧.wants self.old term) }
+        ensures begun { ⟦<AnyOf<M> as TermMatcher>⟧.is_at self.new [] }
+    {
+        self.matchers.push(matcher)?;
+        Ok(())
     }
 }
 

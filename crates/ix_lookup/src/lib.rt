@@ -1,10 +1,10 @@
 //! Finds terms in the DICTIONARY of an index text without opening the index.
 //!
 //! [`find_terms`] scans the section once. A [`TermMatcher`] says which terms are looked for: a [`Word`], several
-//! [`Words`], or the terms that begin with a text and pass a test ([`Prefixed`]), as those that match a pattern. The scan
-//! tells it only by which bytes each term differs from the term before, so a term is put together only if its matcher
-//! needs it, and it ends behind the last term that can be looked for. What is found says where the term's list is in
-//! POSTINGS, so that it can be read by itself:
+//! [`Words`], the terms that begin with a text and pass a test ([`Prefixed`]), as those that match a pattern, or what one of
+//! several matchers looks for ([`AnyOf`]). The scan tells it only by which bytes each term differs from the term before,
+//! so a term is put together only if its matcher needs it, and it ends behind the last term that can be looked for. What
+//! is found says where the term's list is in POSTINGS, so that it can be read by itself:
 //!
 //! ```text
 //! let mut words = Words::new(vec![in alloc; "red", "retired"]?);

@@ -1,7 +1,7 @@
 //! Dictionaries that were spelled by hand, from the definition of the format.
 ghost use Rattle.std.specs.Prelude.{IfOk};
 
-use crate::{FoundTerm, LookupError, Prefixed, TermTest, Version, Word, Words, find_terms};
+use crate::{AnyOf, FoundTerm, LookupError, Prefixed, TermMatcher, TermTest, Version, Word, Words, find_terms};
 use std::alloc::{AllocError, Global};
 use std::test::Fail;
 
@@ -125,6 +125,28 @@ fn several_words_and_fronts(rt: HostRuntime) -> Result<(), Fail> {
             let found = count_prefixed(rt.alloc(), version, section, front, size)?;
             assert_eq!(rt; found, count, "{front}");
         }
+    }
+    Ok(())
+}
+
+/// The terms of four bytes that begin with `re`, and those of seven that begin with `r`.
+fn two_patterns(alloc: Global) -> Result<AnyOf<Prefixed<'static, HasSize>>, AllocError>
+    ensures { IfOk result (λ any.
+        ⟦<AnyOf<Prefixed<'static, HasSize>> as TermMatcher>⟧.is_at any []) }
+{
+    let mut any = AnyOf::new(alloc);
+    any.push(Prefixed::new(alloc, "re", HasSize(4)))?;
+    any.push(Prefixed::new(alloc, "r", HasSize(7)))?;
+    Ok(any)
+}
+
+#[test]
+fn patterns_in_one_pass(rt: HostRuntime) -> Result<(), Fail> {
+    for (version, section) in BOTH {
+        let mut any = two_patterns(rt.alloc())?;
+        let found = find_terms(rt.alloc(), version, section, 3, POSTINGS, &mut any)?;
+        assert!(rt; found.len() == 2);
+        assert!(rt; is_listed(&found[0], LISTED[1]) && is_listed(&found[1], LISTED[2]));
     }
     Ok(())
 }
