@@ -1,5 +1,5 @@
 -- How several matchers step on, one after another.
-use Rattle.std.proofs.Common.{◌≡◌, ◌≢◌, ℕ, ◌+◌, ◌<◌, ◌≤◌, ◌↔◌, Bool, true, false, cond, List, [], ◌∷◌, ◌++◌, length, get_or, set, take, All, Any, IsTrue, Option, Some, None, refl, sym, ap, ◌∙◌, subst, ⊎_elim, arith, slice_get, get_or-set_same, get_or-set_other, length-set}
+use Rattle.std.proofs.Common.{◌≡◌, ◌≢◌, ℕ, ◌+◌, ◌<◌, ◌≤◌, ◌↔◌, Bool, true, false, cond, List, [], ◌∷◌, ◌++◌, length, get_or, set, take, All, Any, IsTrue, Option, Some, None, refl, sym, ap, ◌∙◌, subst, ⊎_elim, arith, get_or-set_same, get_or-set_other, length-set}
 use Rattle.std.proofs.lemmas.Bool.{cases_lt}
 use Rattle.std.proofs.lemmas.Option.{slice_get-get_or}
 use Rattle.ix_text.specs.Terms.{IsTerm}
@@ -66,12 +66,12 @@ module _ {M : Type 0} (wants is_at : M → List ℕ → Type 0) where
       moved_at : (before : List ℕ) → All (λ one. is_at one before) old → shared ≤ length before → IsBelow before (take shared before ++ own) → (k : ℕ) (none : M) → k < place + 1 → is_at (get_or (set now place y) k none) (take shared before ++ own)
       moved_at before at few above k none h =
           ⊎_elim (λ (low : k < place).
-              let apart : k ≢ place = omega arith in
-              subst (λ (one : M). is_at one (take shared before ++ own)) (sym (get_or-set_other now place k y none apart)) (stepped.moved before at few above k none low))
+          let apart : k ≢ place = omega arith in
+          subst (λ (one : M). is_at one (take shared before ++ own)) (sym (get_or-set_other now place k y none apart)) (stepped.moved before at few above k none low))
           (λ (high : place ≤ k).
-              let here : place ≡ k = omega arith in
-              subst (λ j. is_at (get_or (set now place y) j none) (take shared before ++ own)) here
-              (subst (λ (one : M). is_at one (take shared before ++ own)) (sym (get_or-set_same now place y none within)) (moves before (at_before before at) few above)))
+          let here : place ≡ k = omega arith in
+          subst (λ j. is_at (get_or (set now place y) j none) (take shared before ++ own)) here
+          (subst (λ (one : M). is_at one (take shared before ++ own)) (sym (get_or-set_same now place y none within)) (moves before (at_before before at) few above)))
           (cases_lt k place)
 
       found_at : (term : List ℕ) (c : Bool) (last : Option ℕ) → (IsTrue c ↔ wants x term) → HasFoundPlace wants old term place last → HasFoundPlace wants old term (place + 1) (cond c (Some place) last)
@@ -79,7 +79,7 @@ module _ {M : Type 0} (wants is_at : M → List ℕ → Type 0) where
       found_at term false None answer before = λ k none h.
           ⊎_elim (λ (low : k < place). before k none low)
           (λ (high : place ≤ k). let here : place ≡ k = omega arith in λ (wanted : wants (get_or old k none) term).
-            no (answer.1 (subst (λ (one : M). wants one term) (sym (was none)) (subst (λ j. wants (get_or old j none) term) (sym here) wanted))))
+          no (answer.1 (subst (λ (one : M). wants one term) (sym (was none)) (subst (λ j. wants (get_or old j none) term) (sym here) wanted))))
           (cases_lt k place)
         where
           no : IsTrue false → ⊥

@@ -90,12 +90,12 @@ fn step_all<M: TermMatcher>(
     ensures moved { (before : List ℕ) → All (λ one. M.is_at one before) matchers.old.items
         → shared ≤ length before → IsBelow before (take shared before ++ own.now)
         → IfOk result (λ _.
-            All (λ one. M.is_at one (take shared before ++ own.now)) matchers.new.items) }
+        All (λ one. M.is_at one (take shared before ++ own.now)) matchers.new.items) }
     ensures answered { (before : List ℕ) → All (λ one. M.is_at one before) matchers.old.items
         → shared ≤ length before → IsBelow before (take shared before ++ own.now)
         → IsTerm (take shared before ++ own.now)
         → IfOk result (λ place. HasFoundPlace M.wants matchers.old.items
-            (take shared before ++ own.now) (length matchers.old.items) place) }
+        (take shared before ++ own.now) (length matchers.old.items) place) }
 {
     let mut found = None;
     for place in 0..matchers.len() {

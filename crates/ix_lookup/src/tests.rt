@@ -1,7 +1,10 @@
 //! Dictionaries that were spelled by hand, from the definition of the format.
-ghost use Rattle.std.specs.Prelude.{IfOk};
+ghost use Rattle.std.specs.Prelude.{[], IfOk};
 
-use crate::{AnyOf, FoundTerm, LookupError, Prefixed, TermMatcher, TermTest, Version, Word, Words, find_terms};
+use crate::{
+    AnyOf, FoundTerm, LookupError, Prefixed, TermMatcher, TermTest, Version, Word, Words,
+    find_terms,
+};
 use std::alloc::{AllocError, Global};
 use std::test::Fail;
 
