@@ -55,7 +55,7 @@ of_entries version collection parts lawful of =
       spelled = dictionary_listings version parts.entries;
     }
 
--- what stands between others
+-- a part between others
 between : (front list rest : List ℕ) → slice_range (front ++ (list ++ rest)) (length front) (length front + length list) ≡ list
 between front list rest =
     let size : length front + length list - length front ≡ length list = omega arith in

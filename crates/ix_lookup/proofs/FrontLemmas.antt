@@ -1,4 +1,4 @@
--- How a term that shares a front with the term before stands to a word.
+-- How a term that shares a front with the term before compares with a word.
 use Rattle.std.proofs.Common.{◌≡◌, ℕ, zero, suc, ◌+◌, ◌<◌, ◌≤◌, Bool, true, false, cond, List, [], ◌∷◌, ◌++◌, length, take, drop, nat_eq, Ordering, Less, Equal, Greater, refl, sym, ap, ap₂, ◌∙◌, arith, ◌≢◌, ◌↔◌, IsTrue, eqb-true, eq-eqb, length-append}
 use Rattle.std.proofs.lemmas.Bool.Decides.{nat_tests}
 use Rattle.std.proofs.lemmas.Cmp.{nat_list_cmp_total}
@@ -87,7 +87,7 @@ pub common_same : (word : List ℕ) → common word word ≡ length word
 common_same [] = refl
 common_same (x ∷ xs) = ap (λ b. cond b (1 + common xs xs) 0) (nat_eq-same x) ∙ (let rest = common_same xs in omega arith)
 
--- no text stands below the empty one
+-- no text is below the empty one
 pub below_none : (word : List ℕ) → false ≡ is_lt (slice_cmp nat_cmp word [])
 below_none [] = refl
 below_none (x ∷ xs) = refl

@@ -6,7 +6,7 @@ use Rattle.ix_text.specs.Terms.{IsTerm}
 use Rattle.ix_lookup.specs.Matchers.{KeepsWants, HasFoundPlace}
 use Rattle.ix_lookup.specs.TermOrder.{IsBelow}
 
--- an element, whatever stands for one that is not there
+-- the element at a place, whatever the default
 pub same_at : {M : Type 0} → (xs : List M) (place : ℕ) (one other : M) → place < length xs → get_or xs place one ≡ get_or xs place other
 same_at xs place one other within = let e = sym (slice_get-get_or xs place one within) ∙ slice_get-get_or xs place other within in cc
 

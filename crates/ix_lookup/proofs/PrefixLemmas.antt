@@ -39,7 +39,7 @@ put_together false text held before own shared within has kept all =
     apart : common before text < shared → ⊥
     apart past = let found : false ≡ true = has.1 (sym (common_past before own text shared within past) ∙ all) in cc
 
--- a text that stands below a term and is no front of it: what begins with the text stands below the term
+-- a text that is below a term and is no front of it: what begins with the text is below the term
 below_apart : (front rest term : List ℕ) → common term front < length front → slice_cmp nat_cmp front term ≡ Less → slice_cmp nat_cmp (front ++ rest) term ≡ Less
 below_apart [] rest term few below = absurd (omega arith)
 below_apart (y ∷ ys) rest [] few below = absurd (cc)

@@ -8,7 +8,7 @@ use Rattle.ix_vbyte.specs.Texts.{counted}
 use Rattle.ix_index_text.specs.Sections.{front_coded, grouped}
 use Rattle.ix_lookup.specs.Rows.{IsSharedRead}
 
--- what two texts share stands at the front of both
+-- what two texts share is the front of both
 shared_front : (before term : List ℕ) → take (common_prefix_len nat_eq before term) term ≡ take (common_prefix_len nat_eq before term) before
 shared_front [] term = refl
 shared_front (x ∷ xs) [] = refl

@@ -49,7 +49,7 @@ pub record HasNext (version : Version) (wants is_at : List ℕ → Type 0) (list
   pub spelled : left ≡ listing_bytes version place before listing ++ listings_from version (place + 1) listing.term others
   pub so_far : (more : List PlacedListing) → AreFound wants start (listing ∷ others) more → AreFound wants 0 listings (found ++ more)
 
--- each term stands above the empty text
+-- each term is above the empty text
 above_none : (listings : List Listing) → All IsReadable listings → All (IsBelow []) (map (λ listing. listing.term) listings)
 above_none [] readable = λ k d h. absurd (omega arith)
 above_none (listing ∷ listings) readable =

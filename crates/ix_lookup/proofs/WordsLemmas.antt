@@ -1,4 +1,4 @@
--- How several words stand to ascending terms.
+-- How several words compare with ascending terms.
 use Rattle.std.proofs.Common.{◌≡◌, ℕ, zero, suc, ◌+◌, ◌<◌, ◌≤◌, Bool, true, false, cond, map, List, [], ◌∷◌, ◌++◌, length, get_or, take, nat_eq, Ordering, Less, Equal, Greater, ◌-◌, Contains, ◌↔◌, Option, Bor, Vec, Global, slice_get, unwrap_or, refl, ⊎_elim, below_more, sym, ap, ap₂, ◌∙◌, subst, arith}
 use Rattle.std.proofs.Math.ListN.{get_or-map}
 use Rattle.std.proofs.lemmas.Bool.{cases_lt, eqb-true}
@@ -16,7 +16,7 @@ use Rattle.ix_lookup.specs.declared.word.Word.{Word}
 use Rattle.ix_lookup.specs.declared.words.Words.{Words}
 use Rattle.ix_lookup.proofs.FrontLemmas.{common, lt_less, order_past}
 
--- no text stands below itself
+-- no text is below itself
 pub not_below_itself : (text : List ℕ) → IsBelow text text → ⊥
 not_below_itself text below =
     let back : Less ≡ ordering_reverse Less = sym below ∙ nat_list_cmp_total.antisymm text text ∙ ap ordering_reverse below in
@@ -25,7 +25,7 @@ not_below_itself text below =
 pub below_trans : (one other third : List ℕ) → IsBelow one other → IsBelow other third → IsBelow one third
 below_trans one other third first second = nat_list_cmp_total.trans one other third first second
 
--- what stands below a term stands below a later one
+-- what is below a term is below a later one
 pub passed_on : (texts : List (List ℕ)) (place : ℕ) (term later : List ℕ) → HasPassed texts place term → IsBelow term later → HasPassed texts place later
 passed_on texts place term later passed above k before = below_trans (get_or texts k []) term later (passed k before) above
 
@@ -37,7 +37,7 @@ passed_more texts place term passed below = below_more _ _ passed below
 pub no_text_passed : (texts : List (List ℕ)) (place : ℕ) (term : List ℕ) → HasPassed texts place term → (k : ℕ) → k < place → get_or texts k [] ≡ term → ⊥
 no_text_passed texts place term passed k before e = not_below_itself term (subst (λ (t : List ℕ). IsBelow t term) e (passed k before))
 
--- what does not stand above and not below is the same
+-- what is not above and not below is the same
 at_or_above : (one other : List ℕ) → ¬ (IsBelow other one) → ¬ (IsBelow one other) → one ≡ other
 at_or_above one other least most = decided (slice_cmp nat_cmp one other) refl
   where
@@ -54,7 +54,7 @@ not_below_trans one other third first second below = decided (slice_cmp nat_cmp 
     decided Equal is = second (subst (λ (t : List ℕ). IsBelow third t) (exact_bytes one other is) below)
     decided Greater is = first (nat_list_cmp_total.antisymm other one ∙ ap ordering_reverse is)
 
--- no later text stands below an earlier one
+-- no later text is below an earlier one
 sorted_apart : (texts : List (List ℕ)) (low distance high : ℕ) → AreSorted texts → high ≡ low + distance → high < length texts → ¬ (IsBelow (get_or texts high []) (get_or texts low []))
 sorted_apart texts low zero high sorted is within =
     let same : low ≡ high = omega arith in subst (λ k. ¬ (IsBelow (get_or texts k []) (get_or texts low []))) same (not_below_itself (get_or texts low []))
@@ -63,7 +63,7 @@ sorted_apart texts low (suc n) high sorted is within =
     subst (λ k. ¬ (IsBelow (get_or texts k []) (get_or texts low []))) (sym next)
     (not_below_trans (get_or texts low []) (get_or texts (low + n) []) (get_or texts (low + n + 1) []) (sorted_apart texts low n (low + n) sorted refl (omega arith)) (sorted (low + n) (omega arith)))
 
--- the text that is there, whatever stands for one that is not
+-- the text at a place, whatever the default
 same_text : (texts : List (List ℕ)) (k : ℕ) (one other : List ℕ) → k < length texts → get_or texts k one ≡ get_or texts k other
 same_text texts k one other within = let e = sym (slice_get-get_or texts k one within) ∙ slice_get-get_or texts k other within in cc
 
@@ -116,7 +116,7 @@ stays words before term at above all = record {
   next = λ left. absurd (omega (arith, texts_count words));
 }
 
--- the next word does not stand below the term
+-- the next word is not below the term
 pub reaches : (words new : Words) (before term : List ℕ) → AreAtTerm words before → words.place < length words.texts.items → new.texts.items ≡ words.texts.items → new.place ≡ words.place → new.word.text ≡ words.word.text → IsAtTerm new.word term → new.word.is_below ≡ false → IsBelow before term → AreAtTerm new term
 reaches words new before term at left texts place text is reached above =
     let same : texts_of new ≡ texts_of words = ap (map (λ (t : Bor (List ℕ)). t.now)) texts in
@@ -162,7 +162,7 @@ same_front (x ∷ xs) (y ∷ ys) (suc n) within = at (nat_eq x y) refl (λ withi
     at true same rest within = ap₂ (λ z zs. z ∷ zs) (eqb-true x y same) (rest (omega arith))
     at false other rest within = absurd (omega arith)
 
--- A word that did not stand below the term before, and stands below the next one, shares with the term before the front
+-- A word that was not below the term before, and is below the next one, shares with the term before the front
 -- that both terms share.
 pub shared_within : (before own text : List ℕ) (shared : ℕ) → shared ≤ length before → is_lt (slice_cmp nat_cmp text before) ≡ false → is_lt (slice_cmp nat_cmp text (take shared before ++ own)) ≡ true → shared ≤ common before text
 shared_within before own text shared within reached below =

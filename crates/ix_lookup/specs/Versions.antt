@@ -1,4 +1,4 @@
--- The version that a value of the program stands for.
+-- The version of the format that a value of the program is.
 use Rattle.ix_index_text.specs.Sections.{Version, Plain, FrontCoded}
 use Rattle.ix_lookup.specs.declared.version.Version.{Version as DictionaryVersion}
 use Rattle.ix_lookup.specs.declared.version.Version.TheVariants as dictionary

@@ -7,7 +7,7 @@ use Rattle.ix_lookup.specs.TermOrder.{IsBelow}
 use Rattle.ix_lookup.specs.declared.word.Word.{Word}
 use Rattle.ix_lookup.specs.declared.words.Words.{Words}
 
--- The word knows how many of its first bytes are the term's, and whether it stands below the term.
+-- The word knows how many of its first bytes are the term's, and whether it is below the term.
 pub record IsAtTerm (word : Word) (term : List ℕ) : Type 0 where
   pub common : word.common ≡ common_prefix_len nat_eq term word.text.now
   pub below : word.is_below ≡ is_lt (slice_cmp nat_cmp word.text.now term)
@@ -16,21 +16,21 @@ pub record IsAtTerm (word : Word) (term : List ℕ) : Type 0 where
 abbrev pub texts_of : Words → List (List ℕ)
 texts_of words = map (λ text. text.now) words.texts.items
 
--- No text stands below the one before it.
+-- No text is below the one before it.
 abbrev pub AreSorted : List (List ℕ) → Type 0
 AreSorted texts = (before : ℕ) → before + 1 < length texts → ¬ (IsBelow (slice_index_or texts (before + 1) []) (slice_index_or texts before []))
 
--- The word is one of the texts, does not stand below the term, and has come to it.
+-- The word is one of the texts, is not below the term, and has come to it.
 pub record IsNext (texts : List (List ℕ)) (place : ℕ) (word : Word) (term : List ℕ) : Type 0 where
   pub text : word.text.now ≡ slice_index_or texts place []
   pub reached : word.is_below ≡ false
   pub at : IsAtTerm word term
 
--- The texts before a place stand below the term.
+-- The texts before a place are below the term.
 abbrev pub HasPassed : List (List ℕ) → ℕ → List ℕ → Type 0
 HasPassed texts place term = (before : ℕ) → before < place → IsBelow (slice_index_or texts before []) term
 
--- Words are sorted, those before a place stand below the term, and the one there is next.
+-- Words are sorted, those before a place are below the term, and the one there is next.
 pub record AreAtTerm (words : Words) (term : List ℕ) : Type 0 where
   pub sorted : AreSorted (texts_of words)
   pub passed : HasPassed (texts_of words) words.place term

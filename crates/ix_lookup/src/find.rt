@@ -15,8 +15,8 @@ use std::alloc::{AllocError, Global};
 /// together. Returns them in their order.
 ///
 /// # Errors
-/// * `Malformed` if the bytes are of no such dictionary. Not each of those is found out.
-/// * `Memory` if memory ran out.
+/// * `Malformed` if the bytes are not a dictionary of that many terms and bytes of lists. Not every fault is detected.
+/// * `Memory` if out of memory.
 pub fn find_terms<M: TermMatcher>(
     alloc: Global,
     version: Version,

@@ -1,10 +1,10 @@
 //! Finds terms in the DICTIONARY of an index text without opening the index.
 //!
-//! [`find_terms`] scans the section once. A [`TermMatcher`] says which terms are looked for: a [`Word`], several
-//! [`Words`], the terms that begin with a text and pass a test ([`Prefixed`]), as those that match a pattern, or what one of
-//! several matchers looks for ([`AnyOf`]). The scan tells it only by which bytes each term differs from the term before,
-//! so a term is put together only if its matcher needs it, and it ends behind the last term that can be looked for. What
-//! is found says where the term's list is in POSTINGS, so that it can be read by itself:
+//! [`find_terms`] scans the section once. A [`TermMatcher`] says which terms are wanted: a [`Word`], several [`Words`],
+//! the terms that begin with a text and pass a test ([`Prefixed`], for a pattern), or those of any of several matchers
+//! ([`AnyOf`]). The scan gives it only the bytes by which a term differs from the term before, so a term is put together
+//! only if its matcher needs it. It ends behind the last term that can be wanted. A term that was found says where its
+//! list is in POSTINGS, so that the list can be read by itself:
 //!
 //! ```text
 //! let mut words = Words::new(vec![in alloc; "red", "retired"]?);
@@ -13,11 +13,11 @@
 //! }
 //! ```
 //!
-//! Proved, for both versions: if the section is the dictionary of a lawful collection, exactly its terms that are looked
-//! for are found, in their order, each with its number of documents and the place of its list
+//! Proved, for both versions: if the section is the dictionary of a lawful collection, exactly its terms that are wanted
+//! are found, in their order, each with its number of documents and the place of its list
 //! ([`found_terms_are_entries`]). For all other bytes a call is safe, ends, and finds lists within POSTINGS or returns
-//! an error; `Malformed` is returned only for bytes that are no such dictionary. What else is found in other bytes is
-//! left open: not each fault is looked for.
+//! an error; `Malformed` is returned only for bytes that are not the dictionary of such a collection. Which terms are
+//! found in other bytes is left open, since not every fault is detected.
 #![tactic(auto)]
 
 mod any_of;

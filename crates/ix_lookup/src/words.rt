@@ -6,7 +6,7 @@ use std::alloc::AllocError;
 
 /// Words that are looked for as terms.
 ///
-/// They are sorted, and terms ascend, so each term is compared with one word: the first that does not stand below it.
+/// They are sorted, and terms ascend, so each term is compared with one word: the first that is not below it.
 #[derive(Debug, Drop)]
 pub struct Words<'a> {
     texts: Vec<&'a str>,
@@ -34,7 +34,7 @@ impl<'a> Words<'a> {
         }
     }
 
-    /// Whether each word stands below the last term.
+    /// Whether each word is below the last term.
     fn is_behind(&self) -> bool
         ensures { IsTrue result ↔ (length self.now.texts.items ≤ self.now.place) }
     {
@@ -58,7 +58,7 @@ impl<'a> Words<'a> {
         self.advance(shared, own);
     }
 
-    /// Goes on to the next word that does not stand below the term. That has the first `shared` bytes of the current
+    /// Goes on to the next word that is not below the term. That has the first `shared` bytes of the current
     /// word, and then these of its own.
     fn advance(&mut self, shared: u32, own: &[u8])
         requires { self.old.place < length self.old.texts.items }

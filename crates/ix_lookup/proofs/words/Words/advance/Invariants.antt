@@ -2,7 +2,7 @@ use Rattle.std.proofs.Common.{◌≡◌, ◌≤◌, ◌+◌, ◌++◌, length, t
 use Rattle.ix_lookup.specs.Words.{HasPassed, texts_of}
 use Rattle.ix_lookup.proofs.words.Words.advance.Given as goal
 
--- The words are the same, and those before the place stand below the term.
+-- The words are the same, and those before the place are below the term.
 pub record HasAdvanced (same passed : Type 0) : Type 0 where
   pub texts : same
   pub before : passed
