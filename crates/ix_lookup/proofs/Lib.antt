@@ -1,0 +1,7 @@
+pub mod EntryLemmas
+pub mod FrontLemmas
+pub mod MatcherLemmas
+pub mod PrefixLemmas
+pub mod RowLemmas
+pub mod ScanLemmas
+pub mod WordsLemmas

@@ -1,0 +1,10 @@
+pub mod FoundEntries
+pub mod FoundTerms
+pub mod Fronts
+pub mod Listed
+pub mod LookupErrors
+pub mod Matchers
+pub mod Rows
+pub mod TermOrder
+pub mod Versions
+pub mod Words
