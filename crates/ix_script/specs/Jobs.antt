@@ -1,5 +1,5 @@
 -- Jobs: searchers with the queries that they are to answer, and what came of it.
-use Rattle.std.specs.Prelude.{ℕ, List, String, map, IfOk}
+use Rattle.std.specs.Prelude.{ℕ, zero, suc, List, [], ◌∷◌, String, map, IfOk, IsErr, IsOk}
 use Rattle.std.specs.Global.{Global, Vec}
 use Rattle.std.specs.String.{string_bytes}
 use Rattle.ix_query.specs.Tree.{Tree}
@@ -19,6 +19,12 @@ asked_by job = job.query.now
 -- the query of a job that was done
 abbrev pub asked_of : Done → Tree
 asked_of done = asked_by done.job
+
+-- the job at this place is the first that failed
+abbrev pub IsFirstFailed : ℕ → List Done → Type 0
+IsFirstFailed place [] = ⊥
+IsFirstFailed zero (one ∷ done) = IsErr one.names
+IsFirstFailed (suc place) (one ∷ done) = IsOk one.names × IsFirstFailed place done
 
 -- the names that were found are the answer after the history
 abbrev pub IsDoneFor : Known → Done → Type 0

@@ -1,5 +1,5 @@
 -- Why steps of a script failed, and what is left then.
-use Rattle.std.specs.Prelude.{◌≡◌, ℕ, ◌⊎◌, ◌^◌, ◌<◌, List, ◌∷◌, ◌++◌, length, Option}
+use Rattle.std.specs.Prelude.{◌≡◌, ℕ, ◌⊎◌, ◌^◌, ◌<◌, ◌≤◌, List, ◌∷◌, ◌++◌, length, map, take, Option, Result, Ok, Err}
 use Rattle.std.specs.Io.KnownBytes.{Keeps}
 use Rattle.ix_text.specs.CollectionFaults.{IsCollectionFault}
 use Rattle.ix_text.specs.Collections.{NamedText}
@@ -11,7 +11,10 @@ use Rattle.ix_live.specs.Indexers.{IndexerValue}
 use Rattle.ix_live.specs.LiveErrors.{RefusesAddition, RefusesRemoval}
 use Rattle.ix_live.specs.Segments.{joined}
 use Rattle.ix_script.specs.Runs.{Changes, HoldsDocuments, Progress, documents_in}
-use Rattle.ix_script.specs.Steps.{Add, Ask, Publish, Remove, Step, Text}
+use Rattle.ix_script.specs.PrintedAnswers.{asked_in}
+use Rattle.ix_script.specs.Steps.{Add, Ask, Publish, Remove, Step, Text, step_of}
+use Rattle.ix_script.specs.declared.changing.Stopped.{Stopped}
+use Rattle.ix_script.specs.declared.step.Step.{Step as StepTaken}
 use Rattle.ix_script.specs.declared.run_error.RunError.{RunError}
 use Rattle.ix_script.specs.declared.run_error.RunError.TheVariants.{Collection, Live, Memory, Unread, Write}
 
@@ -77,6 +80,16 @@ pub record RefusesChanges (holds : Text → Text → Type 0) (workers : ℕ) (st
 -- why a group failed: the first addition or removal that did, or memory
 abbrev pub RefusesGroup : (Text → Text → Type 0) → ℕ → List Text → List Step → Progress → RunError → Type 0
 RefusesGroup holds workers stop steps before error = (error ≡ Memory) ⊎ RefusesChanges holds workers stop steps before error
+
+-- The error is that of the first step of a group that failed, of asks that were out of memory at the query of this place among
+-- them, and additions and removals that failed at the step of this place.
+abbrev pub IsFirstError : {A : Type 0} → List StepTaken → Result A ℕ → Result (Unit {0}) Stopped → RunError → Type 0
+IsFirstError steps (Ok answers) (Ok done) error = ⊥
+IsFirstError steps (Err query) (Ok done) error = error ≡ Memory
+IsFirstError steps (Ok answers) (Err stopped) error = error ≡ stopped.error
+IsFirstError steps (Err query) (Err stopped) error =
+    let asked = length (asked_in (map step_of (take stopped.place steps))) in
+    ((query < asked) × (error ≡ Memory)) ⊎ ((asked ≤ query) × (error ≡ stopped.error))
 
 -- ---- what is left
 

@@ -1,5 +1,5 @@
 //! A group of a script: its asks are answered while its additions and removals are carried out.
-ghost use Rattle.std.specs.Prelude.{◌≡◌, ◌<◌, ◌⊎◌, Ok, IfErr, IfOk, IsErrAnd, OnOk, length, map};
+ghost use Rattle.std.specs.Prelude.{◌≡◌, ◌<◌, Ok, IfErr, IfOk, OnOk, length, map};
 ghost use Rattle.ix_files.specs.Reading.{held_in};
 ghost use Rattle.ix_script.specs.Answers.{AreAnswers};
 ghost use Rattle.ix_script.specs.Groups.{IsGroup};
@@ -7,19 +7,17 @@ ghost use Rattle.ix_script.specs.Jobs.{names_in};
 ghost use Rattle.ix_script.specs.PrintedAnswers.{answered_with, asked_in};
 ghost use Rattle.ix_script.specs.Runs.{Changes, Runs};
 ghost use Rattle.ix_script.specs.Steps.{step_of};
-ghost use Rattle.ix_script.specs.Stops.{IsTeamOf, KeepsPublished, RefusesChanges};
+ghost use Rattle.ix_script.specs.Stops.{IsFirstError, IsTeamOf, KeepsPublished, RefusesChanges};
 ghost use Rattle.ix_script.specs.Stops.{RefusesGroup, progress_of};
-ghost use Rattle.ix_script.specs.declared.run_error.RunError.TheVariants.{Memory};
 
 use crate::changing::{Stopped, change_all};
-use crate::printing::queries_of;
+use crate::printing::{count_asks, queries_of};
 use crate::run_error::RunError;
 use crate::step::Step;
 use crate::team::Team;
 use ix_build::Plan;
 use ix_files::Files;
 use ix_live::Indexer;
-use ix_text::Memory as MemoryRefused;
 use std::alloc::{AllocError, Global};
 use std::sync::Wait;
 use std::thread::Threads;
@@ -93,39 +91,29 @@ fn answer_and_change<'t, R: Threads + Wait + Sync, F: Files>(
     both(group, asked, changed)
 }
 
-/// What a group comes to, of what its asks and what its additions and removals came to.
+/// What a group comes to, of what its asks came to, by the place of the first that failed among them, and its additions and
+/// removals.
 fn both<'t>(
     group: &[Step<'t>],
-    asked: Result<(Team, Vec<Vec<String>>), MemoryRefused>,
+    asked: Result<(Team, Vec<Vec<String>>), usize>,
     changed: Result<(), Stopped<'t>>,
 ) -> Result<(Team, Vec<Vec<String>>), RunError<'t>>
     requires { IfErr changed (λ stopped. stopped.place < length group.now) }
     ensures asked { IfOk result (λ r. asked ≡ Ok r) }
     ensures changed { IfOk result (λ r. changed.entry ≡ Ok tt) }
-    ensures refused { IfErr result (λ error. (error ≡ Memory)
-        ⊎ IsErrAnd changed.entry (λ stopped. error ≡ stopped.error)) }
+    ensures refused { IfErr result (IsFirstError group.now asked changed.entry) }
 {
     match (asked, changed) {
         (Ok(answers), Ok(())) => Ok(answers),
-        (Err(AllocError), Ok(())) => Err(RunError::Memory),
+        (Err(_), Ok(())) => Err(RunError::Memory),
         (Ok(_), Err(stopped)) => Err(stopped.error),
-        (Err(AllocError), Err(stopped)) => {
+        (Err(query), Err(stopped)) => {
             // An ask failed too, and it was out of memory.
-            if asks(&group[..stopped.place]) {
+            if query < count_asks(&group[..stopped.place]) {
                 Err(RunError::Memory)
             } else {
                 Err(stopped.error)
             }
         }
     }
-}
-
-/// Whether one of these steps asks.
-fn asks(steps: &[Step<'_>]) -> bool {
-    for step in steps {
-        if matches!(step, Step::Ask(_, _)) {
-            return true;
-        }
-    }
-    false
 }

@@ -1,9 +1,9 @@
 //! Jobs: each has a searcher and the query that it is to answer.
-ghost use Rattle.std.specs.Prelude.{◌≡◌, ◌<◌, ◌≤◌, ◌+◌, ◌++◌, ℕ, [], List, All, IfOk, OnOk, length, map, slice_index_or, vec_capacity, vec_len};
+ghost use Rattle.std.specs.Prelude.{◌≡◌, ◌<◌, ◌≤◌, ◌+◌, ◌++◌, ℕ, [], List, All, IfErr, IfOk, OnOk, length, map, slice_index_or, vec_capacity, vec_len};
 ghost use Rattle.ix_query.specs.Tree.{Tree};
 ghost use Rattle.ix_live.specs.Histories.{operations_in};
 ghost use Rattle.ix_script.specs.Answers.{AreAnswers};
-ghost use Rattle.ix_script.specs.Jobs.{IsDoneFor, asked_by, asked_of, names_in};
+ghost use Rattle.ix_script.specs.Jobs.{IsDoneFor, IsFirstFailed, asked_by, asked_of, names_in};
 ghost use Rattle.ix_script.specs.declared.jobs.Done.{Done as DoneValue};
 ghost use Rattle.ix_script.specs.declared.jobs.Job.{Job as JobValue};
 
@@ -78,7 +78,7 @@ pub fn do_jobs<'q, R: Threads + Sync>(
 }
 
 /// Puts the searchers of jobs back, and the names that were found behind those found before, into the room that there
-/// is.
+/// is, up to the first job that failed.
 pub fn gather(
     done: Vec<Done<'_>>,
     searchers: &mut Vec<Searcher>,
@@ -91,6 +91,9 @@ pub fn gather(
     ensures count { OnOk result
         (vec_len searchers.new ≡ vec_len searchers.old + vec_len done.entry) }
     ensures more { OnOk result (vec_len answers.new ≡ vec_len answers.old + vec_len done.entry) }
+    ensures failed { IfErr result (λ error. (place : ℕ)
+        × (vec_len answers.new ≡ vec_len answers.old + place)
+        × IsFirstFailed place done.entry.items) }
     ensures kept { (vec_capacity searchers.new ≡ vec_capacity searchers.old)
         × (vec_capacity answers.new ≡ vec_capacity answers.old) }
     ensures answered { OnOk result ((before : List Tree)

@@ -26,6 +26,19 @@ pub fn queries_of<'s, 't>(
     Ok(queries)
 }
 
+/// How many queries steps ask.
+pub fn count_asks(steps: &[Step<'_>]) -> usize
+    ensures { result ≡ length (asked_in (map step_of steps.now)) }
+{
+    let mut count = 0;
+    for step in steps {
+        if let Step::Ask(_, _) = step {
+            count += 1;
+        }
+    }
+    count
+}
+
 /// The lines of the answers to the asks among steps, and whether a name is among them. The answers are lists of names, one
 /// for each ask, in order.
 pub fn lines_of(

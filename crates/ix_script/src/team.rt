@@ -7,8 +7,7 @@ ghost use Rattle.ix_script.specs.Jobs.{names_in};
 use crate::jobs::{do_jobs, gather, give_out};
 use ix_live::{News, Searcher};
 use ix_query::Query;
-use ix_text::Memory;
-use std::alloc::{AllocError, Global};
+use std::alloc::Global;
 use std::marker::Model;
 use std::thread::{Threads, join_mut};
 
@@ -50,13 +49,13 @@ impl Team {
     /// The answers to these queries after just the history of the news, in order. The searchers answer side by side, a
     /// query each in a thread of its own, until none is left.
     ///
-    /// `Memory` if out of memory.
+    /// If out of memory, the error is the place of the first query that was not answered.
     pub fn answer<R: Threads + Sync>(
         self,
         rt: &R,
         alloc: Global,
         queries: &[&Query],
-    ) -> Result<(Team, Vec<Vec<String>>), Memory>
+    ) -> Result<(Team, Vec<Vec<String>>), usize>
         ensures team { IfOk result (λ r. r.0 ≡ self) }
         ensures answers { IfOk result (λ r. AreAnswers self.stop (operations_in self.history)
             (map (λ query. query.now) queries.now) (map names_in r.1.items)) }
@@ -65,15 +64,23 @@ impl Team {
             mut searchers,
             news,
         } = self;
-        let mut answers = Vec::with_capacity(alloc, queries.len())?;
+        let Ok(mut answers) = Vec::with_capacity(alloc, queries.len()) else {
+            return Err(0);
+        };
         let mut place = 0;
         while place < queries.len() {
             let count = searchers.len().min(queries.len() - place);
-            let jobs = Vec::with_capacity(alloc, count)?;
+            let Ok(jobs) = Vec::with_capacity(alloc, count) else {
+                return Err(place);
+            };
             let round = &queries[place..place + count];
             let jobs = give_out(&mut searchers, round, jobs);
-            let done = do_jobs(rt, jobs, &news)?;
-            gather(done, &mut searchers, &mut answers, &news)?;
+            let Ok(done) = do_jobs(rt, jobs, &news) else {
+                return Err(place);
+            };
+            let Ok(()) = gather(done, &mut searchers, &mut answers, &news) else {
+                return Err(answers.len());
+            };
             place += count;
         }
         Ok((Team { searchers, news }, answers))
@@ -86,7 +93,7 @@ impl Team {
         alloc: Global,
         queries: &[&Query],
         beside: &mut F,
-    ) -> (Result<(Team, Vec<Vec<String>>), Memory>, T)
+    ) -> (Result<(Team, Vec<Vec<String>>), usize>, T)
         requires { F.pre beside.old }
         ensures beside { F.step beside.old result.1 beside.new }
         ensures team { IfOk result.0 (λ r. r.0 ≡ self) }
@@ -94,14 +101,14 @@ impl Team {
             (map (λ query. query.now) queries.now) (map names_in r.1.items)) }
     {
         let mut team = Some(self);
-        let mut asks = || -> Result<(Team, Vec<Vec<String>>), Memory>
+        let mut asks = || -> Result<(Team, Vec<Vec<String>>), usize>
             ensures team { IfOk result (λ r. team.entry ≡ Some r.0) }
             ensures answers { IfOk result (λ r. AreAnswers r.0.stop (operations_in r.0.history)
                 (map (λ query. query.now) queries.entry.now) (map names_in r.1.items)) }
         {
             match team.take() {
                 Some(team) => team.answer(rt, alloc, queries),
-                None => Err(AllocError),
+                None => Err(0),
             }
         };
         join_mut(rt, &mut asks, beside)

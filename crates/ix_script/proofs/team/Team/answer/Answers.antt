@@ -20,17 +20,17 @@ loop-place-preserved g c =
     let before = map (λ query. query.now) (take place queries) in
     let fits : place + count ≤ length queries = search rules in
     let counted = round_length queries place count _ _ (omega arith) fits given.count in
-    let done = c.in_ok-done.done in
+    let done = c.in-Ok-do_jobs.done in
     let jobs = c.give_out-jobs.result in
-    let as_many : length done.items ≡ length jobs.items = omega (arith, c.in_ok-done.ensures.count, done.ok.0, jobs.ok.0) in
-    let asked = asked_alike asked_of asked_by done.items jobs.items as_many (λ at one job low. c.in_ok-done.ensures.asked at one job (omega (arith, low, jobs.ok.0))) ∙ given.asked in
+    let as_many : length done.items ≡ length jobs.items = omega (arith, c.in-Ok-do_jobs.ensures.count, done.ok.0, jobs.ok.0) in
+    let asked = asked_alike asked_of asked_by done.items jobs.items as_many (λ at one job low. c.in-Ok-do_jobs.ensures.asked at one job (omega (arith, low, jobs.ok.0))) ∙ given.asked in
     record {
-      some = omega (arith, inv.some, given.left, c.in_ok-gather.ensures.count, c.in_ok-done.ensures.count, given.count);
+      some = omega (arith, inv.some, given.left, c.in-Ok-gather.ensures.count, c.in-Ok-do_jobs.ensures.count, given.count);
       low = fits;
-      made = omega (arith, inv.made, c.in_ok-gather.ensures.more, c.in_ok-done.ensures.count, counted);
+      made = omega (arith, inv.made, c.in-Ok-gather.ensures.more, c.in-Ok-do_jobs.ensures.count, counted);
       room = omega (arith, inv.room, c.gather.ensures.kept.1);
       answered =
           subst (λ trees. Are (arc_value c.news.inside.edition) trees c.gather.new.answers.items) (next_round (λ query. query.now) queries place count _ _ (omega arith) asked)
           (subst (λ known. Are known (before ++ map asked_of done.items) c.gather.new.answers.items) same
-          (c.in_ok-gather.ensures.answered before (subst (λ known. Are known before c.loop-place.answers.items) (sym same) inv.answered)));
+          (c.in-Ok-gather.ensures.answered before (subst (λ known. Are known before c.loop-place.answers.items) (sym same) inv.answered)));
     }
