@@ -39,7 +39,7 @@ pub extern "C" fn ix_ask(
     };
     match ask_under(alloc, collection, stop, query) {
         Ok(names) => answer(names.count, &names.bytes, out, found),
-        Err(refusal) => tell(alloc, &refusal, out, found),
+        Err(refusal) => tell(&refusal, out, found),
     }
 }
 

@@ -34,7 +34,7 @@ pub extern "C" fn ix_build(
     };
     match index_under(alloc, collection, stop) {
         Ok(text) => answer(0, &text, out, found),
-        Err(refusal) => tell(alloc, &refusal, out, found),
+        Err(refusal) => tell(&refusal, out, found),
     }
 }
 

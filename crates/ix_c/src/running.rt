@@ -35,7 +35,7 @@ pub extern "C" fn ix_run(
     };
     match run_under(alloc, collection, stop, first) {
         Ok(text) => answer(0, &text, out, found),
-        Err(refusal) => tell(alloc, &refusal, out, found),
+        Err(refusal) => tell(&refusal, out, found),
     }
 }
 

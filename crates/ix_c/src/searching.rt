@@ -39,7 +39,7 @@ pub extern "C" fn ix_search(
     };
     match search_in(alloc, index, query) {
         Ok(names) => answer(names.count, &names.bytes, out, found),
-        Err(refusal) => tell(alloc, &refusal, out, found),
+        Err(refusal) => tell(&refusal, out, found),
     }
 }
 
@@ -95,7 +95,7 @@ pub extern "C" fn ix_terms(
     };
     match list_in(alloc, index, pattern) {
         Ok(rows) => answer(rows.count, &rows.bytes, out, found),
-        Err(refusal) => tell(alloc, &refusal, out, found),
+        Err(refusal) => tell(&refusal, out, found),
     }
 }
 
