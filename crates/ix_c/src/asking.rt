@@ -5,8 +5,8 @@ ghost use Rattle.ix_c.specs.Asking.{IsAnswered, IsAnsweredUnder, RefusesAsking};
 ghost use Rattle.ix_c.specs.Telling.{IsNotUtf8, IsRefused};
 
 use crate::found::{Found, answer, tell, tell_not_utf8};
+use crate::stop::read_stop;
 use ix_ask::{Area, EngineRefusal, Lines, ask_alone};
-use ix_text::StopList;
 use std::alloc::Global;
 use std::str::from_utf8;
 
@@ -54,8 +54,6 @@ fn ask_under(
         names.bytes.items names.count) }
     ensures refused { IfErr result (RefusesAsking collection.now stop.now query.now) }
 {
-    match StopList::read(alloc, stop) {
-        Ok(stop) => ask_alone(alloc, collection, &stop, query),
-        Err(error) => Err(EngineRefusal::Stop(error)),
-    }
+    let stop = read_stop(alloc, stop)?;
+    ask_alone(alloc, collection, &stop, query)
 }

@@ -8,7 +8,7 @@ ghost use Rattle.ix_c.specs.Telling.{IsNotUtf8, IsRefused, IsZero};
 
 use crate::found::{Found, answer, tell, tell_closed, tell_done, tell_not_utf8};
 use crate::handle::Handle;
-use crate::searching::{find_in, match_in};
+use crate::searching::{find_in, index_or_refusal, match_in};
 use ix_ask::{Area, EngineRefusal, Lines};
 use ix_file::Volume;
 use std::alloc::Global;
@@ -51,9 +51,9 @@ fn open_copy(alloc: Global, text: &[u8]) -> Result<Box<Volume>, EngineRefusal>
     let Ok(copy) = Vec::from_slice(alloc, text) else {
         return Err(EngineRefusal::Memory);
     };
-    match Volume::open(alloc, copy) {
+    match index_or_refusal(Volume::open(alloc, copy)) {
         Ok(volume) => in_a_box(alloc, volume),
-        Err(error) => Err(EngineRefusal::Index(error)),
+        Err(refusal) => Err(refusal),
     }
 }
 
