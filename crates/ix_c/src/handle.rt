@@ -73,6 +73,9 @@ impl Drop for Handle {
     fn drop(self)
         requires { self.held.value ≡ None }
     {
-        let Handle { is_open: _, held: _ } = self;
+        let Handle {
+            is_open: _,
+            held: _,
+        } = self;
     }
 }

@@ -7,7 +7,7 @@ use ix_file::Volume;
 use std::alloc::Global;
 use std::marker::Model;
 
-/// The pointer of a boxed index, or of nothing. Dropped, it forgets the box: it is taken out first.
+/// The pointer of a boxed index, or of nothing. Only what holds nothing can be dropped: the box is taken out first.
 #[repr(C)]
 pub struct Held {
     at: *mut u8,
