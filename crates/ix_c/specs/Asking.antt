@@ -8,6 +8,7 @@ use Rattle.ix_ask.specs.Asking.{IsAnswer}
 use Rattle.ix_ask.specs.declared.refusal.EngineRefusal.{EngineRefusal}
 use Rattle.ix_ask.specs.declared.refusal.EngineRefusal.TheVariants as engine
 use Rattle.ix_c.specs.Filling.{Fills}
+use Rattle.ix_c.specs.Telling.{HasNoError}
 use Rattle.ix_c.specs.declared.found.Found.{Found}
 
 -- The lines are the names of exactly the documents of the collection text that satisfy the query, under the terms of the
@@ -23,6 +24,7 @@ pub record IsAnswered (collection stop query old new : List ℕ) (found : Found)
   pub answer : IsAnsweredUnder collection stop query lines found.count
   pub size : found.size ≡ length lines
   pub filled : Fills lines old new
+  pub no_error : HasNoError found
 
 -- the text is no stop text, with this fault, or memory ran out
 abbrev pub RefusesStop : List ℕ → EngineRefusal → Type 0

@@ -5,6 +5,7 @@ use Rattle.ix_ask.specs.Alone.{IsIndexOfText, RefusesIndexing as RefusesText}
 use Rattle.ix_ask.specs.declared.refusal.EngineRefusal.{EngineRefusal}
 use Rattle.ix_c.specs.Asking.{RefusesStop}
 use Rattle.ix_c.specs.Filling.{Fills}
+use Rattle.ix_c.specs.Telling.{HasNoError}
 use Rattle.ix_c.specs.declared.found.Found.{Found}
 
 -- The bytes are the index text, of version 2, of the collection of the collection text, without the terms of the stop
@@ -19,7 +20,9 @@ pub record IsIndexed (collection stop old new : List ℕ) (found : Found) : Type
   pub text : List ℕ
   pub index : IsIndexUnder collection stop text
   pub size : found.size ≡ length text
+  pub none : found.count ≡ 0
   pub filled : Fills text old new
+  pub no_error : HasNoError found
 
 -- Why there is no index text: the stop text is none, the bytes are no collection text, or memory ran out.
 abbrev pub RefusesIndexing : List ℕ → List ℕ → EngineRefusal → Type 0

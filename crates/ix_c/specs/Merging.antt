@@ -4,6 +4,7 @@ use Rattle.ix_ask.specs.Merging.{IsMergeOf, RefusesMerging as RefusesTexts}
 use Rattle.ix_ask.specs.declared.refusal.EngineRefusal.{EngineRefusal}
 use Rattle.ix_ask.specs.declared.refusal.EngineRefusal.TheVariants as engine
 use Rattle.ix_c.specs.Filling.{Fills}
+use Rattle.ix_c.specs.Telling.{HasNoError}
 use Rattle.ix_c.specs.declared.found.Found.{Found}
 use Rattle.ix_c.specs.declared.merging.Unmerged.{Unmerged}
 use Rattle.ix_c.specs.declared.merging.Unmerged.TheVariants as unmerged
@@ -28,7 +29,9 @@ pub record IsMerged (bytes sizes old new : List ℕ) (found : Found) : Type 0 wh
   pub index : List ℕ
   pub merge : IsMergeUnder bytes sizes index
   pub size : found.size ≡ length index
+  pub none : found.count ≡ 0
   pub filled : Fills index old new
+  pub no_error : HasNoError found
 
 -- Why run texts of these sizes were not merged: by an error of the merge of those texts, or memory ran out.
 abbrev pub RefusesMerging : List ℕ → List ℕ → EngineRefusal → Type 0

@@ -5,6 +5,7 @@ use Rattle.ix_file.specs.IndexText.{IsIndexText}
 use Rattle.ix_file.specs.Sections.{Version}
 use Rattle.ix_ask.specs.NameLines.{AreAllNames}
 use Rattle.ix_c.specs.Filling.{Fills}
+use Rattle.ix_c.specs.Telling.{HasNoError}
 use Rattle.ix_c.specs.declared.found.Found.{Found}
 
 -- The bytes are the index text of a collection, the lines are the names of all its documents, in their order, and
@@ -21,3 +22,4 @@ pub record AreNamed (index old new : List ℕ) (found : Found) : Type 0 where
   pub names : AreNamesIn index lines found.count
   pub size : found.size ≡ length lines
   pub filled : Fills lines old new
+  pub no_error : HasNoError found

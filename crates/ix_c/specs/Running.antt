@@ -5,6 +5,7 @@ use Rattle.ix_ask.specs.Inverting.{IsRunOfText, RefusesRunning as RefusesText}
 use Rattle.ix_ask.specs.declared.refusal.EngineRefusal.{EngineRefusal}
 use Rattle.ix_c.specs.Asking.{RefusesStop}
 use Rattle.ix_c.specs.Filling.{Fills}
+use Rattle.ix_c.specs.Telling.{HasNoError}
 use Rattle.ix_c.specs.declared.found.Found.{Found}
 
 -- The bytes are the run text of the collection of the collection text, without the terms of the stop text, its documents
@@ -19,7 +20,9 @@ pub record IsRun (collection stop : List ℕ) (first : ℕ) (old new : List ℕ)
   pub text : List ℕ
   pub run : IsRunUnder collection stop first text
   pub size : found.size ≡ length text
+  pub none : found.count ≡ 0
   pub filled : Fills text old new
+  pub no_error : HasNoError found
 
 -- Why there is no run text: the stop text is none, the bytes are no collection text, no run holds so much, or memory ran
 -- out.

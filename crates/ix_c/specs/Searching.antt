@@ -13,6 +13,7 @@ use Rattle.ix_ask.specs.Searching.{IsFound}
 use Rattle.ix_ask.specs.declared.refusal.EngineRefusal.{EngineRefusal}
 use Rattle.ix_ask.specs.declared.refusal.EngineRefusal.TheVariants as engine
 use Rattle.ix_c.specs.Filling.{Fills}
+use Rattle.ix_c.specs.Telling.{HasNoError}
 use Rattle.ix_c.specs.declared.found.Found.{Found}
 
 -- The bytes are the index text of a collection, the lines are the names of exactly its documents that satisfy the query,
@@ -29,6 +30,7 @@ pub record IsSearched (index query old new : List ℕ) (found : Found) : Type 0 
   pub names : AreFoundIn index query lines found.count
   pub size : found.size ≡ length lines
   pub filled : Fills lines old new
+  pub no_error : HasNoError found
 
 -- The bytes are the index text of a collection, the lines are those of exactly its terms that match the pattern, and
 -- `count` is how many.
@@ -44,6 +46,7 @@ pub record IsListed (index pattern old new : List ℕ) (found : Found) : Type 0 
   pub terms : AreListedIn index pattern lines found.count
   pub size : found.size ≡ length lines
   pub filled : Fills lines old new
+  pub no_error : HasNoError found
 
 -- why the bytes were not opened: memory ran out, unless they are the index text of no collection
 abbrev pub IsUnopened : List ℕ → OpenError → Type 0

@@ -5,8 +5,8 @@ ghost use Rattle.ix_c.specs.Asking.{IsAnswered, IsAnsweredUnder, RefusesAsking};
 ghost use Rattle.ix_c.specs.Telling.{IsNotUtf8, IsRefused};
 
 use crate::found::{Found, answer, tell, tell_not_utf8};
+use crate::stop::read_stop;
 use ix_ask::{Area, EngineRefusal, Lines, ask_alone};
-use ix_text::StopList;
 use std::alloc::Global;
 use std::str::from_utf8;
 
@@ -39,7 +39,7 @@ pub extern "C" fn ix_ask(
     };
     match ask_under(alloc, collection, stop, query) {
         Ok(names) => answer(names.count, &names.bytes, out, found),
-        Err(refusal) => tell(alloc, &refusal, out, found),
+        Err(refusal) => tell(&refusal, out, found),
     }
 }
 
@@ -54,8 +54,6 @@ fn ask_under(
         names.bytes.items names.count) }
     ensures refused { IfErr result (RefusesAsking collection.now stop.now query.now) }
 {
-    match StopList::read(alloc, stop) {
-        Ok(stop) => ask_alone(alloc, collection, &stop, query),
-        Err(error) => Err(EngineRefusal::Stop(error)),
-    }
+    let stop = read_stop(alloc, stop)?;
+    ask_alone(alloc, collection, &stop, query)
 }

@@ -2,10 +2,10 @@
 ghost use Rattle.std.specs.Prelude.{◌≡◌, length};
 ghost use Rattle.ix_ask.specs.EngineRefusals.{area_number};
 ghost use Rattle.ix_c.specs.Filling.{Fills};
-ghost use Rattle.ix_c.specs.Telling.{IsLinePut, IsTold};
+ghost use Rattle.ix_c.specs.Telling.{HasNoError, IsLinePut, IsTold, IsZero, area_word};
 
 use ix_ask::{Area, EngineRefusal};
-use std::alloc::{AllocError, Global};
+use std::fmt::{InlineText, Write};
 
 /// The call did what it was asked for.
 const DONE: u32 = 0;
@@ -22,8 +22,8 @@ const CLOSED: u32 = 3;
 /// The sizes do not sum to that of the bytes.
 const SIZES: u32 = 4;
 
-/// The line of want of memory, which takes none.
-const OUT_OF_MEMORY: &str = "memory 1: Memory";
+/// How many bytes of a line there is room for: the longest has 58.
+const LINE_ROOM: usize = 64;
 
 /// What a call found, or why it was refused.
 #[repr(C)]
@@ -61,6 +61,7 @@ pub(crate) fn answer(count: usize, bytes: &[u8], out: &mut [u8], found: &mut Fou
     ensures count { found.new.count ≡ count }
     ensures size { found.new.size ≡ length bytes.now }
     ensures filled { Fills bytes.now out.old out.new }
+    ensures no_error { HasNoError found.new }
 {
     fill(out, bytes);
     *found = Found {
@@ -72,13 +73,12 @@ pub(crate) fn answer(count: usize, bytes: &[u8], out: &mut [u8], found: &mut Fou
     DONE
 }
 
-/// Tells why the engine refused, and puts out the line that says it; where there is no memory for that line, the line
-/// of want of memory.
-pub(crate) fn tell(alloc: Global, refusal: &EngineRefusal, out: &mut [u8], found: &mut Found) -> u32
+/// Tells why the engine refused, and puts out the line that says it.
+pub(crate) fn tell(refusal: &EngineRefusal, out: &mut [u8], found: &mut Found) -> u32
     ensures status { result ≡ 1 }
     ensures told { IsTold refusal.now out.old out.new found.new }
 {
-    let size = put_line(alloc, refusal, out);
+    let size = put_line(refusal, out);
     *found = Found {
         count: 0,
         size,
@@ -88,13 +88,34 @@ pub(crate) fn tell(alloc: Global, refusal: &EngineRefusal, out: &mut [u8], found
     REFUSED
 }
 
-/// Puts the line of a refusal out, and answers how many bytes it has.
-fn put_line(alloc: Global, refusal: &EngineRefusal, out: &mut [u8]) -> usize
+/// Puts the line of a refusal out, and returns how many bytes it has. Takes no memory.
+///
+/// A `fmt` may return an error that none of its writes returned. The line is the area's word then: what `fmt` wrote
+/// before is not known.
+fn put_line(refusal: &EngineRefusal, out: &mut [u8]) -> usize
     ensures { IsLinePut refusal.now out.old out.new result }
 {
-    match format!(in alloc; "{refusal}") {
-        Ok(line) => put(line.as_bytes(), out),
-        Err(AllocError) => put(OUT_OF_MEMORY.as_bytes(), out),
+    let mut line = InlineText::<LINE_ROOM>::new();
+    match write!(line, "{refusal}") {
+        Ok(()) => put(line.as_str().as_bytes(), out),
+        Err(_) => put(area_word(refusal.area()).as_bytes(), out),
+    }
+}
+
+/// The word that the line of an error begins with.
+fn area_word(area: Area) -> &'static str
+    ensures { result.now ≡ area_word area }
+{
+    match area {
+        Area::Collection => "collection",
+        Area::Stop => "stop",
+        Area::Query => "query",
+        Area::Pattern => "pattern",
+        Area::Index => "index",
+        Area::Run => "run",
+        Area::Merge => "merge",
+        Area::Build => "build",
+        Area::Memory => "memory",
     }
 }
 
@@ -111,6 +132,9 @@ fn put(bytes: &[u8], out: &mut [u8]) -> usize
 pub(crate) fn tell_not_utf8(area: Area, found: &mut Found) -> u32
     ensures status { result ≡ 2 }
     ensures area { found.new.area ≡ area_number area }
+    ensures none { found.new.count ≡ 0 }
+    ensures no_bytes { found.new.size ≡ 0 }
+    ensures no_number { found.new.number ≡ 0 }
 {
     *found = Found {
         count: 0,
@@ -123,7 +147,8 @@ pub(crate) fn tell_not_utf8(area: Area, found: &mut Found) -> u32
 
 /// Tells that what was asked for is done, and that nothing is put out.
 pub(crate) fn tell_done(found: &mut Found) -> u32
-    ensures { result ≡ 0 }
+    ensures status { result ≡ 0 }
+    ensures zero { IsZero found.new }
 {
     *found = NOTHING;
     DONE
@@ -131,7 +156,8 @@ pub(crate) fn tell_done(found: &mut Found) -> u32
 
 /// Tells that the handle is closed.
 pub(crate) fn tell_closed(found: &mut Found) -> u32
-    ensures { result ≡ 3 }
+    ensures status { result ≡ 3 }
+    ensures zero { IsZero found.new }
 {
     *found = NOTHING;
     CLOSED
@@ -139,7 +165,8 @@ pub(crate) fn tell_closed(found: &mut Found) -> u32
 
 /// Tells that the sizes do not sum to that of the bytes.
 pub(crate) fn tell_sizes(found: &mut Found) -> u32
-    ensures { result ≡ 4 }
+    ensures status { result ≡ 4 }
+    ensures zero { IsZero found.new }
 {
     *found = NOTHING;
     SIZES

@@ -9,7 +9,6 @@ use std::mem::replace;
 
 /// The handle of an opened index: `ix_index` of `include/ix.h`. All zero bits: closed.
 #[repr(C)]
-#[derive(Drop)]
 pub struct Handle {
     /// Whether it holds an index.
     pub is_open: bool,
@@ -46,9 +45,17 @@ impl Handle {
         ensures closed { self.new.held.value ≡ None }
     {
         replace(self, Handle::closed(alloc))
-            .held
+            .into_held()
             .into_loose()
             .into_box()
+    }
+
+    /// What the handle holds.
+    fn into_held(self) -> Held
+        ensures { result.value ≡ self.held.value }
+    {
+        let Handle { is_open: _, held } = self;
+        held
     }
 
     /// Drops the index, if there is one.
@@ -58,5 +65,17 @@ impl Handle {
         if self.is_open {
             self.take(alloc);
         }
+    }
+}
+
+impl Drop for Handle {
+    /// Drops a closed handle. An open one is closed first, or its index is never freed.
+    fn drop(self)
+        requires { self.held.value ≡ None }
+    {
+        let Handle {
+            is_open: _,
+            held: _,
+        } = self;
     }
 }

@@ -7,9 +7,8 @@ use ix_file::Volume;
 use std::alloc::Global;
 use std::marker::Model;
 
-/// The pointer of a boxed index, or of nothing. Dropped, it forgets the box: it is taken out first.
+/// The pointer of a boxed index, or of nothing. Only what holds nothing can be dropped: the box is taken out first.
 #[repr(C)]
-#[derive(Drop)]
 pub struct Held {
     at: *mut u8,
     alloc: Global,
@@ -64,3 +63,12 @@ impl Held {
 
 // A thread may open what another asks and a third closes: the index is plain data, and any thread may free its block.
 unsafe impl Send for Held {}
+
+impl Drop for Held {
+    /// Drops what holds nothing. A box that is held is taken out first, or it is never freed.
+    fn drop(self)
+        requires { self.value ≡ None }
+    {
+        let Held { at: _, alloc: _ } = self;
+    }
+}

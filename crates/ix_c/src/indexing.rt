@@ -5,8 +5,8 @@ ghost use Rattle.ix_c.specs.Indexing.{IsIndexed, IsIndexUnder, RefusesIndexing};
 ghost use Rattle.ix_c.specs.Telling.{IsNotUtf8, IsRefused};
 
 use crate::found::{Found, answer, tell, tell_not_utf8};
+use crate::stop::read_stop;
 use ix_ask::{Area, EngineRefusal, index_alone};
-use ix_text::StopList;
 use std::alloc::Global;
 use std::str::from_utf8;
 
@@ -34,7 +34,7 @@ pub extern "C" fn ix_build(
     };
     match index_under(alloc, collection, stop) {
         Ok(text) => answer(0, &text, out, found),
-        Err(refusal) => tell(alloc, &refusal, out, found),
+        Err(refusal) => tell(&refusal, out, found),
     }
 }
 
@@ -43,8 +43,6 @@ fn index_under(alloc: Global, collection: &[u8], stop: &str) -> Result<Vec<u8>, 
     ensures indexed { IfOk result (λ text. IsIndexUnder collection.now stop.now text.items) }
     ensures refused { IfErr result (RefusesIndexing collection.now stop.now) }
 {
-    match StopList::read(alloc, stop) {
-        Ok(stop) => index_alone(alloc, collection, &stop),
-        Err(error) => Err(EngineRefusal::Stop(error)),
-    }
+    let stop = read_stop(alloc, stop)?;
+    index_alone(alloc, collection, &stop)
 }

@@ -13,6 +13,7 @@ mod naming;
 mod opened;
 mod running;
 mod searching;
+mod stop;
 #[cfg(test)]
 mod tests;
 

@@ -2,7 +2,7 @@
 ghost use Rattle.std.specs.Prelude.{◌≡◌, ◌≤◌, ◌⊎◌, IfErr, IfOk, map};
 ghost use Rattle.ix_c.specs.Merging.{AreCutFrom, AreOff, IsMerged, IsMergeUnder, IsUnmerged};
 ghost use Rattle.ix_c.specs.Merging.{RefusesMerging};
-ghost use Rattle.ix_c.specs.Telling.{IsRefused};
+ghost use Rattle.ix_c.specs.Telling.{IsRefused, IsZero};
 
 use crate::found::{Found, answer, tell, tell_sizes};
 use ix_ask::{EngineRefusal, merge_alone};
@@ -34,12 +34,13 @@ pub extern "C" fn ix_merge(
     ensures merged { result ≡ 0 → IsMerged runs.now sizes.now out.old out.new found.new }
     ensures refused { result ≡ 1 →
         IsRefused (RefusesMerging runs.now sizes.now) out.old out.new found.new }
-    ensures off { result ≡ 4 → (out.new ≡ out.old) × AreOff runs.now sizes.now }
+    ensures off { result ≡ 4 →
+        (out.new ≡ out.old) × IsZero found.new × AreOff runs.now sizes.now }
 {
     match merge_under(alloc, runs, sizes) {
         Ok(index) => answer(0, &index, out, found),
         Err(Unmerged::Sizes) => tell_sizes(found),
-        Err(Unmerged::Refused(refusal)) => tell(alloc, &refusal, out, found),
+        Err(Unmerged::Refused(refusal)) => tell(&refusal, out, found),
     }
 }
 

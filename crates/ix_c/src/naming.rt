@@ -2,7 +2,7 @@
 ghost use Rattle.std.specs.Prelude.{◌≡◌, ◌≤◌, ℕ, IfErr, IfOk, List, None, Some};
 ghost use Rattle.ix_c.specs.Naming.{AreNamed, AreNamesIn};
 ghost use Rattle.ix_c.specs.Opening.{StandsFor};
-ghost use Rattle.ix_c.specs.Telling.{IsRefused};
+ghost use Rattle.ix_c.specs.Telling.{IsRefused, IsZero};
 
 use crate::found::{Found, answer, tell, tell_closed};
 use crate::handle::Handle;
@@ -26,7 +26,8 @@ pub extern "C" fn ix_index_names(
         → AreNamed text out.old out.new found.new }
     ensures refused { result ≡ 1 →
         IsRefused (λ reason. reason ≡ EngineRefusal.Memory) out.old out.new found.new }
-    ensures closed { result ≡ 3 → (out.new ≡ out.old) × (index.old.held.value ≡ None) }
+    ensures closed { result ≡ 3 →
+        (out.new ≡ out.old) × IsZero found.new × (index.old.held.value ≡ None) }
     ensures asked { index.old.held.value ≡ None → result ≡ 3 }
     ensures kept { index.new.held.value ≡ index.old.held.value }
 {
@@ -38,7 +39,7 @@ pub extern "C" fn ix_index_names(
     *index = Handle::of(volume);
     match names {
         Ok(names) => answer(names.count, &names.bytes, out, found),
-        Err(refusal) => tell(alloc, &refusal, out, found),
+        Err(refusal) => tell(&refusal, out, found),
     }
 }
 

@@ -4,11 +4,11 @@ ghost use Rattle.ix_ask.specs.declared.refusal.Area.TheVariants as area;
 ghost use Rattle.ix_c.specs.Opening.{RefusesOpening, StandsFor};
 ghost use Rattle.ix_c.specs.Searching.{AreFoundIn, AreListedIn, IsListed, IsSearched};
 ghost use Rattle.ix_c.specs.Searching.{RefusesListing, RefusesSearching};
-ghost use Rattle.ix_c.specs.Telling.{IsNotUtf8, IsRefused};
+ghost use Rattle.ix_c.specs.Telling.{IsNotUtf8, IsRefused, IsZero};
 
 use crate::found::{Found, answer, tell, tell_closed, tell_done, tell_not_utf8};
 use crate::handle::Handle;
-use crate::searching::{find_in, match_in};
+use crate::searching::{find_in, index_or_refusal, match_in};
 use ix_ask::{Area, EngineRefusal, Lines};
 use ix_file::Volume;
 use std::alloc::Global;
@@ -28,7 +28,7 @@ pub extern "C" fn ix_index_open(
 ) -> u32
     ensures status { result ≤ 1 }
     ensures opened { result ≡ 0 → StandsFor index.new.held.value text.now }
-    ensures untouched { result ≡ 0 → out.new ≡ out.old }
+    ensures untouched { result ≡ 0 → (out.new ≡ out.old) × IsZero found.new }
     ensures refused { result ≡ 1 →
         IsRefused (RefusesOpening text.now) out.old out.new found.new }
     ensures closed { result ≡ 1 → index.new.held.value ≡ None }
@@ -39,7 +39,7 @@ pub extern "C" fn ix_index_open(
             *index = Handle::of(volume);
             tell_done(found)
         }
-        Err(refusal) => tell(alloc, &refusal, out, found),
+        Err(refusal) => tell(&refusal, out, found),
     }
 }
 
@@ -51,9 +51,9 @@ fn open_copy(alloc: Global, text: &[u8]) -> Result<Box<Volume>, EngineRefusal>
     let Ok(copy) = Vec::from_slice(alloc, text) else {
         return Err(EngineRefusal::Memory);
     };
-    match Volume::open(alloc, copy) {
+    match index_or_refusal(Volume::open(alloc, copy)) {
         Ok(volume) => in_a_box(alloc, volume),
-        Err(error) => Err(EngineRefusal::Index(error)),
+        Err(refusal) => Err(refusal),
     }
 }
 
@@ -94,7 +94,8 @@ pub extern "C" fn ix_index_search(
     ensures refused { result ≡ 1 → (text : List ℕ) → StandsFor index.old.held.value text
         → IsRefused (RefusesSearching text query.now) out.old out.new found.new }
     ensures not_utf8 { result ≡ 2 → (out.new ≡ out.old) × IsNotUtf8 area.Query query.now found.new }
-    ensures closed { result ≡ 3 → (out.new ≡ out.old) × (index.old.held.value ≡ None) }
+    ensures closed { result ≡ 3 →
+        (out.new ≡ out.old) × IsZero found.new × (index.old.held.value ≡ None) }
     ensures asked { index.old.held.value ≡ None → result ≡ 3 }
     ensures kept { index.new.held.value ≡ index.old.held.value }
 {
@@ -109,7 +110,7 @@ pub extern "C" fn ix_index_search(
     *index = Handle::of(volume);
     match names {
         Ok(names) => answer(names.count, &names.bytes, out, found),
-        Err(refusal) => tell(alloc, &refusal, out, found),
+        Err(refusal) => tell(&refusal, out, found),
     }
 }
 
@@ -143,7 +144,8 @@ pub extern "C" fn ix_index_terms(
         → IsRefused (RefusesListing text pattern.now) out.old out.new found.new }
     ensures not_utf8 { result ≡ 2 →
         (out.new ≡ out.old) × IsNotUtf8 area.Pattern pattern.now found.new }
-    ensures closed { result ≡ 3 → (out.new ≡ out.old) × (index.old.held.value ≡ None) }
+    ensures closed { result ≡ 3 →
+        (out.new ≡ out.old) × IsZero found.new × (index.old.held.value ≡ None) }
     ensures asked { index.old.held.value ≡ None → result ≡ 3 }
     ensures kept { index.new.held.value ≡ index.old.held.value }
 {
@@ -158,7 +160,7 @@ pub extern "C" fn ix_index_terms(
     *index = Handle::of(volume);
     match rows {
         Ok(rows) => answer(rows.count, &rows.bytes, out, found),
-        Err(refusal) => tell(alloc, &refusal, out, found),
+        Err(refusal) => tell(&refusal, out, found),
     }
 }
 

@@ -5,8 +5,8 @@ ghost use Rattle.ix_c.specs.Running.{IsRun, IsRunUnder, RefusesRunning};
 ghost use Rattle.ix_c.specs.Telling.{IsNotUtf8, IsRefused};
 
 use crate::found::{Found, answer, tell, tell_not_utf8};
+use crate::stop::read_stop;
 use ix_ask::{Area, EngineRefusal, run_alone};
-use ix_text::StopList;
 use std::alloc::Global;
 use std::str::from_utf8;
 
@@ -35,7 +35,7 @@ pub extern "C" fn ix_run(
     };
     match run_under(alloc, collection, stop, first) {
         Ok(text) => answer(0, &text, out, found),
-        Err(refusal) => tell(alloc, &refusal, out, found),
+        Err(refusal) => tell(&refusal, out, found),
     }
 }
 
@@ -49,8 +49,6 @@ fn run_under(
     ensures run { IfOk result (λ text. IsRunUnder collection.now stop.now first text.items) }
     ensures refused { IfErr result (RefusesRunning collection.now stop.now first) }
 {
-    match StopList::read(alloc, stop) {
-        Ok(stop) => run_alone(alloc, collection, &stop, first),
-        Err(error) => Err(EngineRefusal::Stop(error)),
-    }
+    let stop = read_stop(alloc, stop)?;
+    run_alone(alloc, collection, &stop, first)
 }

@@ -1,5 +1,5 @@
 //! Questions to an index text: the documents that satisfy a query, and the terms that match a pattern.
-ghost use Rattle.std.specs.Prelude.{◌≡◌, ◌≤◌, IfErr, IfOk};
+ghost use Rattle.std.specs.Prelude.{◌≡◌, ◌≤◌, Err, IfErr, IfOk, MatchResult, Ok};
 ghost use Rattle.ix_text.specs.Collections.{Collection};
 ghost use Rattle.ix_file.specs.Opened.{IsIndexOf};
 ghost use Rattle.ix_file.specs.Sections.{Version};
@@ -12,7 +12,7 @@ ghost use Rattle.ix_c.specs.Telling.{IsNotUtf8, IsRefused};
 
 use crate::found::{Found, answer, tell, tell_not_utf8};
 use ix_ask::{Area, AskError, EngineRefusal, Lines, find_names, find_terms};
-use ix_file::Index;
+use ix_file::{Index, OpenError};
 use std::alloc::Global;
 use std::str::from_utf8;
 
@@ -39,7 +39,7 @@ pub extern "C" fn ix_search(
     };
     match search_in(alloc, index, query) {
         Ok(names) => answer(names.count, &names.bytes, out, found),
-        Err(refusal) => tell(alloc, &refusal, out, found),
+        Err(refusal) => tell(&refusal, out, found),
     }
 }
 
@@ -49,8 +49,20 @@ fn search_in(alloc: Global, index: &[u8], query: &str) -> Result<Lines, EngineRe
         names.bytes.items names.count) }
     ensures refused { IfErr result (RefusesSearching index.now query.now) }
 {
-    match Index::open(alloc, index) {
+    match index_or_refusal(Index::open(alloc, index)) {
         Ok(index) => find_in(alloc, &index, query),
+        Err(refusal) => Err(refusal),
+    }
+}
+
+/// What was opened, or its error as that of the engine.
+pub(crate) fn index_or_refusal<T>(opened: Result<T, OpenError>) -> Result<T, EngineRefusal>
+    ensures { MatchResult opened
+        (λ index. result ≡ Ok index)
+        (λ error. result ≡ Err (EngineRefusal.Index error)) }
+{
+    match opened {
+        Ok(index) => Ok(index),
         Err(error) => Err(EngineRefusal::Index(error)),
     }
 }
@@ -95,7 +107,7 @@ pub extern "C" fn ix_terms(
     };
     match list_in(alloc, index, pattern) {
         Ok(rows) => answer(rows.count, &rows.bytes, out, found),
-        Err(refusal) => tell(alloc, &refusal, out, found),
+        Err(refusal) => tell(&refusal, out, found),
     }
 }
 
@@ -105,9 +117,9 @@ fn list_in(alloc: Global, index: &[u8], pattern: &str) -> Result<Lines, EngineRe
         rows.bytes.items rows.count) }
     ensures refused { IfErr result (RefusesListing index.now pattern.now) }
 {
-    match Index::open(alloc, index) {
+    match index_or_refusal(Index::open(alloc, index)) {
         Ok(index) => match_in(alloc, &index, pattern),
-        Err(error) => Err(EngineRefusal::Index(error)),
+        Err(refusal) => Err(refusal),
     }
 }
 

@@ -1,10 +1,13 @@
 //! Each call once where it answers and once where it is refused, and a buffer that is too short.
 
+use crate::found::tell;
 use crate::handle::Handle;
 use crate::{
     Found, ix_ask, ix_build, ix_index_close, ix_index_names, ix_index_open, ix_index_search,
     ix_index_terms, ix_merge, ix_run, ix_search, ix_terms,
 };
+use ix_ask::EngineRefusal;
+use ix_text::CollectionError;
 use std::alloc::Global;
 use std::process::Abort;
 use std::test::Fail;
@@ -77,6 +80,34 @@ fn a_short_buffer_gets_the_front(rt: HostRuntime) -> Result<(), Fail> {
     let status = ix_ask(rt.alloc(), FIVE, b"", b"y", &mut out[..3], &mut found);
     assert_eq!(rt; (status, found.count, found.size), (0, 3, 6));
     assert!(rt; out == *b"a\nb\x07");
+    Ok(())
+}
+
+#[test]
+fn a_long_line_is_put_out_whole(rt: HostRuntime) -> Result<(), Fail> {
+    let refusal = EngineRefusal::Collection(CollectionError::NoLineEnd(usize::MAX));
+    let line = b"collection 5: NoLineEnd(18446744073709551615)";
+    let mut out = [0; 60];
+    let mut found = NOTHING;
+    let status = tell(&refusal, &mut out, &mut found);
+    expect(&rt, status, &found, &out, &Row(1, 0, line));
+    Ok(())
+}
+
+#[test]
+fn the_error_of_an_index_text_is_its_own(rt: HostRuntime) -> Result<(), Fail> {
+    let text = [b'?'; 200];
+    let row = Row(1, 0, b"index 2: Magic");
+    let mut out = [0; 40];
+    let mut found = NOTHING;
+    let status = ix_search(rt.alloc(), &text, b"y", &mut out, &mut found);
+    expect(&rt, status, &found, &out, &row);
+    let status = ix_terms(rt.alloc(), &text, b"x*", &mut out, &mut found);
+    expect(&rt, status, &found, &out, &row);
+    let mut index = Handle::closed(rt.alloc());
+    let status = ix_index_open(rt.alloc(), &mut index, &text, &mut out, &mut found);
+    expect(&rt, status, &found, &out, &row);
+    ix_index_close(rt.alloc(), &mut index);
     Ok(())
 }
 
