@@ -5,6 +5,7 @@ mod makers;
 mod plans;
 mod stores;
 
+use ix_build::Watch;
 use std::io::{self, Write};
 use std::sync::atomic::AtomicU64;
 use std::sync::atomic::Ordering::SeqCst;
@@ -42,6 +43,46 @@ fn have_begun(begun: &AtomicU64, wanted: u64) -> bool {
         }
     }
     false
+}
+
+/// Counts the blocks of which it is told, and keeps of how many in all it was told last. It returns once so many calls were
+/// begun, or counts one that waits in vain.
+#[derive(Drop)]
+struct Counts {
+    begun: AtomicU64,
+    blocks: AtomicU64,
+    wanted: u64,
+    alone: AtomicU64,
+}
+
+impl Counts {
+    fn new(wanted: u64) -> Counts {
+        Counts {
+            begun: AtomicU64::new(0),
+            blocks: AtomicU64::new(0),
+            wanted,
+            alone: AtomicU64::new(0),
+        }
+    }
+
+    /// How many calls there were, of how many blocks the last one told, and how many calls waited in vain.
+    fn told(&self) -> (u64, u64, u64) {
+        (
+            self.begun.load(SeqCst),
+            self.blocks.load(SeqCst),
+            self.alone.load(SeqCst),
+        )
+    }
+}
+
+impl Watch for Counts {
+    fn inverted(&self, blocks: usize) {
+        self.begun.fetch_add(1, SeqCst);
+        self.blocks.store(blocks as u64, SeqCst);
+        if !have_begun(&self.begun, self.wanted) {
+            self.alone.fetch_add(1, SeqCst);
+        }
+    }
 }
 
 /// A writer that takes one byte at a time, and so many of them.

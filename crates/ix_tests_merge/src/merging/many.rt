@@ -1,4 +1,5 @@
-//! Many documents, cut into runs in several ways: one index text. And gaps that grow by a byte.
+//! Many documents, cut into runs in several ways: one index text. Gaps that grow by a byte, and more sources and more terms than
+//! a small test has.
 
 use super::merged;
 use std::alloc::Global;
@@ -82,6 +83,47 @@ fn gaps_that_grow_by_a_byte(rt: HostRuntime) -> Result<(), Fail> {
         let (out, _) = merged(&rt, alloc, &text, &blocks)?;
         let lists = out.get(8..).ok_or("no lists")?;
         assert!(rt; lists.starts_with(list), "{count} {word}");
+    }
+    Ok(())
+}
+
+/// So many documents, each with a word of its own.
+pub(super) fn numbered(alloc: Global, count: u32) -> Result<String, Fail> {
+    let mut text = String::new(alloc);
+    for number in 0..count {
+        let line = format!(in alloc; "n{number}\tw{number}\n")?;
+        text.push_str(&line)?;
+    }
+    Ok(text)
+}
+
+/// A block for each of eleven hundred documents, but none for one of them.
+fn alone_but(alloc: Global, but: u32) -> Result<String, Fail> {
+    let mut told = String::new(alloc);
+    for number in 0u32..1100 {
+        if number != but {
+            let block = format!(in alloc; "{number}-{} ", number + 1)?;
+            told.push_str(&block)?;
+        }
+    }
+    Ok(told)
+}
+
+/// Which of eleven hundred documents has no source, what comes of a merge of the others', and how many bytes are written.
+const SOURCES: [(u32, &str, usize); 3] = [
+    (1100, "Ok", 28_406),
+    (1050, "Gap(1050)", 0),
+    (0, "Gap(0)", 0),
+];
+
+#[test]
+fn more_than_a_thousand_sources(rt: HostRuntime) -> Result<(), Fail> {
+    let alloc = rt.alloc();
+    let text = numbered(alloc, 1100)?;
+    for (but, want, len) in SOURCES {
+        let (out, outcome) = merged(&rt, alloc, &text, &alone_but(alloc, but)?)?;
+        assert_eq!(rt; outcome.as_str(), want);
+        assert_eq!(rt; out.len(), len);
     }
     Ok(())
 }
