@@ -241,27 +241,35 @@ fn watched(
 /// are created and ended, and then opened.
 const TOLD: &str = "0 2 2 2 2 2 2 3 3 3 3 3 ";
 
+/// Whether this comes of a call that failed, out of memory or not.
+fn is_of_call(refused: Option<BuildError>, starved: bool) -> bool {
+    match refused {
+        None => true,
+        Some(BuildError::Spill(_)) => !starved,
+        Some(error) => starved && error == BuildError::Memory,
+    }
+}
+
 #[test]
 fn each_call_of_the_files_fails(rt: HostRuntime) -> Result<(), Fail> {
     let mut files = MemoryFiles::new(rt.alloc())?;
-    let mut counts = String::new(rt.alloc());
-    let mut built = false;
-    for number in 1..13 {
-        files.fail_at(number, false);
-        let (refused, out, told) = watched(&rt, rt.alloc(), &mut files)?;
-        built = refused.is_none();
-        assert!(rt;
-            built || matches!(refused, Some(BuildError::Spill(_))),
-            "{number}"
-        );
-        assert!(rt;
-            built == (out.as_slice() == five_documents_index()),
-            "{number}"
-        );
-        counts.push_str(&format!(in rt.alloc(); "{told} ")?)?;
+    for starved in [false, true] {
+        let mut counts = String::new(rt.alloc());
+        let mut built = false;
+        for number in 1..13 {
+            files.fail_at(number, starved);
+            let (refused, out, told) = watched(&rt, rt.alloc(), &mut files)?;
+            built = refused.is_none();
+            assert!(rt; is_of_call(refused, starved), "{number}");
+            assert!(rt;
+                built == (out.as_slice() == five_documents_index()),
+                "{number}"
+            );
+            counts.push_str(&format!(in rt.alloc(); "{told} ")?)?;
+        }
+        assert!(rt; built);
+        assert_eq!(rt; counts.as_str(), TOLD);
     }
-    assert!(rt; built);
-    assert_eq!(rt; counts.as_str(), TOLD);
     Ok(())
 }
 
@@ -288,16 +296,15 @@ fn more_than_a_thousand_blocks(rt: HostRuntime) -> Result<(), Fail> {
         let line = format!(in alloc; "n{number}\tw{number}\n")?;
         text.push_str(&line)?;
     }
-    for runs in [Runs::Memory, Runs::Folder(String::new(alloc))] {
-        let plan = Plan::new(Cut::Docs(1), 1, runs).ok_or("no plan")?;
-        let mut files = MemoryFiles::new(alloc)?;
-        let counts = Counts::new(0);
-        let mut out = Vec::new(alloc);
-        let text = text.as_bytes();
-        let refused = built_by(&rt, alloc, &mut files, text, &plan, &counts, &mut out)?;
-        assert!(rt; refused.is_none() && out.len() == 28_406);
-        assert!(rt; counts.told() == (1100, 1100, 0));
-    }
+    let runs = Runs::Folder(String::new(alloc));
+    let plan = Plan::new(Cut::Docs(1), 1, runs).ok_or("no plan")?;
+    let mut files = MemoryFiles::new(alloc)?;
+    let counts = Counts::new(0);
+    let mut out = Vec::new(alloc);
+    let text = text.as_bytes();
+    let refused = built_by(&rt, alloc, &mut files, text, &plan, &counts, &mut out)?;
+    assert!(rt; refused.is_none() && out.len() == 28_406);
+    assert!(rt; counts.told() == (1100, 1100, 0));
     Ok(())
 }
 

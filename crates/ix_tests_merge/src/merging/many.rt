@@ -110,11 +110,7 @@ fn alone_but(alloc: Global, but: u32) -> Result<String, Fail> {
 }
 
 /// Which of eleven hundred documents has no source, what comes of a merge of the others', and how many bytes are written.
-const SOURCES: [(u32, &str, usize); 3] = [
-    (1100, "Ok", 28_406),
-    (1050, "Gap(1050)", 0),
-    (0, "Gap(0)", 0),
-];
+const SOURCES: [(u32, &str, usize); 2] = [(1100, "Ok", 28_406), (1050, "Gap(1050)", 0)];
 
 #[test]
 fn more_than_a_thousand_sources(rt: HostRuntime) -> Result<(), Fail> {
