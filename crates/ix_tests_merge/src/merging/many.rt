@@ -1,7 +1,6 @@
-//! Many documents, cut into runs in several ways: one index text. Gaps that grow by a byte, and more sources and more terms than
-//! a small test has.
+//! Many documents, cut into runs in several ways: one index text. Gaps that grow by a byte, and many sources.
 
-use super::merged;
+use super::{merge_runs, merged, runs_of};
 use std::alloc::Global;
 use std::test::Fail;
 
@@ -87,16 +86,6 @@ fn gaps_that_grow_by_a_byte(rt: HostRuntime) -> Result<(), Fail> {
     Ok(())
 }
 
-/// So many documents, each with a word of its own.
-pub(super) fn numbered(alloc: Global, count: u32) -> Result<String, Fail> {
-    let mut text = String::new(alloc);
-    for number in 0..count {
-        let line = format!(in alloc; "n{number}\tw{number}\n")?;
-        text.push_str(&line)?;
-    }
-    Ok(text)
-}
-
 /// A block for each of eleven hundred documents, but none for one of them.
 fn alone_but(alloc: Global, but: u32) -> Result<String, Fail> {
     let mut told = String::new(alloc);
@@ -115,10 +104,14 @@ const SOURCES: [(u32, &str, usize); 2] = [(1100, "Ok", 28_406), (1050, "Gap(1050
 #[test]
 fn more_than_a_thousand_sources(rt: HostRuntime) -> Result<(), Fail> {
     let alloc = rt.alloc();
-    let text = numbered(alloc, 1100)?;
+    let mut text = String::new(alloc);
+    for number in 0u32..1100 {
+        text.push_str(&format!(in alloc; "n{number}\tw{number}\n")?)?;
+    }
     for (but, want, len) in SOURCES {
-        let (out, outcome) = merged(&rt, alloc, &text, &alone_but(alloc, but)?)?;
-        assert_eq!(rt; outcome.as_str(), want);
+        let runs = runs_of(alloc, &text, &alone_but(alloc, but)?)?;
+        let mut out = Vec::new(alloc);
+        assert_eq!(rt; merge_runs(alloc, &runs, &mut out)?.as_str(), want);
         assert_eq!(rt; out.len(), len);
     }
     Ok(())

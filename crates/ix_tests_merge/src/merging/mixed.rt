@@ -4,9 +4,8 @@ ghost use Rattle.ix_run.specs.RunSources.{HasGiven};
 ghost use Rattle.ix_run.specs.Sources.{IsUnread};
 ghost use Rattle.ix_merge.specs.AnySources.{SourceHasGiven};
 
-use super::many::numbered;
-use super::{SAMPLE, merge_runs, merge_told, merged, runs_of, sample_text, texts_of};
-use ix_file::{Index, Volume};
+use super::{SAMPLE, merge_told, merged, runs_of, sample_text, texts_of};
+use ix_file::Index;
 use ix_merge::{AnySource, IndexSource};
 use ix_run::RunReader;
 use ix_text::Memory;
@@ -54,7 +53,7 @@ fn indexes_of(alloc: Global, blocks: &[Forms]) -> Result<Vec<Index<'_>>, Fail> {
     Ok(indexes)
 }
 
-/// The source of an index of no more than a million documents, which count from a number below a million on.
+/// The source of a small index, whose documents count from a small number on.
 fn source_at<'a>(
     rt: &impl Abort,
     alloc: Global,
@@ -63,8 +62,8 @@ fn source_at<'a>(
 ) -> Result<IndexSource<'a>, Memory>
     ensures { IfOk result (IsUnread HasGiven) }
 {
-    assert!(rt; index.doc_count() < 1_000_000);
-    assert!(rt; first < 1_000_000);
+    assert!(rt; index.doc_count() < 1000);
+    assert!(rt; first < 1000);
     IndexSource::new(alloc, index, first)
 }
 
@@ -118,27 +117,5 @@ fn forms_side_by_side(rt: HostRuntime) -> Result<(), Fail> {
         assert_eq!(rt; merge_told(alloc, sources, &mut out)?.as_str(), "Ok");
         assert_eq!(rt; out.as_slice(), sample_text(), "{forms}");
     }
-    Ok(())
-}
-
-/// What a merge of one index writes.
-fn merged_alone(rt: &impl Abort, alloc: Global, index: &Index<'_>) -> Result<Vec<u8>, Fail> {
-    let source = source_at(rt, alloc, index, 0)?;
-    let mut sources = Vec::new(alloc);
-    sources.push(source)?;
-    let mut out = Vec::new(alloc);
-    assert_eq!(rt; merge_told(alloc, sources, &mut out)?.as_str(), "Ok");
-    Ok(out)
-}
-
-#[test]
-fn more_than_a_hundred_thousand_terms(rt: HostRuntime) -> Result<(), Fail> {
-    let alloc = rt.alloc();
-    let runs = runs_of(alloc, &numbered(alloc, 100_100)?, "50000-100100 0-50000")?;
-    let mut text = Vec::new(alloc);
-    assert_eq!(rt; merge_runs(alloc, &runs, &mut text)?.as_str(), "Ok");
-    assert_eq!(rt; text.len(), 2_565_794);
-    let volume = Volume::open(alloc, text.clone()?)?;
-    assert!(rt; merged_alone(&rt, alloc, &volume.index())? == text);
     Ok(())
 }
