@@ -2,8 +2,10 @@
 
 use ix_build::Unwatched;
 use ix_command::command_over;
-use ix_files::SystemFiles;
+use ix_files::{Files, SystemFiles};
+use std::sync::Wait;
 use std::test::Fail;
+use std::thread::Threads;
 use std::{env, fs, process};
 
 /// A path of this process in the folder of temporary files, with this word in its name.
@@ -14,12 +16,15 @@ fn path_of(rt: &HostRuntime, word: &str) -> Result<String, Fail> {
 }
 
 /// What the program prints for these words, on its error output behind its standard output, and its status.
-fn told(rt: &HostRuntime, words: &[&str]) -> Result<(Vec<u8>, u8), Fail> {
+fn told<R: AllocGlobal + Threads + Wait + Sync, F: Files>(
+    rt: &R,
+    files: &mut F,
+    words: &[&str],
+) -> Result<(Vec<u8>, u8), Fail> {
     let mut out = Vec::new(rt.alloc());
     let mut err = Vec::new(rt.alloc());
-    let mut files = SystemFiles { rt };
     let status = command_over(
-        rt, rt.alloc(), &mut files, &Unwatched, words, &mut out, &mut err,
+        rt, rt.alloc(), files, &Unwatched, words, &mut out, &mut err,
     );
     out.extend_from_slice(&err)?;
     Ok((out, status))
@@ -29,7 +34,8 @@ fn told(rt: &HostRuntime, words: &[&str]) -> Result<(Vec<u8>, u8), Fail> {
 fn a_file_of_the_system(rt: HostRuntime) -> Result<(), Fail> {
     let path = path_of(&rt, "five")?;
     fs::write(&rt, path.as_str(), b"a\tx y\nb\ty\nc\t\nd\ty x y\ne\tx\n")?;
-    let (out, status) = told(&rt, &["ask", path.as_str(), "NOT x"])?;
+    let mut files = SystemFiles { rt: &rt };
+    let (out, status) = told(&rt, &mut files, &["ask", path.as_str(), "NOT x"])?;
     fs::remove_file(&rt, path.as_str())?;
     assert!(rt; out.as_slice() == b"b\nc\n".as_slice() && status == 0);
     Ok(())
@@ -40,8 +46,9 @@ fn a_file_of_the_system(rt: HostRuntime) -> Result<(), Fail> {
 fn a_text_without_an_end(rt: HostRuntime) -> Result<(), Fail> {
     let script = path_of(&rt, "script")?;
     fs::write(&rt, script.as_str(), b"add /dev/zero\n")?;
-    let asked = told(&rt, &["ask", "/dev/zero", "x"])?;
-    let added = told(&rt, &["live", script.as_str()])?;
+    let mut files = SystemFiles { rt: &rt };
+    let asked = told(&rt, &mut files, &["ask", "/dev/zero", "x"])?;
+    let added = told(&rt, &mut files, &["live", script.as_str()])?;
     fs::remove_file(&rt, script.as_str())?;
     for (out, status) in [asked, added] {
         assert!(rt; out.as_slice() == b"ix: collection 1: TooLarge\n".as_slice() && status == 2);
