@@ -45,33 +45,29 @@ fn have_begun(begun: &AtomicU64, wanted: u64) -> bool {
     false
 }
 
-/// Counts the blocks of which it is told, and keeps of how many in all it was told last. It returns once so many calls were
-/// begun, or counts one that waits in vain.
+/// Counts the calls that return once so many were begun, but not those that wait in vain. Keeps of how many blocks in all it was
+/// told last.
 #[derive(Drop)]
 struct Counts {
     begun: AtomicU64,
+    met: AtomicU64,
     blocks: AtomicU64,
     wanted: u64,
-    alone: AtomicU64,
 }
 
 impl Counts {
     fn new(wanted: u64) -> Counts {
         Counts {
             begun: AtomicU64::new(0),
+            met: AtomicU64::new(0),
             blocks: AtomicU64::new(0),
             wanted,
-            alone: AtomicU64::new(0),
         }
     }
 
-    /// How many calls there were, of how many blocks the last one told, and how many calls waited in vain.
-    fn told(&self) -> (u64, u64, u64) {
-        (
-            self.begun.load(SeqCst),
-            self.blocks.load(SeqCst),
-            self.alone.load(SeqCst),
-        )
+    /// How many calls did not wait in vain, and of how many blocks the last one told.
+    fn told(&self) -> (u64, u64) {
+        (self.met.load(SeqCst), self.blocks.load(SeqCst))
     }
 }
 
@@ -79,8 +75,8 @@ impl Watch for Counts {
     fn inverted(&self, blocks: usize) {
         self.begun.fetch_add(1, SeqCst);
         self.blocks.store(blocks as u64, SeqCst);
-        if !have_begun(&self.begun, self.wanted) {
-            self.alone.fetch_add(1, SeqCst);
+        if have_begun(&self.begun, self.wanted) {
+            self.met.fetch_add(1, SeqCst);
         }
     }
 }

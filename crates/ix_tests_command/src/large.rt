@@ -59,20 +59,20 @@ fn a_hundred_thousand_documents(rt: HostRuntime) -> Result<(), Fail> {
     Ok(())
 }
 
-/// What is told of a path of which there is no file, and of the same path once there is one.
-fn with_path(alloc: Global, path: &str) -> Result<String, Fail> {
-    let mut session = format!(in alloc; "$ ix ask {path} y\n! ix: file 1: Read({path})\n")?;
-    session.push_str("$ room 0\n")?;
-    let unsaved = format!(in alloc; "$ ix run ab {path}\n! ix: file 2: Write({path})\n")?;
-    session.push_str(&unsaved)?;
-    let script = format!(in alloc; "$ put script add {path}\\npublish\\nask red\\n\n")?;
-    session.push_str(&script)?;
-    let unread = format!(in alloc; "$ ix live script\n! ix: file 1: Read({path})\n")?;
-    session.push_str(&unread)?;
-    let there = format!(in alloc; "$ put {path} d\\tred\\n\n$ ix live script\n1\\tred\nd\n")?;
-    session.push_str(&there)?;
-    Ok(session)
-}
+/// What is printed of a path of which there is no file, and of the same path once there is one.
+const LONG_PATH: &str = r"$ ix ask PATH y
+! ix: file 1: Read(PATH)
+$ room 0
+$ ix run ab PATH
+! ix: file 2: Write(PATH)
+$ put script add PATH\npublish\nask red\n
+$ ix live script
+! ix: file 1: Read(PATH)
+$ put PATH d\tred\n
+$ ix live script
+1\tred
+d
+";
 
 #[test]
 fn long_paths_queries_and_groups(rt: HostRuntime) -> Result<(), Fail> {
@@ -81,7 +81,12 @@ fn long_paths_queries_and_groups(rt: HostRuntime) -> Result<(), Fail> {
     play(&rt, &mut disk, "", FILES)?;
     for bytes in [64, 200, 5000] {
         let path = "p".repeat(alloc, bytes)?;
-        play(&rt, &mut disk, "", &with_path(alloc, &path)?)?;
+        play(
+            &rt,
+            &mut disk,
+            "",
+            &LONG_PATH.replace(alloc, "PATH", &path)?,
+        )?;
     }
     let words = "x OR ".repeat(alloc, 2100)?;
     let query = format!(in alloc; "$ ix ask five '{words}x'\na\nd\ne\n")?;
@@ -90,5 +95,10 @@ fn long_paths_queries_and_groups(rt: HostRuntime) -> Result<(), Fail> {
     let asks = "ask y\\n".repeat(alloc, 1100)?;
     let group = format!(in alloc; "$ put script add ab\\npublish\\n{asks}remove 7\\nadd no\n")?;
     play(&rt, &mut disk, "", &group)?;
-    play(&rt, &mut disk, "", "$ ix live script\n! ix: live 4: Number(7)\n")
+    play(
+        &rt,
+        &mut disk,
+        "",
+        "$ ix live script\n! ix: live 4: Number(7)\n",
+    )
 }

@@ -23,9 +23,7 @@ fn told<R: AllocGlobal + Threads + Wait + Sync, F: Files>(
 ) -> Result<(Vec<u8>, u8), Fail> {
     let mut out = Vec::new(rt.alloc());
     let mut err = Vec::new(rt.alloc());
-    let status = command_over(
-        rt, rt.alloc(), files, &Unwatched, words, &mut out, &mut err,
-    );
+    let status = command_over(rt, rt.alloc(), files, &Unwatched, words, &mut out, &mut err);
     out.extend_from_slice(&err)?;
     Ok((out, status))
 }

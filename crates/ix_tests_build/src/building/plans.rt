@@ -113,7 +113,7 @@ fn cut_and_built(
     collection: &Collection<'_>,
     plan: &Plan,
     wanted: u64,
-) -> Result<((u64, u64, u64), Vec<u8>), Fail> {
+) -> Result<((u64, u64), Vec<u8>), Fail> {
     let seen = Counts::new(wanted);
     let stop = StopList::empty(alloc);
     let blocks = invert_all(rt, alloc, collection, &stop, plan, &seen)?;
@@ -137,7 +137,7 @@ fn several_workers_cut_further(rt: HostRuntime) -> Result<(), Fail> {
     ] {
         let plan = plan_of(cut, workers)?;
         let (told, out) = cut_and_built(&rt, rt.alloc(), &collection, &plan, 0)?;
-        assert!(rt; told == (want, want, 0), "{cut:?} {workers}");
+        assert!(rt; told == (want, want), "{cut:?} {workers}");
         assert!(rt; whole.is_empty() || whole == out, "{cut:?} {workers}");
         whole = out;
     }
@@ -150,6 +150,6 @@ fn workers_meet(rt: HostRuntime) -> Result<(), Fail> {
     let collection = Collection::read(rt.alloc(), five_documents())?;
     let plan = plan_of(Cut::Docs(2), 3)?;
     let (told, out) = cut_and_built(&rt, rt.alloc(), &collection, &plan, 3)?;
-    assert!(rt; told == (3, 3, 0) && out.as_slice() == five_documents_index());
+    assert!(rt; told == (3, 3) && out.as_slice() == five_documents_index());
     Ok(())
 }

@@ -48,18 +48,18 @@ fn entries(alloc: Global) -> Result<Vec<Entry>, Fail> {
         let postings = postings_of(alloc, number)?;
         entries.push(Entry { term, postings })?;
     }
-    entries.push(last_entry(alloc)?)?;
+    entries.push(entry_of(alloc, DOCUMENTS, TOKENS)?)?;
     Ok(entries)
 }
 
-/// The last term, which is each token of the last document.
-fn last_entry(alloc: Global) -> Result<Entry, Fail> {
+/// The term `y`, which is each of so many first tokens of a document.
+fn entry_of(alloc: Global, document: u32, tokens: u32) -> Result<Entry, Fail> {
     let mut positions = Vec::new(alloc);
-    for position in 0..TOKENS {
+    for position in 0..tokens {
         positions.push(position)?;
     }
     let mut postings = Vec::new(alloc);
-    postings.push((DOCUMENTS, positions))?;
+    postings.push((document, positions))?;
     let term = String::from_str(alloc, "y")?;
     Ok(Entry { term, postings })
 }
@@ -156,24 +156,14 @@ fn a_hundred_thousand_postings(rt: HostRuntime) -> Result<(), Fail> {
     check(&rt, alloc, &index, &entries)
 }
 
-/// The index text of so many documents of so many tokens each, of which the first ones of the first document are `x`.
+/// The index text of so many documents of so many tokens each, of which the first ones of the first document are `y`.
 fn text_with(alloc: Global, documents: u32, tokens: u32, claimed: u32) -> Result<Vec<u8>, Fail> {
+    let name = "a name";
     let mut rows = Vec::new(alloc);
     for _ in 0..documents {
-        rows.push(DocRow {
-            name: "a name",
-            tokens,
-        })?;
+        rows.push(DocRow { name, tokens })?;
     }
-    let mut positions = Vec::new(alloc);
-    for position in 0..claimed {
-        positions.push(position)?;
-    }
-    let mut postings = Vec::new(alloc);
-    postings.push((0, positions))?;
-    let term = String::from_str(alloc, "x")?;
-    let mut entries = Vec::new(alloc);
-    entries.push(Entry { term, postings })?;
+    let entries = vec![in alloc; entry_of(alloc, 0, claimed)?]?;
     Ok(text_of(alloc, b'2', &[], &rows, &entries)?)
 }
 

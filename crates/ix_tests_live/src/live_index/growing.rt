@@ -172,6 +172,9 @@ fn a_thousand_additions_at_once(rt: HostRuntime) -> Result<(), Fail> {
     let (mut indexer, searchers) = live(&rt, alloc, StopList::empty(alloc), 1)?;
     let told = look_late(&rt, alloc, &mut indexer, searchers);
     indexer.close(&rt);
-    assert_eq!(rt; told?.as_str(), "9 8 7 6 5 4 3 2 1 0 ; 1023 Some(1022) 1023");
+    assert_eq!(rt;
+        told?.as_str(),
+        "9 8 7 6 5 4 3 2 1 0 ; 1023 Some(1022) 1023"
+    );
     Ok(())
 }

@@ -204,9 +204,7 @@ fn reads_of_each_size(rt: HostRuntime) -> Result<(), Fail> {
     for most in 1..33 {
         expect_in_pieces(alloc, &text, Sizes::Interrupted(most))?;
     }
-    for most in [
-        4097, 8191, 16382, 32764, 65531, 65535, 65536, 65537, 65540,
-    ] {
+    for most in [4097, 8191, 16382, 32764, 65531, 65535, 65536, 65537, 65540] {
         expect_in_pieces(alloc, &text, Sizes::Interrupted(most))?;
     }
     Ok(())
