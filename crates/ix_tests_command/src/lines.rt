@@ -76,35 +76,24 @@ const HELPS: [(&str, &str, &str); 11] = [
     ("help", HELP, "\nA collection is a text"),
     ("ask -h five", HELP_ON_ASK, "\n  inter*, re*ed "),
     ("help search", HELP_ON_SEARCH, "\n  a NEAR/3 b "),
-    ("terms -h", HELP_ON_TERMS, "Usage: ix terms INDEX PATTERN\n"),
-    ("build --help", HELP_ON_BUILD, "Usage: ix build [--stop "),
-    (
-        "live --help",
-        HELP_ON_LIVE,
-        "answer queries, from 1 to 64; without it 2\n",
-    ),
-    (
-        "run --help",
-        HELP_ON_RUN,
-        "from 0 to 268435456; without it 0\n",
-    ),
+    ("terms -h", HELP_ON_TERMS, "Usage: ix terms "),
+    ("build --help", HELP_ON_BUILD, "Usage: ix build "),
+    ("live --help", HELP_ON_LIVE, "Usage: ix live "),
+    ("run --help", HELP_ON_RUN, "Usage: ix run "),
     (
         "help merge",
         HELP_ON_MERGE,
         "\nUsage: ix merge INDEX INPUT...\n",
     ),
-    (
-        "help upgrade",
-        HELP_ON_UPGRADE,
-        "Usage: ix upgrade OLD NEW\n",
-    ),
+    ("help upgrade", HELP_ON_UPGRADE, "Usage: ix upgrade "),
 ];
 
-/// An option, and what is said of it each time.
-const OPTIONS: [(&str, &str); 3] = [
-    ("Usage: ", "Usage: ix "),
+/// What is said of an option each time.
+const OPTIONS: [(&str, &str); 4] = [
     ("  --block N ", "from 1 to 268435456; without it 1024\n"),
     ("  --workers W ", "from 1 to 64; without it 4\n"),
+    ("  --searchers S ", "from 1 to 64; without it 2\n"),
+    ("  --first D ", "from 0 to 268435456; without it 0\n"),
 ];
 
 #[test]

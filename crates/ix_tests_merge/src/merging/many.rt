@@ -1,14 +1,14 @@
-//! Many documents, cut into runs in several ways: one index text. Gaps that grow by a byte, and many sources.
+//! Many documents, cut into runs in several ways: one index text. And gaps that grow by a byte.
 
-use super::{merge_runs, merged, runs_of};
+use super::merged;
 use std::alloc::Global;
 use std::test::Fail;
 
-/// A thousand documents of a few words each: one word that all have, one that each has alone, some that only some have,
+/// A thousand and ten documents of a few words each: one word that all have, one that each has alone, some that only some have,
 /// words that are fronts of one another, and long words that begin alike.
 fn documents(alloc: Global) -> Result<String, Fail> {
     let mut text = String::new(alloc);
-    for number in 0u32..1000 {
+    for number in 0u32..1010 {
         let some = number % 7;
         let few = number % 3;
         let last = if number % 5 == 0 { "a aa" } else { "aab" };
@@ -20,15 +20,15 @@ fn documents(alloc: Global) -> Result<String, Fail> {
     Ok(text)
 }
 
-/// So many blocks of the thousand documents without the word `the`, those of every third block first.
+/// So many blocks of these documents without the word `the`, those of every third block first.
 fn cut(alloc: Global, blocks: u16) -> Result<String, Fail> {
     let blocks = blocks as u32;
     let mut told = String::new(alloc);
     for turn in 0u32..3 {
         for place in 0..blocks {
             if place % 3 == turn {
-                let from = 1000 * place / blocks;
-                let to = 1000 * (place + 1) / blocks;
+                let from = 1010 * place / blocks;
+                let to = 1010 * (place + 1) / blocks;
                 let block = format!(in alloc; "{from}-{to}/the ")?;
                 told.push_str(&block)?;
             }
@@ -42,12 +42,15 @@ fn cut_into_runs(rt: HostRuntime) -> Result<(), Fail> {
     let alloc = rt.alloc();
     let text = documents(alloc)?;
     let mut whole = Vec::new(alloc);
-    for blocks in [1u16, 2, 3, 64, 1000] {
+    for blocks in [1u16, 2, 3, 64, 1010] {
         let (out, outcome) = merged(&rt, alloc, &text, &cut(alloc, blocks)?)?;
         assert!(rt; outcome.as_str() == "Ok" && out.len() > 64, "{blocks}");
         assert!(rt; whole.is_empty() || out == whole, "{blocks}");
         whole = out;
     }
+    let gap = cut(alloc, 1010)?.replace(alloc, "1005-1006/the ", "")?;
+    let (out, outcome) = merged(&rt, alloc, &text, &gap)?;
+    assert!(rt; outcome.as_str() == "Gap(1005)" && out.is_empty());
     Ok(())
 }
 
@@ -82,37 +85,6 @@ fn gaps_that_grow_by_a_byte(rt: HostRuntime) -> Result<(), Fail> {
         let (out, _) = merged(&rt, alloc, &text, &blocks)?;
         let lists = out.get(8..).ok_or("no lists")?;
         assert!(rt; lists.starts_with(list), "{count} {word}");
-    }
-    Ok(())
-}
-
-/// A block for each of eleven hundred documents, but none for one of them.
-fn alone_but(alloc: Global, but: u32) -> Result<String, Fail> {
-    let mut told = String::new(alloc);
-    for number in 0u32..1100 {
-        if number != but {
-            let block = format!(in alloc; "{number}-{} ", number + 1)?;
-            told.push_str(&block)?;
-        }
-    }
-    Ok(told)
-}
-
-/// Which of eleven hundred documents has no source, what comes of a merge of the others', and how many bytes are written.
-const SOURCES: [(u32, &str, usize); 2] = [(1100, "Ok", 28_406), (1050, "Gap(1050)", 0)];
-
-#[test]
-fn more_than_a_thousand_sources(rt: HostRuntime) -> Result<(), Fail> {
-    let alloc = rt.alloc();
-    let mut text = String::new(alloc);
-    for number in 0u32..1100 {
-        text.push_str(&format!(in alloc; "n{number}\tw{number}\n")?)?;
-    }
-    for (but, want, len) in SOURCES {
-        let runs = runs_of(alloc, &text, &alone_but(alloc, but)?)?;
-        let mut out = Vec::new(alloc);
-        assert_eq!(rt; merge_runs(alloc, &runs, &mut out)?.as_str(), want);
-        assert_eq!(rt; out.len(), len);
     }
     Ok(())
 }
