@@ -15,7 +15,7 @@ fn numbered(alloc: Global) -> Result<String, Fail> {
     Ok(text)
 }
 
-/// An index of more than two MiB, and that of its run.
+/// An index of more than two MiB, and the merge of it alone.
 const LARGE: &str = r"$ ix build large large.ix
 $ size large.ix
 2719149
@@ -25,12 +25,9 @@ $ ix search large.ix w100099
 n100099
 $ ix merge again large.ix
 $ cmp again large.ix
-$ ix run large large.run
-$ ix merge again large.run
-$ cmp again large.ix
 $ room 65536
-$ ix run large full
-! ix: file 2: Write(full)
+$ ix merge full large.ix
+! ix: merge 6: Write
 ";
 
 /// A pattern with ten thousand terms.
