@@ -25,9 +25,6 @@ $ ix search large.ix w100099
 n100099
 $ ix merge again large.ix
 $ cmp again large.ix
-$ room 65536
-$ ix merge full large.ix
-! ix: merge 6: Write
 ";
 
 /// A pattern with ten thousand terms.
@@ -47,7 +44,6 @@ fn a_hundred_thousand_documents(rt: HostRuntime) -> Result<(), Fail> {
     disk.files.put("large", numbered(alloc)?.as_bytes())?;
     play(&rt, &mut disk, "", LARGE)?;
     play(&rt, &mut disk, "", &many_terms(alloc)?)?;
-    disk.files.set_room(usize::MAX);
     disk.files.fail_at(0, false);
     let kept = "$ ix build --runs=runs large again\n$ cmp again large.ix\n";
     play(&rt, &mut disk, "", kept)?;
