@@ -47,8 +47,8 @@ fn a_hundred_thousand_documents(rt: HostRuntime) -> Result<(), Fail> {
     disk.files.fail_at(0, false);
     let kept = "$ ix build --runs=runs large again\n$ cmp again large.ix\n";
     play(&rt, &mut disk, "", kept)?;
-    // The run of each 1024 documents is created, ended, opened and removed.
-    assert!(rt; disk.files.calls() > 98 * 4);
+    // The run of each 1024 documents is created, ended and opened.
+    assert!(rt; disk.files.calls() > 98 * 3);
     Ok(())
 }
 
