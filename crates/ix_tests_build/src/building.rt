@@ -5,6 +5,7 @@ mod makers;
 mod plans;
 mod stores;
 
+use ix_build::Watch;
 use std::io::{self, Write};
 use std::sync::atomic::AtomicU64;
 use std::sync::atomic::Ordering::SeqCst;
@@ -42,6 +43,42 @@ fn have_begun(begun: &AtomicU64, wanted: u64) -> bool {
         }
     }
     false
+}
+
+/// Counts the calls that return once so many were begun, but not those that wait in vain. Keeps of how many blocks in all it was
+/// told last.
+#[derive(Drop)]
+struct Counts {
+    begun: AtomicU64,
+    met: AtomicU64,
+    blocks: AtomicU64,
+    wanted: u64,
+}
+
+impl Counts {
+    fn new(wanted: u64) -> Counts {
+        Counts {
+            begun: AtomicU64::new(0),
+            met: AtomicU64::new(0),
+            blocks: AtomicU64::new(0),
+            wanted,
+        }
+    }
+
+    /// How many calls did not wait in vain, and of how many blocks the last one told.
+    fn told(&self) -> (u64, u64) {
+        (self.met.load(SeqCst), self.blocks.load(SeqCst))
+    }
+}
+
+impl Watch for Counts {
+    fn inverted(&self, blocks: usize) {
+        self.begun.fetch_add(1, SeqCst);
+        self.blocks.store(blocks as u64, SeqCst);
+        if have_begun(&self.begun, self.wanted) {
+            self.met.fetch_add(1, SeqCst);
+        }
+    }
 }
 
 /// A writer that takes one byte at a time, and so many of them.

@@ -104,7 +104,7 @@ fn digit(character: u8) -> Option<u8> {
     }
 }
 
-/// A writer that takes so many bytes.
+/// A writer that takes so many bytes, and never flushes.
 #[derive(Drop)]
 pub struct Narrow {
     taken: Vec<u8>,
@@ -132,6 +132,6 @@ impl Write for Narrow {
     }
 
     fn flush(&mut self) -> io::Result<()> {
-        Ok(())
+        Err(io::Error::from(ErrorKind::StorageFull))
     }
 }

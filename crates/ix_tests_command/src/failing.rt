@@ -60,7 +60,7 @@ fn a_call_that_fails_leaves_the_old_file(rt: HostRuntime) -> Result<(), Fail> {
             let disk = told_with(&rt, number, usize::MAX, line, &mut told)?;
             let there = disk.files.bytes("out");
             if there == Some(b"old".as_slice()) {
-                assert!(rt; told.starts_with("! ix: "));
+                assert!(rt; told.starts_with("! ix: ") && !told.contains("Memory"));
                 last_kept = number;
             } else {
                 assert!(rt; there == whole.files.bytes("out"));

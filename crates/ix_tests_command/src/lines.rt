@@ -76,16 +76,24 @@ const HELPS: [(&str, &str, &str); 11] = [
     ("help", HELP, "\nA collection is a text"),
     ("ask -h five", HELP_ON_ASK, "\n  inter*, re*ed "),
     ("help search", HELP_ON_SEARCH, "\n  a NEAR/3 b "),
-    ("terms -h", HELP_ON_TERMS, "Usage: ix "),
-    ("build --help", HELP_ON_BUILD, "Usage: ix "),
-    ("live --help", HELP_ON_LIVE, "Usage: ix "),
-    ("run --help", HELP_ON_RUN, "Usage: ix "),
+    ("terms -h", HELP_ON_TERMS, "Usage: ix terms "),
+    ("build --help", HELP_ON_BUILD, "Usage: ix build "),
+    ("live --help", HELP_ON_LIVE, "Usage: ix live "),
+    ("run --help", HELP_ON_RUN, "Usage: ix run "),
     (
         "help merge",
         HELP_ON_MERGE,
         "\nUsage: ix merge INDEX INPUT...\n",
     ),
-    ("help upgrade", HELP_ON_UPGRADE, "Usage: ix "),
+    ("help upgrade", HELP_ON_UPGRADE, "Usage: ix upgrade "),
+];
+
+/// What is said of an option each time.
+const OPTIONS: [(&str, &str); 4] = [
+    ("  --block N ", "from 1 to 268435456; without it 1024\n"),
+    ("  --workers W ", "from 1 to 64; without it 4\n"),
+    ("  --searchers S ", "from 1 to 64; without it 2\n"),
+    ("  --first D ", "from 0 to 268435456; without it 0\n"),
 ];
 
 #[test]
@@ -97,6 +105,10 @@ fn help_of_the_program_and_of_each_command(rt: HostRuntime) -> Result<(), Fail> 
         tell(&rt, &mut disk, &words, &mut told)?;
         assert_eq!(rt; told.as_str(), text);
         assert!(rt; text.contains(part), "{part}");
+        assert_eq!(rt; text.matches("Usage: ").count(), 1);
+        for (option, said) in OPTIONS {
+            assert_eq!(rt; text.matches(option).count(), text.matches(said).count());
+        }
     }
     Ok(())
 }

@@ -183,17 +183,18 @@ fn queries_of_five_documents(rt: HostRuntime) -> Result<(), Fail> {
     Ok(())
 }
 
-/// Runs the program if its standard output is refused, and then if its error output is too, and tells both statuses and the
-/// error output of the first.
+/// Runs the program if its standard output takes so many bytes and fails, and then if its error output does too, and tells both
+/// statuses and the error output of the first.
 fn tell_refused_writes<R: AllocGlobal + Threads + Wait + Sync>(
     rt: &R,
     disk: &mut Disk,
     line: &str,
+    room: usize,
     told: &mut String,
 ) -> Result<(), Fail> {
     let words = words_of(rt.alloc(), line)?;
     let mut err = Vec::new(rt.alloc());
-    let mut full = Narrow::new(rt.alloc(), 0);
+    let mut full = Narrow::new(rt.alloc(), room);
     let mut other = Narrow::new(rt.alloc(), 0);
     let status = status_of(rt, disk, &words, &mut full, &mut err);
     let both = status_of(rt, disk, &words, &mut full, &mut other);
@@ -205,15 +206,20 @@ fn tell_refused_writes<R: AllocGlobal + Threads + Wait + Sync>(
 fn writes_that_are_refused(rt: HostRuntime) -> Result<(), Fail> {
     let mut disk = Disk::new(rt.alloc())?;
     play(&rt, &mut disk, "", FILES)?;
+    disk.files.put("script", b"add ab\npublish\nask y\n")?;
     for line in [
         "ask five y",
         "search five.ix y",
         "terms five.ix y*",
+        "live script",
         "--help",
     ] {
-        let mut told = String::new(rt.alloc());
-        tell_refused_writes(&rt, &mut disk, line, &mut told)?;
-        assert_eq!(rt; told.as_str(), "2 2 ix: file 2: Write(-)\n");
+        // The last writer takes all, and is refused the flush.
+        for room in [0, 1, usize::MAX] {
+            let mut told = String::new(rt.alloc());
+            tell_refused_writes(&rt, &mut disk, line, room, &mut told)?;
+            assert_eq!(rt; told.as_str(), "2 2 ix: file 2: Write(-)\n");
+        }
     }
     Ok(())
 }

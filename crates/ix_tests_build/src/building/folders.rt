@@ -1,16 +1,16 @@
 //! Collections built with their runs in a folder of the system: which files it holds, and that none is left.
 
 use super::stores::runs;
-use super::{Narrow, five_documents, five_documents_index};
+use super::{Counts, Narrow, five_documents, five_documents_index};
 use ix_build::{
-    BuildError, BuiltOver, Cut, FolderStore, Plan, RunStore, Runs, Unwatched, build, build_over,
-    is_run_of,
+    BuildError, BuiltOver, Cut, FolderStore, Plan, RunStore, Runs, Unwatched, Watch, build,
+    build_over, is_run_of,
 };
 use ix_files::{Files, Location, MemoryFiles, SharedFiles, SystemFiles};
-use ix_run::RunReader;
+use ix_run::{RunReader, invert};
 use ix_text::{Collection, StopList};
 use std::alloc::Global;
-use std::io::Write;
+use std::io::{Read, Write};
 use std::process::Abort;
 use std::sync::Wait;
 use std::test::Fail;
@@ -34,11 +34,24 @@ fn built_in<F: Files, W: Write>(
     workers: usize,
     out: &mut W,
 ) -> Result<Option<BuildError>, Fail> {
-    let collection = Collection::read(alloc, five_documents())?;
-    let stop = StopList::empty(alloc);
     let runs = Runs::Folder(String::from_str(alloc, folder)?);
     let plan = Plan::new(cut, workers, runs).ok_or("no plan")?;
-    let result = build(rt, alloc, files, &collection, &stop, &plan, &Unwatched, out);
+    built_by(rt, alloc, files, five_documents(), &plan, &Unwatched, out)
+}
+
+/// Builds a collection text by a plan, and answers why it is refused.
+fn built_by<F: Files, V: Watch, W: Write>(
+    rt: &(impl Abort + Threads + Wait + Sync),
+    alloc: Global,
+    files: &mut F,
+    text: &[u8],
+    plan: &Plan,
+    watch: &V,
+    out: &mut W,
+) -> Result<Option<BuildError>, Fail> {
+    let collection = Collection::read(alloc, text)?;
+    let stop = StopList::empty(alloc);
+    let result = build(rt, alloc, files, &collection, &stop, plan, watch, out);
     Ok(result.err())
 }
 
@@ -139,12 +152,12 @@ fn builds_over_stores_in<F: SharedFiles>(
     Ok(())
 }
 
-/// Names in this folder as the first nine runs are called.
-fn names_in(alloc: Global, folder: &str) -> Result<Vec<Location>, Fail> {
+/// Names in this folder as the first runs are called, so many of them.
+fn names_in(alloc: Global, folder: &str, count: usize) -> Result<Vec<Location>, Fail> {
     let mut names = Vec::new(alloc);
-    for place in 0..9 {
+    for place in 0..count {
         let folder = String::from_str(alloc, folder)?;
-        let name = format!(in alloc; "run-000000000{place}")?;
+        let name = format!(in alloc; "run-{place:010}")?;
         names.push(Location::new(alloc, folder, name)?)?;
     }
     Ok(names)
@@ -188,7 +201,7 @@ fn run_files_of_each_cut(rt: HostRuntime) -> Result<(), Fail> {
     let mut files = SystemFiles { rt: &rt };
     let folder = new_path(&rt, "cuts")?;
     fs::create_dir(&rt, folder.as_str())?;
-    let shared = files.share(names_in(rt.alloc(), &folder)?)?;
+    let shared = files.share(names_in(rt.alloc(), &folder, 9)?)?;
     for (cut, want) in CUTS {
         builds_over_stores_in(&rt, rt.alloc(), &shared, cut)?;
         if cut == Cut::Bytes(4) {
@@ -203,25 +216,107 @@ fn run_files_of_each_cut(rt: HostRuntime) -> Result<(), Fail> {
     Ok(())
 }
 
+/// What a build of the five documents by one worker, in three blocks and with runs in a folder of files in memory, comes to and
+/// writes, and of how many files it tells.
+fn watched(
+    rt: &(impl Abort + Threads + Wait + Sync),
+    alloc: Global,
+    files: &mut MemoryFiles,
+) -> Result<(Option<BuildError>, Vec<u8>, u64), Fail> {
+    let runs = Runs::Folder(String::new(alloc));
+    let plan = Plan::new(Cut::Docs(2), 1, runs).ok_or("no plan")?;
+    let counts = Counts::new(0);
+    let mut out = Vec::new(alloc);
+    let refused = built_by(rt, alloc, files, five_documents(), &plan, &counts, &mut out)?;
+    let (told, blocks) = counts.told();
+    assert!(rt; blocks == if told == 0 { 0 } else { 3 });
+    Ok((refused, out, told))
+}
+
+/// Of how many files is told if the first call of the files fails, the second, and so on: the folder is located, three files
+/// are created and ended, and then opened.
+const TOLD: &str = "0 2 2 2 2 2 2 3 3 3 3 3 ";
+
+/// Whether this comes of a call that failed, out of memory or not.
+fn is_of_call(refused: Option<BuildError>, starved: bool) -> bool {
+    match refused {
+        None => true,
+        Some(BuildError::Spill(_)) => !starved,
+        Some(error) => starved && error == BuildError::Memory,
+    }
+}
+
 #[test]
 fn each_call_of_the_files_fails(rt: HostRuntime) -> Result<(), Fail> {
     let mut files = MemoryFiles::new(rt.alloc())?;
-    let mut built = false;
-    for number in 1..64 {
-        files.fail_at(number, false);
-        let mut out = Vec::new(rt.alloc());
-        let refused = built_in(&rt, rt.alloc(), &mut files, "", Cut::Docs(2), 1, &mut out)?;
-        built = refused.is_none();
-        assert!(rt;
-            built || matches!(refused, Some(BuildError::Spill(_))),
-            "{number}"
-        );
-        assert!(rt;
-            built == (out.as_slice() == five_documents_index()),
-            "{number}"
-        );
+    for starved in [false, true] {
+        let mut counts = String::new(rt.alloc());
+        let mut built = false;
+        for number in 1..13 {
+            files.fail_at(number, starved);
+            let (refused, out, told) = watched(&rt, rt.alloc(), &mut files)?;
+            built = refused.is_none();
+            assert!(rt; is_of_call(refused, starved), "{number}");
+            assert!(rt;
+                built == (out.as_slice() == five_documents_index()),
+                "{number}"
+            );
+            counts.push_str(&format!(in rt.alloc(); "{told} ")?)?;
+        }
+        assert!(rt; built);
+        assert_eq!(rt; counts.as_str(), TOLD);
     }
-    assert!(rt; built);
+    Ok(())
+}
+
+/// How many bytes a file takes, and how many of the files of the runs then end, which have 41 bytes, 39 and 28.
+const ROOMS: [(usize, u64); 6] = [(0, 0), (27, 0), (28, 1), (38, 1), (39, 2), (40, 2)];
+
+#[test]
+fn a_full_disk_spills(rt: HostRuntime) -> Result<(), Fail> {
+    let mut files = MemoryFiles::new(rt.alloc())?;
+    for (room, want) in ROOMS {
+        files.set_room(room);
+        let (refused, out, told) = watched(&rt, rt.alloc(), &mut files)?;
+        assert!(rt; refused == Some(BuildError::Spill(0)) && out.is_empty());
+        assert_eq!(rt; told, want, "{room}");
+    }
+    Ok(())
+}
+
+#[test]
+fn more_than_a_thousand_blocks(rt: HostRuntime) -> Result<(), Fail> {
+    let alloc = rt.alloc();
+    let text = "a\tx\n".repeat(alloc, 1100)?;
+    let runs = Runs::Folder(String::new(alloc));
+    let plan = Plan::new(Cut::Docs(1), 1, runs).ok_or("no plan")?;
+    let mut files = MemoryFiles::new(alloc)?;
+    let counts = Counts::new(0);
+    let mut out = Vec::new(alloc);
+    let text = text.as_bytes();
+    let refused = built_by(&rt, alloc, &mut files, text, &plan, &counts, &mut out)?;
+    assert!(rt; refused.is_none() && out.len() == 6_676);
+    assert!(rt; counts.told() == (1100, 1100));
+    Ok(())
+}
+
+#[test]
+fn more_than_ten_thousand_places(rt: HostRuntime) -> Result<(), Fail> {
+    let alloc = rt.alloc();
+    let mut files = MemoryFiles::new(alloc)?;
+    let shared = files.share(names_in(alloc, "", 10_002)?)?;
+    let mut store = FolderStore::new(alloc, &shared);
+    let collection = Collection::read(alloc, b"a\tx y\nb\ty\n")?;
+    let run = invert(alloc, collection.docs(), &StopList::empty(alloc), 0)?;
+    for place in [0, 1000, 1001, 9999, 10_000, 10_001] {
+        assert!(rt; store.save(place, &run).is_ok(), "{place}");
+        let mut bytes = Vec::new(alloc);
+        store
+            .load(place)
+            .map_err(|_| "load")?
+            .read_to_end(&mut bytes)?;
+        assert!(rt; Some(&bytes.as_slice()) == runs().first(), "{place}");
+    }
     Ok(())
 }
 

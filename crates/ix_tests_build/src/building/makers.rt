@@ -34,6 +34,8 @@ struct Inverter<'a> {
     // from where to where each block goes
     blocks: &'a [(u32, u32)],
     rule: Rule<'a>,
+    // for so many askings there is memory
+    room: usize,
     asked: Vec<Asked>,
 }
 
@@ -97,6 +99,9 @@ impl<'a> Maker for Inverter<'a> {
     ghost follows_on = { λ first second third a b. tt };
 
     fn reserve(&mut self, places: usize) -> Result<(), Memory> {
+        if self.asked.len() >= self.room {
+            return Err(AllocError);
+        }
         self.asked.reserve(places)
     }
 
@@ -139,6 +144,7 @@ fn inverters<'a>(
             docs,
             blocks,
             rule,
+            room: usize::MAX,
             asked: Vec::new(alloc),
         })?;
     }
@@ -249,6 +255,28 @@ fn a_free_maker_takes_the_places_of_one_that_waits(rt: HostRuntime) -> Result<()
     let (zero, one) = found.1.split_once(';').ok_or("no makers")?;
     assert!(rt; zero.len() == 6 && !zero.contains('1'), "{zero}");
     assert_eq!(rt; one, "1 ;");
+    Ok(())
+}
+
+/// One of two makers has memory for so many askings, and leaves all other places to the other one.
+#[test]
+fn a_maker_without_memory_takes_no_place(rt: HostRuntime) -> Result<(), Fail> {
+    let collection = Collection::read(rt.alloc(), five_documents())?;
+    for room in 1..3 {
+        let begun = AtomicU64::new(0);
+        let rule = Rule::AtOnceBegun(0, &begun, 1);
+        let mut makers = inverters(rt.alloc(), 2, collection.docs(), &ALONE, rule)?;
+        if let Some(maker) = makers.get_mut(1) {
+            maker.room = room;
+        }
+        assert!(rt; 0 < makers.len() && makers.len() <= 64);
+        let Outcome { makers, result } = work_all(&rt, rt.alloc(), makers, 5);
+        let told = told_askings(rt.alloc(), &makers)?;
+        assert_eq!(rt; told.matches(' ').count(), 5, "{told}");
+        let (_, second) = told.split_once(';').ok_or("no makers")?;
+        let stops = second.matches(' ').count() == room;
+        assert!(rt; matches!(result, Err(WorkError::Memory)) == stops);
+    }
     Ok(())
 }
 

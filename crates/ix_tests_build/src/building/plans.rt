@@ -1,15 +1,13 @@
 //! Collections built by plans: the worked samples, how far several workers cut, and refused writes.
 ghost use Rattle.std.specs.Prelude.{◌≡◌};
 
-use super::{Narrow, five_documents, five_documents_index};
-use ix_build::{BuildError, Cut, Plan, Runs, Watch, build_in_memory, invert_all};
+use super::{Counts, Narrow, five_documents, five_documents_index};
+use ix_build::{BuildError, Cut, Plan, Runs, build_in_memory, invert_all};
 use ix_text::{Collection, StopList};
 use std::alloc::{AllocError, Global};
 use std::io::Write;
 use std::process::Abort;
 use std::sync::Wait;
-use std::sync::atomic::AtomicU64;
-use std::sync::atomic::Ordering::SeqCst;
 use std::test::Fail;
 use std::thread::Threads;
 
@@ -108,29 +106,20 @@ fn eight_long_documents(alloc: Global) -> Result<Vec<u8>, AllocError> {
     Ok(text)
 }
 
-/// Keeps of how many blocks in all it was told last.
-#[derive(Drop)]
-struct Blocks(AtomicU64);
-
-impl Watch for Blocks {
-    fn inverted(&self, blocks: usize) {
-        self.0.store(blocks as u64, SeqCst);
-    }
-}
-
-/// Into how many blocks a collection without stop words is cut by a plan, and its index text.
+/// What is told of the blocks of a collection without stop words, each of which waits for so many others; and its index text.
 fn cut_and_built(
     rt: &(impl Abort + Threads + Wait + Sync),
     alloc: Global,
     collection: &Collection<'_>,
     plan: &Plan,
-) -> Result<(u64, Vec<u8>), Fail> {
-    let seen = Blocks(AtomicU64::new(0));
+    wanted: u64,
+) -> Result<((u64, u64), Vec<u8>), Fail> {
+    let seen = Counts::new(wanted);
     let stop = StopList::empty(alloc);
     let blocks = invert_all(rt, alloc, collection, &stop, plan, &seen)?;
     let mut out = Vec::new(alloc);
     blocks.merge_into(alloc, &mut out)?;
-    Ok((seen.0.load(SeqCst), out))
+    Ok((seen.told(), out))
 }
 
 #[test]
@@ -147,10 +136,20 @@ fn several_workers_cut_further(rt: HostRuntime) -> Result<(), Fail> {
         (Cut::Bytes(7), 4, 8),
     ] {
         let plan = plan_of(cut, workers)?;
-        let (blocks, out) = cut_and_built(&rt, rt.alloc(), &collection, &plan)?;
-        assert_eq!(rt; blocks, want, "{cut:?} {workers}");
+        let (told, out) = cut_and_built(&rt, rt.alloc(), &collection, &plan, 0)?;
+        assert!(rt; told == (want, want), "{cut:?} {workers}");
         assert!(rt; whole.is_empty() || whole == out, "{cut:?} {workers}");
         whole = out;
     }
+    Ok(())
+}
+
+/// Three workers each invert one of three blocks, and wait there until all have begun.
+#[test]
+fn workers_meet(rt: HostRuntime) -> Result<(), Fail> {
+    let collection = Collection::read(rt.alloc(), five_documents())?;
+    let plan = plan_of(Cut::Docs(2), 3)?;
+    let (told, out) = cut_and_built(&rt, rt.alloc(), &collection, &plan, 3)?;
+    assert!(rt; told == (3, 3) && out.as_slice() == five_documents_index());
     Ok(())
 }

@@ -1,6 +1,6 @@
 //! A collection of a real size: a hundred thousand postings and one of more positions than that, terms of 255 bytes,
-//! and a gram of ten thousand terms. It is opened and walked.
-use super::opening::{entries_in, found, push_number, rows_in};
+//! and a gram of ten thousand terms. It is opened and walked. And texts of more than a MiB or with many listed claims.
+use super::opening::{entries_in, found, name_of, push_number, refusal, rows_in};
 use super::sample::words;
 use super::written::push_line;
 use crate::plain::{Entry, check_same, opened, text_of};
@@ -48,18 +48,18 @@ fn entries(alloc: Global) -> Result<Vec<Entry>, Fail> {
         let postings = postings_of(alloc, number)?;
         entries.push(Entry { term, postings })?;
     }
-    entries.push(last_entry(alloc)?)?;
+    entries.push(entry_of(alloc, DOCUMENTS, TOKENS)?)?;
     Ok(entries)
 }
 
-/// The last term, which is each token of the last document.
-fn last_entry(alloc: Global) -> Result<Entry, Fail> {
+/// The term `y`, which is each of so many first tokens of a document.
+fn entry_of(alloc: Global, document: u32, tokens: u32) -> Result<Entry, Fail> {
     let mut positions = Vec::new(alloc);
-    for position in 0..TOKENS {
+    for position in 0..tokens {
         positions.push(position)?;
     }
     let mut postings = Vec::new(alloc);
-    postings.push((DOCUMENTS, positions))?;
+    postings.push((document, positions))?;
     let term = String::from_str(alloc, "y")?;
     Ok(Entry { term, postings })
 }
@@ -154,4 +154,37 @@ fn a_hundred_thousand_postings(rt: HostRuntime) -> Result<(), Fail> {
     let volume = Volume::open_beside(&rt, alloc, text)?;
     let index = volume.index();
     check(&rt, alloc, &index, &entries)
+}
+
+/// The index text of so many documents of so many tokens each, of which the first ones of the first document are `y`.
+fn text_with(alloc: Global, documents: u32, tokens: u32, claimed: u32) -> Result<Vec<u8>, Fail> {
+    let name = "a name";
+    let mut rows = Vec::new(alloc);
+    for _ in 0..documents {
+        rows.push(DocRow { name, tokens })?;
+    }
+    let entries = vec![in alloc; entry_of(alloc, 0, claimed)?]?;
+    Ok(text_of(alloc, b'2', &[], &rows, &entries)?)
+}
+
+/// How many documents of how many tokens, and how many of these are claimed: names of more than a MiB; and more tokens than
+/// marks are made for beside so short a list, so that its claims are listed.
+const LONG: [(u32, u32, u32, usize); 2] = [
+    (150_000, 1, 1, 1_200_077),
+    (1, 1_000_000, 10_500, 10_588),
+];
+
+#[test]
+fn long_texts_are_opened(rt: HostRuntime) -> Result<(), Fail> {
+    let alloc = rt.alloc();
+    for (documents, tokens, claimed, len) in LONG {
+        let text = text_with(alloc, documents, tokens, claimed)?;
+        assert!(rt; text.len() == len, "{documents}");
+        assert_eq!(rt; refusal(alloc, &text)?.as_str(), "opened");
+        let opened = Volume::open(alloc, text.clone()?);
+        assert_eq!(rt; name_of(alloc, opened.err())?.as_str(), "opened");
+        let opened = Volume::open_beside(&rt, alloc, text);
+        assert_eq!(rt; name_of(alloc, opened.err())?.as_str(), "opened");
+    }
+    Ok(())
 }

@@ -144,3 +144,37 @@ fn a_hundred_additions(rt: HostRuntime) -> Result<(), Fail> {
     );
     Ok(())
 }
+
+/// Adds a document more than a thousand times, publishes all of it at once, and then tells the generations, how many numbers a
+/// searcher finds and the last of them, and how many names it gives.
+fn look_late<R: Threads + Wait + Sync>(
+    rt: &R,
+    alloc: Global,
+    indexer: &mut Indexer,
+    mut searchers: Vec<Searcher>,
+) -> Result<String, Fail> {
+    let mut searcher = searchers.pop().ok_or("a searcher")?;
+    for _ in 0..1023 {
+        add(rt, alloc, indexer, FOX)?;
+    }
+    indexer.publish(rt).map_err(|_| "publish")?;
+    let generations = generations(alloc, indexer)?;
+    let query = Query::parse(alloc, "fox", &StopList::empty(alloc))?;
+    let numbers = searcher.answer(&query)?;
+    let names = searcher.names(&numbers)?;
+    let (found, last, named) = (numbers.len(), numbers.last(), names.len());
+    Ok(format!(in alloc; "{generations}; {found} {last:?} {named}")?)
+}
+
+#[test]
+fn a_thousand_additions_at_once(rt: HostRuntime) -> Result<(), Fail> {
+    let alloc = rt.alloc();
+    let (mut indexer, searchers) = live(&rt, alloc, StopList::empty(alloc), 1)?;
+    let told = look_late(&rt, alloc, &mut indexer, searchers);
+    indexer.close(&rt);
+    assert_eq!(rt;
+        told?.as_str(),
+        "9 8 7 6 5 4 3 2 1 0 ; 1023 Some(1022) 1023"
+    );
+    Ok(())
+}

@@ -4,11 +4,11 @@ use super::merged;
 use std::alloc::Global;
 use std::test::Fail;
 
-/// A thousand documents of a few words each: one word that all have, one that each has alone, some that only some have,
+/// A thousand and ten documents of a few words each: one word that all have, one that each has alone, some that only some have,
 /// words that are fronts of one another, and long words that begin alike.
 fn documents(alloc: Global) -> Result<String, Fail> {
     let mut text = String::new(alloc);
-    for number in 0u32..1000 {
+    for number in 0u32..1010 {
         let some = number % 7;
         let few = number % 3;
         let last = if number % 5 == 0 { "a aa" } else { "aab" };
@@ -20,15 +20,15 @@ fn documents(alloc: Global) -> Result<String, Fail> {
     Ok(text)
 }
 
-/// So many blocks of the thousand documents without the word `the`, those of every third block first.
+/// So many blocks of these documents without the word `the`, those of every third block first.
 fn cut(alloc: Global, blocks: u16) -> Result<String, Fail> {
     let blocks = blocks as u32;
     let mut told = String::new(alloc);
     for turn in 0u32..3 {
         for place in 0..blocks {
             if place % 3 == turn {
-                let from = 1000 * place / blocks;
-                let to = 1000 * (place + 1) / blocks;
+                let from = 1010 * place / blocks;
+                let to = 1010 * (place + 1) / blocks;
                 let block = format!(in alloc; "{from}-{to}/the ")?;
                 told.push_str(&block)?;
             }
@@ -42,12 +42,15 @@ fn cut_into_runs(rt: HostRuntime) -> Result<(), Fail> {
     let alloc = rt.alloc();
     let text = documents(alloc)?;
     let mut whole = Vec::new(alloc);
-    for blocks in [1u16, 2, 3, 64, 1000] {
+    for blocks in [1u16, 2, 3, 64, 1010] {
         let (out, outcome) = merged(&rt, alloc, &text, &cut(alloc, blocks)?)?;
         assert!(rt; outcome.as_str() == "Ok" && out.len() > 64, "{blocks}");
         assert!(rt; whole.is_empty() || out == whole, "{blocks}");
         whole = out;
     }
+    let gap = cut(alloc, 1010)?.replace(alloc, "1005-1006/the ", "")?;
+    let (out, outcome) = merged(&rt, alloc, &text, &gap)?;
+    assert!(rt; outcome.as_str() == "Gap(1005)" && out.is_empty());
     Ok(())
 }
 

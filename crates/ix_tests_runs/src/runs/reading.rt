@@ -162,6 +162,23 @@ fn many_short_documents(rt: HostRuntime) -> Result<(), Fail> {
     Ok(())
 }
 
+#[test]
+fn more_than_a_million_documents(rt: HostRuntime) -> Result<(), Fail> {
+    let alloc = rt.alloc();
+    let mut text = bytes_of(alloc, r"PIIXRUN1\0\0\0\0\x41\x42\x0f\0\x80")?;
+    for _ in 0..1_000_001 {
+        text.extend_from_slice(b"\x81a\x80")?;
+    }
+    text.push(0x80)?;
+    let mut again = Vec::new(alloc);
+    expect(
+        "a million",
+        &reread(alloc, text.as_slice(), &mut again)?,
+        "end end",
+    )?;
+    expect_bytes("a million", &again, &text)
+}
+
 /// Documents with long names, whose lists have postings of one position, of two and of several hundred, and codes of one
 /// byte and of two: their run text is longer than 64 KiB.
 fn documents_with_long_names(alloc: Global) -> Result<String, Fail> {
@@ -187,7 +204,7 @@ fn reads_of_each_size(rt: HostRuntime) -> Result<(), Fail> {
     for most in 1..33 {
         expect_in_pieces(alloc, &text, Sizes::Interrupted(most))?;
     }
-    for most in [8191, 16382, 32764, 65531, 65535, 65536, 65537, 65540] {
+    for most in [4097, 8191, 16382, 32764, 65531, 65535, 65536, 65537, 65540] {
         expect_in_pieces(alloc, &text, Sizes::Interrupted(most))?;
     }
     Ok(())
