@@ -58,14 +58,6 @@ fn a_collection_is_asked(rt: HostRuntime) -> Result<(), Fail> {
         &out,
         &Row(1, 0, b"collection 3: NoTab(1)"),
     );
-    let status = ix_ask(rt.alloc(), FIVE, b"x y", b"y", &mut out, &mut found);
-    expect(
-        &rt,
-        status,
-        &found,
-        &out,
-        &Row(1, 0, b"stop 1: NotOneWord(1)"),
-    );
     let status = ix_ask(rt.alloc(), FIVE, b"\xff", b"y", &mut out, &mut found);
     assert_eq!(rt; (status, found.area), (2, 2));
     let status = ix_ask(rt.alloc(), FIVE, b"", b"\xff", &mut out, &mut found);
@@ -80,6 +72,20 @@ fn a_short_buffer_gets_the_front(rt: HostRuntime) -> Result<(), Fail> {
     let status = ix_ask(rt.alloc(), FIVE, b"", b"y", &mut out[..3], &mut found);
     assert_eq!(rt; (status, found.count, found.size), (0, 3, 6));
     assert!(rt; out == *b"a\nb\x07");
+    Ok(())
+}
+
+#[test]
+fn the_error_of_a_stop_text_is_its_own(rt: HostRuntime) -> Result<(), Fail> {
+    let row = Row(1, 0, b"stop 1: NotOneWord(1)");
+    let mut out = [0; 40];
+    let mut found = NOTHING;
+    let status = ix_ask(rt.alloc(), FIVE, b"x y", b"y", &mut out, &mut found);
+    expect(&rt, status, &found, &out, &row);
+    let status = ix_build(rt.alloc(), FIVE, b"x y", &mut out, &mut found);
+    expect(&rt, status, &found, &out, &row);
+    let status = ix_run(rt.alloc(), FIVE, b"x y", 0, &mut out, &mut found);
+    expect(&rt, status, &found, &out, &row);
     Ok(())
 }
 
