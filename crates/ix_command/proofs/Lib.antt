@@ -1,6 +1,7 @@
 pub mod BuildLemmas
 pub mod Doing
 pub mod FileLemmas
+pub mod LineLemmas
 pub mod IndexLemmas
 pub mod MergedFileLemmas
 pub mod RunFileLemmas

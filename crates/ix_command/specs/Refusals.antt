@@ -3,6 +3,7 @@ use Rattle.std.specs.Prelude.{◌≡◌, ℕ, ◌⊎◌, ◌/◌, ◌%◌, [], �
 use Rattle.std.specs.Char.{digit_char, is_control}
 use Rattle.std.specs.Str.{chars}
 use Rattle.clap.specs.Walk.{Text}
+use Rattle.std.specs.Io.KnownBytes.{Appends}
 use Rattle.ix_output.specs.Sinks.{AppendsFront}
 use Rattle.ix_ask.specs.declared.ask_error.AskError.{AskError}
 use Rattle.ix_ask.specs.declared.ask_error.AskError.TheVariants as asking
@@ -107,9 +108,13 @@ shown_char c =
 unfoldable pub shown : Text → Text
 shown text = flat_map shown_char (chars text)
 
+-- the line of a text
+abbrev pub line_with : Text → Text
+line_with text = codes "ix: " ++ (shown text ++ 10 ∷ [])
+
 -- the line of the refusal, where its text is stated
 abbrev pub IsLineOf : Refusal → Text → Type 0
-IsLineOf told line = IfSome (text_of told) (λ text. line ≡ codes "ix: " ++ (shown text ++ 10 ∷ []))
+IsLineOf told line = IfSome (text_of told) (λ text. line ≡ line_with text)
 
 -- the error output gained the line of this refusal, or a beginning of it where a write was refused
 pub record GainsLine (told : Refusal) (old new : Option Text) : Type 0 where
@@ -121,6 +126,17 @@ pub record GainsLine (told : Refusal) (old new : Option Text) : Type 0 where
 abbrev pub out_of_memory_line : Text
 out_of_memory_line = codes "ix: memory 1: Memory" ++ 10 ∷ []
 
--- The refusal was told; where there is no memory for its line, it is told as want of memory.
+-- the line of the refusal needs memory: that of a file, and that of words, do not
+abbrev pub NeedsMemory : Refusal → Type 0
+NeedsMemory (refusal.Engine error) = Unit {0}
+NeedsMemory (refusal.Script error) = Unit {0}
+NeedsMemory (refusal.Live error) = Unit {0}
+NeedsMemory _ = ⊥
+
+-- The refusal was told; if its line needs memory, and there is none, it is told as out of memory.
 abbrev pub IsTold : Refusal → Option Text → Option Text → Type 0
-IsTold told old new = GainsLine told old new ⊎ AppendsFront old new out_of_memory_line
+IsTold told old new = GainsLine told old new ⊎ (NeedsMemory told × AppendsFront old new out_of_memory_line)
+
+-- the same, and the whole line is out
+abbrev pub IsToldWhole : Refusal → Option Text → Option Text → Type 0
+IsToldWhole told old new = ((line : Text) × IsLineOf told line × Appends old new line) ⊎ (NeedsMemory told × Appends old new out_of_memory_line)

@@ -1,12 +1,13 @@
 //! Telling a refusal: one line on the error output, whatever is in it.
 
-ghost use Rattle.std.specs.Prelude.{◌≡◌, ◌⊎◌, ◌∷◌, [], ◌++◌, ◌<◌, IfOk, OnOk, string_bytes};
+ghost use Rattle.std.specs.Prelude.{◌≡◌, ◌<◌, ◌++◌, true, OnErr, OnOk, encode_utf8};
 ghost use Rattle.std.specs.Char.{is_control, digit_char};
+ghost use Rattle.std.specs.Io.KnownBytes.{Appends};
 ghost use Rattle.ix_output.specs.Sinks.{AppendsFront};
-ghost use Rattle.ix_command.specs.Refusals.{IsLineOf, IsTold, shown, shown_char};
+ghost use Rattle.ix_command.specs.Refusals.{IsTold, IsToldWhole, NeedsMemory, line_with, shown, shown_char};
 
 use crate::refusal::Refusal;
-use ix_output::{flush, put_all};
+use ix_output::{WriteError, flush, put_all};
 use std::alloc::{AllocError, Global};
 use std::io::Write;
 
@@ -14,66 +15,120 @@ use std::io::Write;
 const REFUSED: u8 = 2;
 
 /// The line of want of memory.
-const OUT_OF_MEMORY: &str = "ix: memory 1: Memory\n";
+const OUT_OF_MEMORY: &[u8] = b"ix: memory 1: Memory\n";
 
-/// Prints the line of the refusal on the error output, and answers the exit status. Where there is
-/// no memory for the line, it is that of `Memory`.
+/// Prints the line of the refusal on the error output, and answers the exit status. The line of a file needs no memory; if
+/// there is none for that of another refusal, it is that of `Memory`.
 pub fn refuse<E: Write>(alloc: Global, err: &mut E, refusal: &Refusal<'_>) -> u8
     ensures status { result ≡ 2 }
     ensures told { IsTold refusal.now (E.contents err.old) (E.contents err.new) }
 {
-    match line_of(alloc, refusal) {
-        Ok(line) => tell(err, line.as_str()),
-        Err(AllocError) => tell(err, OUT_OF_MEMORY),
-    }
+    let _ = tell(alloc, err, refusal);
+    let _ = flush(err);
     REFUSED
 }
 
-/// Writes a line, as far as it can be written.
-fn tell<E: Write>(err: &mut E, line: &str)
-    ensures { AppendsFront (E.contents err.old) (E.contents err.new) line.now }
+/// Writes the line of a refusal.
+fn tell<E: Write>(alloc: Global, err: &mut E, refusal: &Refusal<'_>) -> Result<(), WriteError>
+    ensures whole { OnOk result
+        (IsToldWhole refusal.now (E.contents err.old) (E.contents err.new)) }
+    ensures front { OnErr result (IsTold refusal.now (E.contents err.old) (E.contents err.new)) }
 {
-    let _ = put_all(err, line.as_bytes());
-    let _ = flush(err);
+    match refusal {
+        Refusal::Arguments => put_line(err, "arguments refused", "", ""),
+        Refusal::Read(path) => put_line(err, "file 1: Read(", path, ")"),
+        Refusal::ReadAdded(path) => put_line(err, "file 1: Read(", path.as_str(), ")"),
+        Refusal::Write(path) => put_line(err, "file 2: Write(", path, ")"),
+        Refusal::NotUtf8(path) => put_line(err, "file 3: NotUtf8(", path, ")"),
+        Refusal::Same(path) => put_line(err, "file 4: Same(", path, ")"),
+        Refusal::Locked(path) => put_line(err, "file 5: Locked(", path.as_str(), ")"),
+        Refusal::Engine(_) => tell_made(alloc, err, refusal),
+        Refusal::Script(_) => tell_made(alloc, err, refusal),
+        Refusal::Live(_) => tell_made(alloc, err, refusal),
+    }
 }
 
-/// The line of a refusal, with its control characters shown.
-fn line_of(alloc: Global, refusal: &Refusal<'_>) -> Result<String, AllocError>
-    ensures { IfOk result (λ line. IsLineOf refusal.now (string_bytes line)) }
+/// Writes the line of a refusal of which the text is made in memory.
+fn tell_made<E: Write>(alloc: Global, err: &mut E, refusal: &Refusal<'_>) -> Result<(), WriteError>
+    requires { NeedsMemory refusal.now }
+    ensures whole { OnOk result
+        (IsToldWhole refusal.now (E.contents err.old) (E.contents err.new)) }
+    ensures front { OnErr result (IsTold refusal.now (E.contents err.old) (E.contents err.new)) }
 {
-    let text = format!(in alloc; "{refusal}")?;
-    let mut line = String::from_str(alloc, "ix: ")?;
-    push_shown(&mut line, text.as_str())?;
-    line.push('\n')?;
-    Ok(line)
+    match format!(in alloc; "{refusal}") {
+        Ok(text) => put_line(err, text.as_str(), "", ""),
+        Err(AllocError) => put_all(err, OUT_OF_MEMORY),
+    }
 }
 
-/// Adds a text with its control characters shown.
-fn push_shown(line: &mut String, text: &str) -> Result<(), AllocError>
-    ensures { OnOk result (string_bytes line.new ≡ string_bytes line.old ++ shown text.now) }
+/// Writes the line of a text, which is these three one after another.
+fn put_line<E: Write>(err: &mut E, head: &str, path: &str, tail: &str) -> Result<(), WriteError>
+    ensures whole { OnOk result (Appends (E.contents err.old) (E.contents err.new)
+        (line_with (head.now ++ path.now ++ tail.now))) }
+    ensures front { OnErr result (AppendsFront (E.contents err.old) (E.contents err.new)
+        (line_with (head.now ++ path.now ++ tail.now))) }
 {
+    put_all(err, b"ix: ")?;
+    put_shown(err, head)?;
+    put_shown(err, path)?;
+    put_shown(err, tail)?;
+    put_all(err, b"\n")
+}
+
+/// Writes a text with its control characters shown; one without them in one piece.
+fn put_shown<E: Write>(err: &mut E, text: &str) -> Result<(), WriteError>
+    ensures whole { OnOk result
+        (Appends (E.contents err.old) (E.contents err.new) (shown text.now)) }
+    ensures front { OnErr result
+        (AppendsFront (E.contents err.old) (E.contents err.new) (shown text.now)) }
+{
+    if shows_itself(text) {
+        return put_all(err, text.as_bytes());
+    }
     for c in text.chars() {
-        push_char(line, c)?;
+        put_char(err, c)?;
     }
     Ok(())
 }
 
-/// Adds a character; a control character as `\x` and two hexadecimal digits.
-fn push_char(line: &mut String, c: char) -> Result<(), AllocError>
-    ensures { OnOk result (string_bytes line.new ≡ string_bytes line.old ++ shown_char c) }
+/// Whether no character is a control character.
+fn shows_itself(text: &str) -> bool
+    ensures { result ≡ true → shown text.now ≡ text.now }
 {
-    if !c.is_control() {
-        return line.push(c);
+    for c in text.chars() {
+        if c.is_control() {
+            return false;
+        }
     }
-    let code = c as u32;
-    line.push_str("\\x")?;
-    line.push(hex_digit(code / 16))?;
-    line.push(hex_digit(code % 16))
+    true
 }
 
-fn hex_digit(digit: u32) -> char
-    requires { digit < 16 }
-    ensures { result ≡ digit_char digit }
+/// Writes a character; a control character as `\x` and two hexadecimal digits.
+fn put_char<E: Write>(err: &mut E, c: char) -> Result<(), WriteError>
+    ensures whole { OnOk result
+        (Appends (E.contents err.old) (E.contents err.new) (shown_char c)) }
+    ensures front { OnErr result
+        (AppendsFront (E.contents err.old) (E.contents err.new) (shown_char c)) }
 {
-    char::from_digit(digit, 16).unwrap()
+    let mut bytes = [0; 4];
+    if !c.is_control() {
+        return put_all(err, c.encode_utf8(&mut bytes).as_bytes());
+    }
+    let code = c as u32;
+    put_all(err, b"\\x")?;
+    put_digit(err, code / 16)?;
+    put_digit(err, code % 16)
+}
+
+/// Writes a hexadecimal digit.
+fn put_digit<E: Write>(err: &mut E, digit: u32) -> Result<(), WriteError>
+    requires { digit < 16 }
+    ensures whole { OnOk result
+        (Appends (E.contents err.old) (E.contents err.new) (encode_utf8 (digit_char digit))) }
+    ensures front { OnErr result
+        (AppendsFront (E.contents err.old) (E.contents err.new) (encode_utf8 (digit_char digit))) }
+{
+    let mut bytes = [0; 4];
+    let c = char::from_digit(digit, 16).unwrap();
+    put_all(err, c.encode_utf8(&mut bytes).as_bytes())
 }

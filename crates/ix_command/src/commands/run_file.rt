@@ -1,10 +1,11 @@
 //! `ix run`: inverts a collection file into a run file.
 
-ghost use Rattle.std.specs.Prelude.{◌⊎◌, IfOk, IfErr, OnErr, OnOk};
-ghost use Rattle.std.specs.Io.KnownBytes.{Appends};
+ghost use Rattle.std.specs.Prelude.{◌≡◌, ◌⊎◌, Err, IfOk, IfErr, OnErr, OnOk};
+ghost use Rattle.std.specs.Io.KnownBytes.{Appends, Keeps};
 ghost use Rattle.ix_run.specs.Runs.{run_bytes};
 ghost use Rattle.ix_files.specs.Outputs.{LeavesOthers, LeavesTarget, now_in, saved_in};
 ghost use Rattle.ix_files.specs.Reading.{held_in};
+ghost use Rattle.ix_files.specs.declared.file_error.FileError.TheVariants as file_error;
 ghost use Rattle.ix_command.specs.Refusals.{IsUnsaved};
 ghost use Rattle.ix_command.specs.WrittenRuns.{HasRun, IsRunRefused, IsRunSaved, RefusesRun};
 
@@ -97,10 +98,12 @@ fn save<'a, F: Files>(
     end(files, path, output, written)
 }
 
-/// Writes the text of a run.
+/// Writes the text of a run. If it is out of memory, nothing is written.
 fn put_run<W: Write>(alloc: Global, writer: &mut W, run: &Run) -> Result<(), FileError>
-    ensures { OnOk result
+    ensures written { OnOk result
         (Appends (W.contents writer.old) (W.contents writer.new) (run_bytes run.now)) }
+    ensures memory { result ≡ Err file_error.Memory
+        → Keeps (W.contents writer.old) (W.contents writer.new) }
 {
     let mut text = Vec::new(alloc);
     if run.write_to(&mut text).is_err() {
