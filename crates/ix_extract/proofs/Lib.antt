@@ -1,5 +1,6 @@
 pub mod AssembleLemmas
 pub mod ChosenLemmas
+pub mod ErrorLemmas
 pub mod FrameLemmas
 pub mod HeldLemmas
 pub mod ListLemmas

@@ -1,5 +1,5 @@
 -- What is put together of an index text is an index text of the collection with fewer terms.
-use Rattle.std.proofs.Common.{◌≡◌, ℕ, ◌+◌, ◌^◌, ◌<◌, ◌≤◌, Bool, true, List, [], ◌∷◌, inl, inr, Option, Some, length, All, refl, sym, ap, ◌∙◌, subst, arith}
+use Rattle.std.proofs.Common.{◌≡◌, ℕ, ◌+◌, ◌^◌, ◌<◌, ◌≤◌, Bool, true, List, [], ◌∷◌, inl, inr, ◌⊎◌, Option, Some, length, All, refl, sym, ap, ◌∙◌, subst, arith}
 use Rattle.std.proofs.lemmas.List.{length-map}
 use Rattle.std.proofs.lemmas.List.Elements.{All-cons, All-head, All-tail}
 use Rattle.ix_text.specs.Collections.{Collection}
@@ -19,6 +19,10 @@ use Rattle.ix_lookup.specs.Versions.{version_in}
 use Rattle.ix_lookup.proofs.EntryLemmas.{finds_entries, of_entries}
 use Rattle.ix_projection.specs.Kept.{Test, kept_collection, kept_entries, kept_parts}
 use Rattle.ix_projection.proofs.KeptParts.{index_text_kept}
+use Rattle.ix_lookup.specs.declared.lookup_error.LookupError.{LookupError}
+use Rattle.ix_lookup.specs.declared.lookup_error.LookupError.TheVariants as lookup
+use Rattle.ix_extract.specs.ExtractErrors.{error_of_lookup}
+use Rattle.ix_extract.specs.declared.extract_error.ExtractError.TheVariants.{Malformed}
 use Rattle.ix_extract.specs.Assembled.{texts_of, found_dictionary}
 use Rattle.ix_extract.specs.FoundTexts.{found_texts}
 use Rattle.ix_extract.specs.Framed.{HasNoFrame, IsFramed, IsHeldIn, IsHeldOf}
@@ -66,6 +70,12 @@ of_dictionary contents version collection held has is P p =
 pub no_dictionary : (contents : Option (List ℕ)) (held : Held) → IsHeldIn contents held → IsNoDictionary (version_in held.trailer.version) held.dictionary.items held.trailer.terms held.trailer.postings → IsOfNone contents
 no_dictionary contents held is none version collection has =
     of_dictionary contents version collection held has is IsNoDictionary none _ (of_entries version collection has.text.parts has.text.lawful has.text.of_collection)
+
+-- a look-up that failed
+pub lookup_refused : (contents : Option (List ℕ)) (held : Held) (error : LookupError) → IsHeldIn contents held
+    → (error ≡ lookup.Memory) ⊎ IsNoDictionary (version_in held.trailer.version) held.dictionary.items held.trailer.terms held.trailer.postings → error_of_lookup error ≡ Malformed → IsOfNone contents
+lookup_refused contents held error is (inl memory) malformed = let clash : error_of_lookup lookup.Memory ≡ Malformed = sym (ap error_of_lookup memory) ∙ malformed in absurd (cc)
+lookup_refused contents held error is (inr none) malformed = no_dictionary contents held is none
 
 -- the terms that were found are entries
 pub entries_found : (contents : Option (List ℕ)) (version : Version) (collection : Collection) (held : Held) (has : HasIndexText contents version collection) → IsHeldIn contents held → (wants : List ℕ → Type 0) (found : List FoundTerm)
@@ -139,3 +149,8 @@ projected contents version collection held wants found sections bytes has is are
       wanted = λ term number position posting wanted.
           (among_found found term).1 (wanted_found wants lists parts.entries found term entries (has.text.of_collection.vocabulary.complete term number position posting) wanted);
     }
+
+-- a projection for more terms is one for fewer
+pub wants_fewer : (collection : Collection) (wants asked : List ℕ → Type 0) (bytes : List ℕ) → ((term : List ℕ) → asked term → wants term) → IsProjection collection wants bytes → IsProjection collection asked bytes
+wants_fewer collection wants asked bytes within is =
+    record { keeps = is.keeps; text = is.text; wanted = λ term number position posting asks. is.wanted term number position posting (within term asks) }
