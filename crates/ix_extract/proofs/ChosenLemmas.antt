@@ -1,6 +1,6 @@
 -- Terms that were found are the kept entries, for the test whether a term was found.
-use Rattle.std.proofs.Common.{◌≡◌, ℕ, ◌+◌, ◌-◌, ◌≤◌, ◌↔◌, Bool, true, false, cond, List, [], ◌∷◌, ◌++◌, inl, inr, map, flat_map, length, take, drop, get_or, All, Contains, slice_range, string_bytes, refl, sym, ap, ap₂, ◌∙◌, subst, arith, length-append}
-use Rattle.std.proofs.lemmas.List.{length-map, length-take-le, length-drop}
+use Rattle.std.proofs.Common.{◌≡◌, ℕ, ◌+◌, ◌-◌, ◌≤◌, ◌↔◌, Bool, true, false, cond, List, [], ◌∷◌, ◌++◌, inl, inr, flat_map, length, drop, get_or, All, Contains, slice_range, string_bytes, refl, sym, ap, ap₂, ◌∙◌, subst, arith}
+use Rattle.std.proofs.lemmas.List.{length-take-le, length-drop}
 use Rattle.std.proofs.lemmas.List.Elements.{All-contains, All-cons, All-head, All-tail, Contains-get_or}
 use Rattle.ix_text.specs.Parts.{DictionaryEntry, terms_of}
 use Rattle.ix_text.specs.TokenLists.{is_stop_term}
@@ -66,8 +66,7 @@ among_found found term =
 pub keeps_wanted : (wants : List ℕ → Type 0) (postings : List ℕ) (entries : List DictionaryEntry) (found : List FoundTerm) → AreFoundEntries wants postings entries found → All (λ entry. (among found entry.term ≡ true) ↔ wants entry.term) entries
 keeps_wanted wants postings entries found are = λ k d h.
     let entry = get_or entries k d in
-    let here = contains_map (λ (e : DictionaryEntry). e.term) entries entry (Contains-get_or entries k d h) in
-    (
+    let here = contains_map (λ (e : DictionaryEntry). e.term) entries entry (Contains-get_or entries k d h) in (
       λ kept. All-contains wants (found_texts found) entry.term (found_wanted wants postings entries found are) ((among_found found entry.term).0 kept),
       λ wanted. (among_found found entry.term).1 (wanted_found wants postings entries found entry.term are here wanted),
     )

@@ -1,12 +1,10 @@
 -- What is read of a frame by its trailer.
-use Rattle.std.proofs.Common.{◌≡◌, ℕ, ◌+◌, ◌-◌, ◌^◌, ◌<◌, List, ◌++◌, Option, Some, length, take, drop, sym, ap, ap₂, ◌∙◌, arith}
-use Rattle.ix_index_text.specs.IndexText.{end_mark}
+use Rattle.std.proofs.Common.{◌≡◌, ℕ, ◌+◌, ◌-◌, ◌^◌, ◌<◌, List, Option, Some, length, take, drop, ap, ap₂, ◌∙◌, arith}
 use Rattle.ix_index_text.specs.Sections.{Version}
-use Rattle.ix_file.specs.Frames.{FileSectionTexts, counts, framed, joined_sections, lengths}
+use Rattle.ix_file.specs.Frames.{FileSectionTexts, framed, joined_sections}
 use Rattle.ix_extract.specs.Framed.{HasNoFrame, IsFramed, IsHeldIn}
 use Rattle.ix_extract.specs.Trailers.{IsTrailerOf}
 use Rattle.ix_extract.specs.declared.held.Held.{Held}
-use Rattle.ix_extract.specs.declared.trailer.Trailer.{Trailer}
 use Rattle.ix_extract.proofs.FrameLemmas.{ranges, trailer_of}
 
 module _ (contents : Option (List ℕ)) where

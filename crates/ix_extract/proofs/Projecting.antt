@@ -1,36 +1,36 @@
 -- What is put together of an index text is an index text of the collection with fewer terms.
-use Rattle.std.proofs.Common.{◌≡◌, ℕ, ◌+◌, ◌^◌, ◌<◌, ◌≤◌, Bool, true, List, [], ◌∷◌, inl, inr, ◌⊎◌, Option, Some, length, All, refl, sym, ap, ◌∙◌, subst, arith}
+use Rattle.std.proofs.Common.{◌≡◌, ℕ, ◌+◌, ◌≤◌, List, [], ◌∷◌, inl, inr, ◌⊎◌, Option, Some, length, All, sym, ap, ◌∙◌, subst, arith}
 use Rattle.std.proofs.lemmas.List.{length-map}
 use Rattle.std.proofs.lemmas.List.Elements.{All-cons, All-head, All-tail}
 use Rattle.ix_text.specs.Collections.{Collection}
-use Rattle.ix_text.specs.Parts.{DictionaryEntry, GramEntry, Parts, terms_of}
+use Rattle.ix_text.specs.Parts.{DictionaryEntry}
 use Rattle.ix_index_text.specs.Grams.{AppendsGrams, AreGramsOfTerms}
-use Rattle.ix_index_text.specs.IndexText.{IsIndexText, layout}
-use Rattle.ix_index_text.specs.Sections.{Version, Plain, grams_section, postings_section, dictionary_section}
+use Rattle.ix_index_text.specs.IndexText.{IsIndexText}
+use Rattle.ix_index_text.specs.Sections.{Version, Plain, postings_section, dictionary_section}
 use Rattle.ix_index_text.proofs.SectionSizes.{AreSmall, few_entries, small_entries, small_parts}
 use Rattle.ix_file.specs.Frames.{FileSectionTexts, framed}
 use Rattle.ix_file.specs.Spelled.{AreSectionsOf, sections_of}
 use Rattle.ix_file.proofs.Framing.{layout_framed, sections_framed}
 use Rattle.ix_lookup.specs.FoundEntries.{AreFoundEntries}
 use Rattle.ix_lookup.specs.FoundTerms.{AreFoundIn}
-use Rattle.ix_lookup.specs.Listed.{IsOfListings, IsOfNone as IsNoDictionary}
+use Rattle.ix_lookup.specs.Listed.{IsOfNone as IsNoDictionary}
 use Rattle.ix_lookup.specs.declared.found_term.FoundTerm.{FoundTerm}
 use Rattle.ix_lookup.specs.Versions.{version_in}
 use Rattle.ix_lookup.proofs.EntryLemmas.{finds_entries, of_entries}
-use Rattle.ix_projection.specs.Kept.{Test, kept_collection, kept_entries, kept_parts}
+use Rattle.ix_projection.specs.Kept.{kept_collection, kept_entries, kept_parts}
 use Rattle.ix_projection.proofs.KeptParts.{index_text_kept}
 use Rattle.ix_lookup.specs.declared.lookup_error.LookupError.{LookupError}
 use Rattle.ix_lookup.specs.declared.lookup_error.LookupError.TheVariants as lookup
 use Rattle.ix_extract.specs.ExtractErrors.{error_of_lookup}
 use Rattle.ix_extract.specs.declared.extract_error.ExtractError.TheVariants.{Malformed}
-use Rattle.ix_extract.specs.Assembled.{texts_of, found_dictionary}
+use Rattle.ix_extract.specs.Assembled.{texts_of}
 use Rattle.ix_extract.specs.FoundTexts.{found_texts}
 use Rattle.ix_extract.specs.Framed.{HasNoFrame, IsFramed, IsHeldIn, IsHeldOf}
 use Rattle.ix_extract.specs.Gathered.{lists_at}
 use Rattle.ix_extract.specs.Projections.{HasIndexText, IsOfNone, IsProjection}
 use Rattle.ix_extract.specs.declared.assemble.RawSections.{RawSections}
 use Rattle.ix_extract.specs.declared.held.Held.{Held}
-use Rattle.ix_extract.proofs.ChosenLemmas.{AreChosen, IsWithin, among, are_chosen, keeps_wanted, found_lists, found_wanted, wanted_found, among_found, text_of}
+use Rattle.ix_extract.proofs.ChosenLemmas.{IsWithin, among, are_chosen, keeps_wanted, wanted_found, among_found, text_of}
 use Rattle.ix_extract.proofs.FrameLemmas.{lists_in}
 
 -- the frame of an index text

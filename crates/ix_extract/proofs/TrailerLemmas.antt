@@ -1,11 +1,11 @@
 -- The trailer tells the sizes of the sections.
-use Rattle.std.proofs.Common.{◌≡◌, ℕ, ◌+◌, ◌^◌, ◌<◌, ◌≤◌, List, [], ◌++◌, length, take, drop, get_or, refl, sym, ap, ◌∙◌, arith, length-append, take-append-drop}
+use Rattle.std.proofs.Common.{◌≡◌, ℕ, ◌+◌, ◌^◌, ◌<◌, List, [], ◌++◌, length, take, drop, get_or, refl, sym, ap, ◌∙◌, arith, length-append, take-append-drop}
 use Rattle.std.proofs.lemmas.List.{append-nil}
 use Rattle.ix_vbyte.proofs.Pieces.{fronts_apart}
 use Rattle.ix_index_text.specs.IndexText.{end_mark}
 use Rattle.ix_index_text.specs.Sections.{Version, Plain, FrontCoded}
 use Rattle.ix_file.specs.Frames.{FileSectionTexts, counts, eight, four, joined_sections, lengths}
-use Rattle.ix_file.proofs.FrameReading.{eight_apart, four_apart, length-eight, length-four, length-lengths}
+use Rattle.ix_file.proofs.FrameReading.{eight_apart, four_apart, length-four, length-lengths}
 use Rattle.ix_extract.specs.Trailers.{AreSmall, sizes_bytes, sum_of}
 use Rattle.ix_extract.specs.declared.trailer.Sizes.{Sizes}
 

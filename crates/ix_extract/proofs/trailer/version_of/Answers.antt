@@ -1,6 +1,6 @@
 use Rattle.std.proofs.Common.{sym, ◌∙◌}
 use Rattle.ix_index_text.specs.IndexText.{end_mark}
-use Rattle.ix_index_text.specs.Sections.{Version, Plain, FrontCoded}
+use Rattle.ix_index_text.specs.Sections.{Plain, FrontCoded}
 use Rattle.ix_file.proofs.FrameReading.{same_mark}
 use Rattle.ix_extract.proofs.TrailerLemmas.{no_end_mark, one_end_mark}
 use Rattle.ix_extract.proofs.trailer.version_of.Goals as goal
