@@ -1,7 +1,7 @@
 //! The answer to a question.
 
 ghost use Rattle.std.specs.Prelude.{◌≡◌, IfOk, IfErr};
-ghost use Rattle.ix_text.specs.Collections.{Collection};
+ghost use Rattle.ix_text.specs.Collections.{Collection, IsLawful};
 ghost use Rattle.ix_index_text.specs.Sections.{Version as FormatVersion};
 ghost use Rattle.ix_query.specs.Scans.{IsScan};
 ghost use Rattle.ix_projection.specs.Asked.{AsksAbout};
@@ -20,7 +20,7 @@ use ix_query_text::Query;
 use std::alloc::Global;
 
 /// The numbers of the documents that satisfy a query, ascending, if the source has an index text of a collection: those
-/// that a scan of the collection finds. If it has not, whatever is returned.
+/// that a scan of the collection finds. Whatever the source has, an answer is the scan of some lawful collection.
 ///
 /// # Errors
 /// `Memory`; `Read` if a read failed; `Malformed` if the source has the index text of no collection.
@@ -33,6 +33,8 @@ pub fn answer_trusting<S: Source, G: GramsWriter>(
     ensures scan { (version : FormatVersion) (collection : Collection)
         → HasIndexText (S.contents source.now) version collection
         → IfOk result (λ numbers. IsScan collection query.now numbers.items) }
+    ensures lawful { IfOk result (λ numbers. (collection : Collection)
+        × IsLawful collection × IsScan collection query.now numbers.items) }
     ensures refused { IfErr result (λ error. error ≡ Malformed
         → IsOfNone (S.contents source.now)) }
 {
@@ -50,6 +52,8 @@ fn answer_projected(alloc: Global, text: &[u8], query: &Query) -> Result<Vec<u32
     ensures scan { (collection : Collection)
         → IsProjection collection (λ term. AsksAbout term query.now) text.now
         → IfOk result (λ numbers. IsScan collection query.now numbers.items) }
+    ensures lawful { IfOk result (λ numbers. (collection : Collection)
+        × IsLawful collection × IsScan collection query.now numbers.items) }
     ensures refused { IfErr result (λ error. error ≡ Malformed
         → (collection : Collection)
         → ¬ (IsProjection collection (λ term. AsksAbout term query.now) text.now)) }

@@ -22,7 +22,7 @@ fn slices_are_read_by_ranges(rt: HostRuntime) -> Result<(), Fail> {
     let source = Slice { bytes: b"abcdef" };
     assert!(rt; source.size()? == 6);
     let read = source.read(rt.alloc(), 2, 3)?;
-    assert!(rt; read.as_slice() == b"cde");
+    assert!(rt; read.as_slice() == b"cde".as_slice());
     let read = source.read(rt.alloc(), 6, 0)?;
     assert!(rt; read.is_empty());
     for (start, size) in [(7, 0), (2, 5), (usize::MAX, 1), (1, usize::MAX)] {

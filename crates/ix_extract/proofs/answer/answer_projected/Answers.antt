@@ -14,3 +14,8 @@ pub returns-clause-scan : goal.returns-clause-scan
 returns-clause-scan c = λ collection has.
     answered c.args.query.now collection c.args.text.now c.in_ok-numbers.numbers.items c.in-Ok.index (subst ScansAlike c.tree.ensures.same c.scans_alike.ensures) has
     (c.in-Ok.ensures.exact Plain (kept_collection has.keeps collection) has.text) c.in_ok-numbers.ensures.scan
+
+pub returns-clause-lawful : goal.returns-clause-lawful
+returns-clause-lawful c =
+    let found = c.in-Ok.ensures.found in
+    (found.0, found.2.lawful, c.in_ok-numbers.ensures.scan c.in-Ok.index.version found.0 found.1)

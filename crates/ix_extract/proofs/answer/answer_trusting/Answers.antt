@@ -21,3 +21,6 @@ returns-clause-refused g c =
     let projection = wants_fewer collection _ (λ term. AsksAbout term c.args.query.now) c.in_ok-text.text.items
     (λ term asks. (c.new-matcher.ensures.wanted term).1 ((term, refl), subst (AsksAbout term) (sym c.tree.ensures.same) asks)) (c.in_ok-text.ensures.projected version collection has) in
     refused is collection (subst (IsProjection collection (λ term. AsksAbout term c.args.query.now)) (sym c.as_slice.ensures.value) projection)) c.answer_projected.ensures.refused
+
+pub returns-clause-lawful : goal.returns-clause-lawful
+returns-clause-lawful g c = c.answer_projected.ensures.lawful
