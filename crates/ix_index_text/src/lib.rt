@@ -27,3 +27,4 @@ pub use row::DocRow;
 pub use sections::WriterSections;
 pub use windows::{Gram, GramPair, Windows, windows_of};
 pub use writer::IndexWriter;
+pub use writer::grams::Grams;
