@@ -4,3 +4,4 @@ pub mod HeadlineLemmas
 pub mod ListingLemmas
 pub mod MergingLemmas
 pub mod NameLemmas
+mod TrustLemmas

@@ -36,7 +36,7 @@ contains_cases x xs y (suc k, low, is) = inr (k, omega arith, is)
 contains_none : {A : Type 0} (y : A) → ¬ (Contains [] y)
 contains_none y (k, low, is) = omega arith
 
-contains_map : {A B : Type 0} (f : A → B) (xs : List A) (x : A) → Contains xs x → Contains (map f xs) (f x)
+pub contains_map : {A B : Type 0} (f : A → B) (xs : List A) (x : A) → Contains xs x → Contains (map f xs) (f x)
 contains_map f [] x has = absurd (contains_none x has)
 contains_map f (y ∷ xs) x has =
     elim (contains_cases y xs x has) [

@@ -1,5 +1,6 @@
-//! Asking: a collection text or an opened index is asked, and the names of the documents that answer, or the terms that
-//! match, are written as lines. Each refusal of the engine is told in an area, with its number there.
+//! Questions to a collection text, to an opened index, or to the bytes of an index text that nobody has checked: the
+//! names of the documents that satisfy a query, or the terms that match a pattern, are written as lines. Each error of the
+//! engine has an area, and a number there.
 #![tactic(auto)]
 
 mod alone;
@@ -13,6 +14,8 @@ mod names;
 mod output;
 mod refusal;
 mod search_index;
+mod trust_error;
+mod trusting;
 
 pub use alone::{ask_alone, index_alone};
 pub use ask_collection::ask;
@@ -25,3 +28,7 @@ pub use names::list_names;
 pub use output::Lines;
 pub use refusal::{Area, EngineRefusal};
 pub use search_index::{find_names, search};
+pub use trust_error::TrustError;
+pub use trusting::{
+    find_names_trusting, find_terms_trusting, list_terms_trusting, search_trusting,
+};

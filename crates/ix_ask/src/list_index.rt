@@ -4,6 +4,7 @@ ghost use Rattle.std.specs.Prelude.{IfOk, IfErr, OnOk};
 ghost use Rattle.ix_text.specs.Collections.{Collection};
 ghost use Rattle.ix_file.specs.Opened.{IsIndexOf};
 ghost use Rattle.ix_file.specs.Sections.{Version};
+ghost use Rattle.ix_gram.specs.Patterns.{HasPiece, HasStar, pieces_of};
 ghost use Rattle.ix_ask.specs.Listing.{IsListed, IsPrinted, LeavesListing, RefusesPattern};
 ghost use Rattle.ix_ask.specs.Listing.{picked, row_line, row_lines, term_rows};
 
@@ -46,15 +47,25 @@ pub fn find_terms(alloc: Global, index: &Index<'_>, pattern: &str) -> Result<Lin
         → IsListed collection pattern.now rows.bytes.items rows.count) }
     ensures refused { IfErr result (RefusesPattern pattern.now) }
 {
-    let pieces = match Pattern::read(alloc, pattern) {
-        Ok(pieces) => pieces,
-        Err(error) => return Err(AskError::Pattern(error)),
-    };
+    let pieces = read_pattern(alloc, pattern)?;
     let numbers = expand(alloc, index, &pieces)?;
     let text = term_lines_in(alloc, index, &numbers)?;
     let count = numbers.len();
     let bytes = text.into_bytes();
     Ok(Lines { bytes, count })
+}
+
+/// The pattern that a text is.
+pub(crate) fn read_pattern(alloc: Global, text: &str) -> Result<Pattern, AskError>
+    ensures pieces { IfOk result (λ pattern. pattern ≡ pieces_of text.now) }
+    ensures with_star { OnOk result (HasStar text.now) }
+    ensures with_piece { OnOk result (HasPiece text.now) }
+    ensures refused { IfErr result (RefusesPattern text.now) }
+{
+    match Pattern::read(alloc, text) {
+        Ok(pattern) => Ok(pattern),
+        Err(error) => Err(AskError::Pattern(error)),
+    }
 }
 
 /// The lines of the terms of an index that have these numbers.

@@ -3,6 +3,10 @@ ghost use Rattle.std.specs.Prelude.{◌≡◌, ◌<◌, IfOk, IfErr};
 ghost use Rattle.ix_text.specs.Collections.{Collection};
 ghost use Rattle.ix_file.specs.Opened.{IsIndexOf};
 ghost use Rattle.ix_file.specs.Sections.{Version};
+ghost use Rattle.ix_projection.specs.Asked.{KeepsAsked};
+ghost use Rattle.ix_projection.specs.Kept.{Test, kept_collection};
+ghost use Rattle.ix_query.specs.Grammar.{Reads};
+ghost use Rattle.ix_query_text.specs.declared.tree.Tree.{Tree as SeenTree};
 ghost use Rattle.ix_ask.specs.Searching.{IsFound, IsSearched, LeavesSearch, RefusesQuery};
 
 use crate::ask_error::AskError;
@@ -10,6 +14,7 @@ use crate::names::name_lines_in;
 use crate::output::{Lines, write_whole};
 use ix_file::Index;
 use ix_output::WriteError;
+use ix_projection::scans_alike;
 use ix_query::{Query, answer};
 use std::alloc::Global;
 use std::io::Write;
@@ -39,10 +44,16 @@ pub fn search<W: Write>(
     }
 }
 
-/// The names of the documents of the index that satisfy the query.
+/// The names of the documents of the index that satisfy the query. They are also those of each collection that has more
+/// terms than the index, if the query asks about none of the others.
 pub fn find_names(alloc: Global, index: &Index<'_>, query: &str) -> Result<Lines, AskError>
     ensures found { IfOk result (λ names. (version : Version) (collection : Collection)
         → IsIndexOf index.now version collection
+        → IsFound collection query.now names.bytes.items names.count) }
+    ensures fewer { IfOk result (λ names. (version : Version) (collection : Collection)
+        (keeps : Test) (tree : SeenTree)
+        → IsIndexOf index.now version (kept_collection keeps collection)
+        → Reads collection.stop query.now tree → KeepsAsked keeps collection tree
         → IsFound collection query.now names.bytes.items names.count) }
     ensures refused { IfErr result (λ error. (version : Version) (collection : Collection)
         → IsIndexOf index.now version collection → RefusesQuery collection query.now error) }
@@ -51,6 +62,7 @@ pub fn find_names(alloc: Global, index: &Index<'_>, query: &str) -> Result<Lines
         Ok(query) => query,
         Err(error) => return Err(AskError::Query(error)),
     };
+    scans_alike(query.tree());
     let numbers = answer(alloc, index, &query)?;
     let bytes = name_lines_in(alloc, index, &numbers)?;
     let count = numbers.len();

@@ -8,3 +8,4 @@ pub mod Opening
 pub mod Running
 pub mod Searching
 pub mod Telling
+pub mod Trusting

@@ -16,6 +16,7 @@ mod searching;
 mod stop;
 #[cfg(test)]
 mod tests;
+mod trusting;
 
 pub use asking::ix_ask;
 pub use found::Found;
@@ -26,3 +27,4 @@ pub use naming::ix_index_names;
 pub use opened::{ix_index_close, ix_index_open, ix_index_search, ix_index_terms};
 pub use running::ix_run;
 pub use searching::{ix_search, ix_terms};
+pub use trusting::ix_search_trusting;
