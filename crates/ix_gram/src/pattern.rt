@@ -1,6 +1,6 @@
 //! Patterns and the terms that match them.
 
-ghost use Rattle.std.specs.Prelude.{◌≡◌, ◌<◌, ◌↔◌, [], ◌∷◌, ◌++◌, length, map, string_bytes, All, IsUtf8, IsTrue, IfOk, OnOk, IsErrOf};
+ghost use Rattle.std.specs.Prelude.{◌≡◌, ◌<◌, ◌↔◌, ℕ, List, [], ◌∷◌, ◌++◌, length, map, string_bytes, All, IsUtf8, IsTrue, IfOk, OnOk, IsErrOf};
 ghost use Rattle.ix_gram.specs.Patterns.{pieces_of, HasStar, HasPiece, Matches};
 
 use crate::error::PatternError;
@@ -55,6 +55,13 @@ impl Pattern {
         }
         let last = term_of(alloc, rest)?;
         Ok(Pattern { first, inner, last })
+    }
+
+    /// The first piece, with which every term that matches begins. It is empty if the text begins with a star.
+    pub fn front(&self) -> &str
+        ensures { (others : List (List ℕ)) × (self.now ≡ result.now ∷ others) }
+    {
+        self.first.as_str()
     }
 
     /// The first piece, the inner ones in order, and the last.
