@@ -23,3 +23,5 @@ mod questions;
 mod session;
 #[cfg(test)]
 mod system;
+#[cfg(test)]
+mod trusting;
