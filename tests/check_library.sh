@@ -25,7 +25,7 @@ printf '#include <ix.h>\nint main() { return IX_DONE; }\n' > "$work/header.cc"
 g++ -std=c++11 -Wall -Wextra -Werror -Ibuild/include "$work/header.cc" -o "$work/header"
 "$work/header"
 test "$(nm -D --defined-only build/libix.so | awk '{print $3}' | sort | tr '\n' ' ')" = \
-    "ix_ask ix_build ix_index_close ix_index_names ix_index_open ix_index_search ix_index_terms ix_merge ix_run ix_search ix_terms "
+    "ix_ask ix_build ix_index_close ix_index_names ix_index_open ix_index_search ix_index_terms ix_merge ix_run ix_search ix_search_trusting ix_terms "
 
 echo "threads on one index text, each with a handle and without .."
 gcc -g -O1 $warn tests/library_threads.c build/libix.a -lpthread -o "$work/threads"

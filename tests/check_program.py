@@ -10,6 +10,7 @@ in a folder of the system's own choice, which is gone at the end. Status 0: all 
 import itertools
 import os
 import pty
+import random
 import subprocess
 import sys
 import tempfile
@@ -90,6 +91,7 @@ def asked_both_ways(name, collection, query, names, stop=None):
     gives(f"ask: {name}", ["ask", *options, "c.txt", query], status, printed)
     gives(f"build: {name}", ["build", *options, "c.txt", "c.ix"], 0)
     gives(f"search: {name}", ["search", "c.ix", query], status, printed)
+    gives(f"search --trust: {name}", ["search", "--trust", "c.ix", query], status, printed)
 
 
 def rows():
@@ -198,6 +200,9 @@ def files():
     gives("search in an old index", ["search", "old.ix", "a"], 0, b"d\n")
     gives("terms", ["terms", "c.ix", "*y"], 0, b"y\t3\n")
     gives("no terms", ["terms", "c.ix", "z*"], 1)
+    gives("terms --trust", ["terms", "--trust", "c.ix", "*y"], 0, b"y\t3\n")
+    gives("no terms --trust", ["terms", "c.ix", "z*", "--trust"], 1)
+    gives("search --trust in an old index", ["search", "old.ix", "--trust", "a"], 0, b"d\n")
     gives("an output in a folder that is not there", ["build", "c.txt", "none/c.ix"], 2, b"", b"ix: file 2: Write(none/c.ix)")
 
 
@@ -228,6 +233,55 @@ def merging():
     gives("no runs", ["merge", "c.ix"], 2, b"", b"ix: arguments refused")
     gives("a run that is not there", ["merge", "fresh.ix", "run-0", "none"], 2, b"", b"ix: file 1: Read(none)")
     check("no output where a run is not there", not Path("fresh.ix").exists())
+
+
+def trusting():
+    """Searches that read an index in parts, and the check of whole files."""
+    draw = random.Random(5)
+    words = [f"w{n}" for n in range(30)] + ["Straße", "naïve", "e+mail"]
+
+    def query(depth=2):
+        one, other = draw.choices(words[:-1], k=2)
+        if depth == 0 or draw.random() < 0.3:
+            return draw.choice([one, f"{one[:2]}*", f"*{one[-1]}", f"{one[0]}*{one[-1]}", f"{one} NEAR/{draw.randint(1, 5)} {other}",
+                                f'"{one} {other}"', f'"{one} the {other}"'])
+        return draw.choice(["({} AND {})", "({} OR {})", "({} AND NOT {})"]).format(query(depth - 1), query(depth - 1))
+
+    Path("stop").write_bytes(b"the\n")
+    differ = []
+    for number in range(50):
+        texts = (" ".join(draw.choices([*words, "the"], k=draw.randint(0, 40))) for _ in range(draw.randint(1, 60)))
+        Path("c.txt").write_bytes(documents(*texts))
+        run("build", *(["--stop", "stop"] if number % 2 else []), "c.txt", "c.ix")
+        for asked in (query() for _ in range(40)):
+            one, other = run("search", "c.ix", asked), run("search", "--trust", "c.ix", asked)
+            if (one.returncode, one.stdout, one.stderr) != (other.returncode, other.stdout, other.stderr):
+                differ.append((number, asked))
+    check("2,000 queries both ways", not differ, differ[:5])
+    Path("c.txt").write_bytes(FIVE)
+    run("build", "c.txt", "c.ix")
+    gives("--trust from the standard input", ["search", "--trust", "-", "x"], 0, b"a\nd\ne\n", stdin=Path("c.ix").read_bytes())
+    gives("--trust in an empty file", ["search", "--trust", "/dev/null", "x"], 2, b"", b"ix: index 1: Short")
+    Path("byte").write_bytes(b"P")
+    gives("--trust in a file of one byte", ["search", "--trust", "byte", "x"], 2, b"", b"ix: index 1: Short")
+    gives("--trust in a folder", ["search", "--trust", ".", "x"], 2, b"", b"ix: file 1: Read(.)")
+    gives("--trust in no file", ["search", "--trust", "none", "x"], 2, b"", b"ix: file 1: Read(none)")
+    with open("zeros", "wb") as file:
+        file.truncate(5 << 30)
+    gives("--trust in 5 GiB of zeros", ["search", "--trust", "zeros", "x"], 2, b"", b"ix: index 2: Magic")
+    # the list of `y`, of which no question about `x` reads a byte
+    spoiled = bytearray(FIVE_INDEX)
+    spoiled[17] = 0xff
+    Path("spoiled").write_bytes(spoiled)
+    gives("--trust does not see a fault elsewhere", ["search", "--trust", "spoiled", "x"], 0, b"a\nd\ne\n")
+    done = run("search", "--trust", "spoiled", "y")
+    check("--trust sees a fault in what it reads", done.returncode == 2 and done.stderr.startswith(b"ix: index "), done.stderr)
+    Path("cut").write_bytes(FIVE_INDEX[:-1])
+    gives("check of sound files", ["check", "c.ix", "c.ix"], 0)
+    done = run("check", "cut", "c.ix", "none", "spoiled")
+    told = done.stdout.splitlines()
+    check("check of faulty files", (done.returncode, done.stderr, told[:2], len(told)) ==
+          (2, b"", [b"cut\tindex 3: Trailer", b"none\tfile 1: Read(none)"], 3) and told[2].startswith(b"spoiled\tindex "), done)
 
 
 def plans():
@@ -354,7 +408,7 @@ def main():
         return 2
     with tempfile.TemporaryDirectory() as folder:
         os.chdir(folder)
-        for part in (rows, refusals, files, merging, plans, live, system, terminal):
+        for part in (rows, refusals, files, merging, trusting, plans, live, system, terminal):
             part()
         os.chdir("/")
     print(f"{failed} failed" if failed else "all as expected")

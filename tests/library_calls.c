@@ -26,7 +26,7 @@ static uint8_t *copy(const void *bytes, size_t size) {
   return made;
 }
 
-enum call { ASK, BUILD, SEARCH, TERMS, HANDLE_SEARCH, HANDLE_TERMS, HANDLE_NAMES };
+enum call { ASK, BUILD, SEARCH, TRUSTING, TERMS, HANDLE_SEARCH, HANDLE_TERMS, HANDLE_NAMES };
 
 /* What the calls by handle ask. */
 static ix_index handle;
@@ -40,6 +40,7 @@ static uint32_t make(enum call call, const void *one, size_t one_size, const cha
   case ASK: status = ix_ask(a, one_size, b, two_size, c, three_size, out, out_size, found); break;
   case BUILD: status = ix_build(a, one_size, b, two_size, out, out_size, found); break;
   case SEARCH: status = ix_search(a, one_size, c, three_size, out, out_size, found); break;
+  case TRUSTING: status = ix_search_trusting(a, one_size, c, three_size, out, out_size, found); break;
   case TERMS: status = ix_terms(a, one_size, c, three_size, out, out_size, found); break;
   case HANDLE_SEARCH: status = ix_index_search(&handle, c, three_size, out, out_size, found); break;
   case HANDLE_TERMS: status = ix_index_terms(&handle, c, three_size, out, out_size, found); break;
@@ -215,6 +216,12 @@ int main(void) {
   EXPECT(SEARCH, index, room, "", "\xff", IX_NOT_UTF8, 0, IX_QUERY, 0, "");
   EXPECT(SEARCH, index, 63, "", "y", IX_REFUSED, 0, IX_INDEX, 1, "index 1: Short");
   EXPECT(SEARCH, five, size, "", "y", IX_REFUSED, 0, IX_INDEX, 1, "index 1: Short");
+  EXPECT(TRUSTING, index, room, "", "\"y x\"", IX_DONE, 1, 0, 0, "d\n");
+  EXPECT(TRUSTING, index, room, "", "NOT y", IX_DONE, 2, 0, 0, "c\ne\n");
+  EXPECT(TRUSTING, index, room, "", "(", IX_REFUSED, 0, IX_QUERY, 3, "query 3: End");
+  EXPECT(TRUSTING, index, room, "", "\xff", IX_NOT_UTF8, 0, IX_QUERY, 0, "");
+  EXPECT(TRUSTING, index, 63, "", "y", IX_REFUSED, 0, IX_INDEX, 1, "index 1: Short");
+  EXPECT(TRUSTING, index, room - 1, "", "y", IX_REFUSED, 0, IX_INDEX, 3, "index 3: Trailer");
   EXPECT(TERMS, index, room, "", "*x", IX_DONE, 1, 0, 0, "x\t3\n");
   EXPECT(TERMS, index, room, "", "z*", IX_DONE, 0, 0, 0, "");
   EXPECT(TERMS, index, room, "", "x", IX_REFUSED, 0, IX_PATTERN, 1, "pattern 1: NoStar");

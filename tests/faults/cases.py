@@ -120,6 +120,18 @@ def searching():
                memory=("index 20: Memory", "pattern 3: Memory"), writes=("file 2: Write(-)",))
 
 
+def trusting():
+    told = {"memory": ("index 20: Memory", "query 13: Memory", "pattern 3: Memory"), "writes": ("file 2: Write(-)",), "needs": "ix check"}
+    answers = {"one": ("A", b"d\n"), "five": (NEAR, b"a\nb\nd\n"), "stop": ('"flights to london"', b"d\n")}
+    for name, version in INDEXES:
+        query, printed = answers[name]
+        path = f"{name}-{version}.ix"
+        yield Case(f"search --trust {path}", "search", "--trust", path, query, printed=printed, reads=read_of(path), **told)
+    yield Case("search --trust, a cut index", "search", "--trust", "short.ix", "x", status=2, line=b"ix: index 3: Trailer",
+               reads=read_of("short.ix"), **told)
+    yield Case("terms --trust", "terms", "--trust", "stop-2.ix", "*on*", printed=b"london\t1\n", reads=read_of("stop-2.ix"), **told)
+
+
 def building():
     told = {"memory": ("collection 6: Memory", "stop 3: Memory", "build 4: Memory", THREAD), "writes": ("build 3: Write",)}
     for plan in (("--block", "2", "--workers", "3"), ("--block", "1", "--workers", "1"), ("--bytes", "1", "--workers", "2")):
@@ -189,4 +201,4 @@ def other():
     yield Case("no such file", "search", "none.ix", "x", status=2, line=b"ix: file 1: Read(none.ix)")
 
 
-CASES = [case for part in (asking, searching, building, spilling, merging, living, other) for case in part()]
+CASES = [case for part in (asking, searching, trusting, building, spilling, merging, living, other) for case in part()]
