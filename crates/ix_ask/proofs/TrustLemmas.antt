@@ -31,7 +31,7 @@ holders_kept keeps collection term numbers kept holders = record {
   ascending = holders.ascending;
   exact = λ number. (
     λ among. let (position, posting) = (holders.exact number).0 among in (position, ((posting_kept keeps collection term number position).0 posting).0),
-    λ (position, posting). (holders.exact number).1 (position, (posting_kept keeps collection term number position).1 (posting, kept))
+    λ (position, posting). (holders.exact number).1 (position, (posting_kept keeps collection term number position).1 (posting, kept)),
   );
 }
 
@@ -44,7 +44,7 @@ rows_kept keeps collection pieces rows wanted are = record {
   ascending = are.ascending;
   exact = λ term. (
     λ among. let found = (are.exact term).0 among in ((term_kept keeps collection term found.0).0, found.1),
-    λ (of, matches). (are.exact term).1 (term_keeps keeps collection pieces term wanted matches of, matches)
+    λ (of, matches). (are.exact term).1 (term_keeps keeps collection pieces term wanted matches of, matches),
   );
   counted = λ k d below.
       let row = get_or rows k d in

@@ -18,8 +18,8 @@ use std::alloc::{AllocError, Global};
 
 /// The name of each document of the collection text that satisfies the query, with LF, in the order of the documents.
 ///
-/// No index is built on the way: each document is looked at. `Collection` where the bytes are no collection text, and
-/// `Query` where the text is no query, or each where memory ran out in reading it; else `Memory`.
+/// No index is built on the way: each document is looked at. `Collection` if the bytes are no collection text, and
+/// `Query` if the text is no query, or each if memory ran out in reading it; else `Memory`.
 pub fn ask_alone(
     alloc: Global,
     collection: &[u8],
@@ -63,8 +63,8 @@ fn scan_names(
 
 /// The index text, version 2, of the collection of a collection text, without the terms of the stop list.
 ///
-/// The whole is inverted as one run, which is merged alone. `Collection` where the bytes are no collection text, or
-/// where memory ran out in reading them; else `Memory`.
+/// The whole is inverted as one run, which is merged alone. `Collection` if the bytes are no collection text, or
+/// if memory ran out in reading them; else `Memory`.
 pub fn index_alone(
     alloc: Global,
     collection: &[u8],
@@ -86,7 +86,7 @@ pub fn index_alone(
 /// The index text of documents, by one run of all of them.
 ///
 /// A collection text has too few documents and tokens for `TooLarge` of the run or of the merge, one run that begins
-/// at 0 has no gap, and a text in memory refuses a write only where it does not grow: each refusal is want of memory.
+/// at 0 has no gap, and a write into memory fails only if it cannot grow: each error is out of memory.
 fn index_documents(
     alloc: Global,
     documents: &[Doc<'_>],

@@ -1,5 +1,5 @@
 //! A question to a collection, from its bytes to the names that are written. An index of the
-//! collection is built in memory, and answers.
+//! collection is built in memory, and asked.
 ghost use Rattle.std.specs.Prelude.{◌≡◌, ◌<◌, length, All, IfOk, IfErr};
 ghost use Rattle.ix_text.specs.Collections.{collection_of};
 ghost use Rattle.ix_file.specs.IndexText.{IsIndexText};
@@ -21,11 +21,11 @@ use std::sync::Wait;
 use std::thread::Threads;
 
 /// Writes the name of each document of the collection text that satisfies the query, with LF, in
-/// the order of the documents, flushes, and answers how many.
+/// the order of the documents, flushes, and returns how many.
 ///
 /// An index of the collection is built in memory by the plan, and asked; the names are the same
 /// whatever the plan. The stop list takes the words out of the documents and makes holes in the
-/// phrases of the query. Nothing is written but after `Ok` or `Write`; after `Write` a beginning of
+/// phrases of the query. Nothing is written but after `Ok` or `Write`; after `Write` a prefix of
 /// the names may be out.
 pub fn ask<W: Write, R: Threads + Wait + Sync>(
     rt: &R,
@@ -48,7 +48,7 @@ pub fn ask<W: Write, R: Threads + Wait + Sync>(
     }
 }
 
-/// What the collection text answers to the query.
+/// What the query finds in the collection text.
 fn find_names<R: Threads + Wait + Sync>(
     rt: &R,
     alloc: Global,

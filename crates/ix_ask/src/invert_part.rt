@@ -13,8 +13,8 @@ use std::alloc::{AllocError, Global};
 /// The run text of the collection of a collection text, without the terms of the stop list, its documents counted from
 /// `first` on.
 ///
-/// `Collection` where the bytes are no collection text, or where memory ran out in reading them; `Run` where no run
-/// holds so much, or memory ran out in making it; `Memory` where there was none for the text.
+/// `Collection` if the bytes are no collection text, or if memory ran out in reading them; `Run` if no run
+/// holds so much, or memory ran out in making it; `Memory` if there was none for the text.
 pub fn run_alone(
     alloc: Global,
     collection: &[u8],

@@ -17,9 +17,9 @@ use std::alloc::{AllocError, Global};
 use std::io::Write;
 
 /// Writes each term of the index that matches the pattern, a TAB, in how many documents it is, and
-/// LF, in the order of the terms, flushes, and answers how many terms there are.
+/// LF, in the order of the terms, flushes, and returns how many terms there are.
 ///
-/// Nothing is written but after `Ok` or `Write`; after `Write` a beginning of the lines may be out.
+/// Nothing is written but after `Ok` or `Write`; after `Write` a prefix of the lines may be out.
 pub fn list_terms<W: Write>(
     alloc: Global,
     index: &Index<'_>,

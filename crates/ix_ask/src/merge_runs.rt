@@ -7,7 +7,7 @@ use ix_run::{RunReader, RunTextError};
 use std::alloc::Global;
 
 /// Merges run texts, which may come in any order, into the index text, version 2, of the concatenation of their
-/// collections. The errors are those of `merge`; `Source` also where a text has not the head of a run.
+/// collections. The errors are those of `merge`; `Source` also if a text does not have the head of a run.
 pub fn merge_alone(alloc: Global, runs: &[&[u8]]) -> Result<Vec<u8>, MergeError<RunTextError>>
     ensures merged { IfOk result (λ index. IsMergeOf (texts_behind runs.now) index.items) }
     ensures refused { IfErr result (RefusesMerging (texts_behind runs.now)) }

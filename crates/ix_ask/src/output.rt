@@ -15,7 +15,7 @@ pub struct Lines {
     pub count: usize,
 }
 
-/// Writes the bytes and flushes. After a refusal a beginning of the bytes is out.
+/// Writes the bytes and flushes. After an error a prefix of the bytes was written.
 pub fn write_whole<W: Write>(out: &mut W, bytes: &[u8]) -> Result<(), WriteError>
     ensures whole { OnOk result (Appends (W.contents out.old) (W.contents out.new) bytes.now) }
     ensures front { OnErr result

@@ -1,4 +1,4 @@
-//! Why the engine refused: the error of the layer that refused, in the area that it is told in.
+//! An error of the engine: that of a layer, in an area.
 ghost use Rattle.std.specs.Prelude.{◌≡◌};
 ghost use Rattle.ix_ask.specs.EngineRefusals.{area_number, area_of, number_of};
 
@@ -11,7 +11,7 @@ use ix_run::{RunError, RunTextError};
 use ix_text::{CollectionError, StopError};
 use std::fmt;
 
-/// What a refusal is about.
+/// What an error is about.
 #[derive(Clone, Copy, Debug, PartialEq, Eq)]
 pub enum Area {
     /// A collection text.
@@ -30,7 +30,7 @@ pub enum Area {
     Merge,
     /// A build.
     Build,
-    /// Memory, where no other area names it.
+    /// Memory, if no other area has it.
     Memory,
 }
 
@@ -53,7 +53,7 @@ impl Area {
     }
 }
 
-/// Why the engine refused, in the area that it is told in. It prints as area, number and name, as in
+/// An error of the engine. It prints as area, number and name, as in
 /// `query 2: Unexpected(2)`.
 #[derive(Debug, Drop)]
 pub enum EngineRefusal {
@@ -73,12 +73,12 @@ pub enum EngineRefusal {
     Merge(MergeError<RunTextError>),
     /// The collection is not built.
     Build(BuildError),
-    /// A growth was refused.
+    /// Out of memory.
     Memory,
 }
 
 impl EngineRefusal {
-    /// The area that the refusal is told in.
+    /// The area of the error.
     pub fn area(&self) -> Area
         ensures { result ≡ area_of self.now }
     {

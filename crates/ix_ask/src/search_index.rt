@@ -20,10 +20,10 @@ use std::alloc::Global;
 use std::io::Write;
 
 /// Writes the name of each document of the index that satisfies the query, with LF, in the order of
-/// the documents, flushes, and answers how many.
+/// the documents, flushes, and returns how many.
 ///
 /// The query is read under the stop list of the index. Nothing is written but after `Ok` or
-/// `Write`; after `Write` a beginning of the names may be out.
+/// `Write`; after `Write` a prefix of the names may be out.
 pub fn search<W: Write>(
     alloc: Global,
     index: &Index<'_>,

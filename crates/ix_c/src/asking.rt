@@ -12,8 +12,8 @@ use std::str::from_utf8;
 
 /// The names of the documents of a collection text that satisfy a query, each with LF, under the words of a stop text.
 ///
-/// Answers 0 with the names in `out`, as many of their bytes as it has room for; 1 with the line of the refusal there;
-/// 2 where the stop text or the query is not UTF-8, with `out` as it was. `ix_ask` of `include/ix.h`.
+/// Returns 0 with the names in `out`, as many of their bytes as it has room for; 1 with the error line there;
+/// 2 if the stop text or the query is not UTF-8, with `out` as it was. `ix_ask` of `include/ix.h`.
 #[unsafe(no_mangle)]
 pub extern "C" fn ix_ask(
     alloc: Global,
@@ -43,7 +43,7 @@ pub extern "C" fn ix_ask(
     }
 }
 
-/// What a collection text answers to a query under the words of a stop text.
+/// What a query finds in a collection text under the words of a stop text.
 fn ask_under(
     alloc: Global,
     collection: &[u8],

@@ -1,4 +1,4 @@
-//! What a call answers beside its status, and how bytes go out.
+//! What a call returns beside its status, and how bytes are written.
 ghost use Rattle.std.specs.Prelude.{◌≡◌, length};
 ghost use Rattle.ix_ask.specs.EngineRefusals.{area_number};
 ghost use Rattle.ix_c.specs.Filling.{Fills};
@@ -10,7 +10,7 @@ use std::fmt::{InlineText, Write};
 /// The call did what it was asked for.
 const DONE: u32 = 0;
 
-/// The engine refused.
+/// The engine returned an error.
 const REFUSED: u32 = 1;
 
 /// A text that is to be UTF-8 is not.
@@ -25,21 +25,21 @@ const SIZES: u32 = 4;
 /// How many bytes of a line there is room for: the longest has 58.
 const LINE_ROOM: usize = 64;
 
-/// What a call found, or why it was refused.
+/// What a call found, or its error.
 #[repr(C)]
 #[derive(Clone, Copy)]
 pub struct Found {
-    /// How many names, terms or documents there are; 0 where there are none to be told.
+    /// How many names, terms or documents there are; 0 if there are none.
     pub count: usize,
     /// How many bytes there are to be put out.
     pub size: usize,
-    /// The area of a refusal, or of the text that is not UTF-8; else 0.
+    /// The area of an error, or of the text that is not UTF-8; else 0.
     pub area: u32,
-    /// The number of a refusal in its area; else 0.
+    /// The number of an error in its area; else 0.
     pub number: u32,
 }
 
-/// What is told where there is nothing to tell.
+/// What a call returns if there is nothing to say.
 const NOTHING: Found = Found {
     count: 0,
     size: 0,
@@ -73,7 +73,7 @@ pub(crate) fn answer(count: usize, bytes: &[u8], out: &mut [u8], found: &mut Fou
     DONE
 }
 
-/// Tells why the engine refused, and puts out the line that says it.
+/// Sets the area and number of an error, and writes its line into the buffer.
 pub(crate) fn tell(refusal: &EngineRefusal, out: &mut [u8], found: &mut Found) -> u32
     ensures status { result ≡ 1 }
     ensures told { IsTold refusal.now out.old out.new found.new }
@@ -88,7 +88,7 @@ pub(crate) fn tell(refusal: &EngineRefusal, out: &mut [u8], found: &mut Found) -
     REFUSED
 }
 
-/// Puts the line of a refusal out, and returns how many bytes it has. Takes no memory.
+/// Writes the line of an error into the buffer, and returns how many bytes it has. Takes no memory.
 ///
 /// A `fmt` may return an error that none of its writes returned. The line is the area's word then: what `fmt` wrote
 /// before is not known.
@@ -119,7 +119,7 @@ fn area_word(area: Area) -> &'static str
     }
 }
 
-/// Puts bytes out, and answers how many there are.
+/// Writes bytes into the buffer, and returns how many there are.
 fn put(bytes: &[u8], out: &mut [u8]) -> usize
     ensures size { result ≡ length bytes.now }
     ensures filled { Fills bytes.now out.old out.new }

@@ -12,7 +12,7 @@ use std::marker::Model;
 pub struct Held {
     at: *mut u8,
     alloc: Global,
-    /// The index, where there is one.
+    /// The index, if there is one.
     pub ghost value: { Option Opened },
 }
 

@@ -12,8 +12,8 @@ use std::str::from_utf8;
 
 /// The index text, version 2, of a collection text, without the words of a stop text.
 ///
-/// Answers 0 with the index text in `out`, as many of its bytes as it has room for; 1 with the line of the refusal
-/// there; 2 where the stop text is not UTF-8, with `out` as it was. `ix_build` of `include/ix.h`.
+/// Returns 0 with the index text in `out`, as many of its bytes as it has room for; 1 with the error line
+/// there; 2 if the stop text is not UTF-8, with `out` as it was. `ix_build` of `include/ix.h`.
 #[unsafe(no_mangle)]
 pub extern "C" fn ix_build(
     alloc: Global,

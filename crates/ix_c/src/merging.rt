@@ -13,15 +13,15 @@ use std::alloc::Global;
 pub(crate) enum Unmerged {
     /// Their sizes do not sum to the size of the bytes.
     Sizes,
-    /// The engine refused.
+    /// The engine returned an error.
     Refused(EngineRefusal),
 }
 
 /// The index text, version 2, of the collection whose parts' run texts lie one behind another, in any order, with the
 /// size of each.
 ///
-/// Answers 0 with the index text in `out`, as many of its bytes as it has room for; 1 with the line of the refusal
-/// there; 4 where the sizes do not sum to that of the bytes, with `out` as it was. `ix_merge` of `include/ix.h`.
+/// Returns 0 with the index text in `out`, as many of its bytes as it has room for; 1 with the error line
+/// there; 4 if the sizes do not sum to that of the bytes, with `out` as it was. `ix_merge` of `include/ix.h`.
 #[unsafe(no_mangle)]
 pub extern "C" fn ix_merge(
     alloc: Global,

@@ -12,8 +12,8 @@ use std::alloc::Global;
 
 /// The names of all documents of an opened index, each with LF, in the order of the documents.
 ///
-/// Answers 0 with the names in `out`, as many of their bytes as it has room for; 1 where memory ran out, with the line
-/// that says it; 3 where the handle is closed, with `out` as it was. `ix_index_names` of `include/ix.h`.
+/// Returns 0 with the names in `out`, as many of their bytes as it has room for; 1 if memory ran out, with the line
+/// that says it; 3 if the handle is closed, with `out` as it was. `ix_index_names` of `include/ix.h`.
 #[unsafe(no_mangle)]
 pub extern "C" fn ix_index_names(
     alloc: Global,

@@ -16,7 +16,7 @@ use std::str::from_utf8;
 
 /// Opens an index text, of which the handle keeps a copy. What the handle held before is closed.
 ///
-/// Answers 0 with the handle open; 1 with the handle closed and the line of the refusal in `out`. `ix_index_open` of
+/// Returns 0 with the handle open; 1 with the handle closed and the error line in `out`. `ix_index_open` of
 /// `include/ix.h`.
 #[unsafe(no_mangle)]
 pub extern "C" fn ix_index_open(
@@ -78,7 +78,7 @@ pub extern "C" fn ix_index_close(alloc: Global, index: &mut Handle)
 
 /// The names of the documents of an opened index that satisfy a query, as `ix_search` gives them.
 ///
-/// Answers as `ix_search` does, and 3 where the handle is closed, with `out` as it was. `ix_index_search` of
+/// Returns what `ix_search` returns, and 3 if the handle is closed, with `out` as it was. `ix_index_search` of
 /// `include/ix.h`.
 #[unsafe(no_mangle)]
 pub extern "C" fn ix_index_search(
@@ -127,7 +127,7 @@ fn search_opened(alloc: Global, volume: &Volume, query: &str) -> Result<Lines, E
 
 /// The terms of an opened index that match a pattern, as `ix_terms` gives them.
 ///
-/// Answers as `ix_terms` does, and 3 where the handle is closed, with `out` as it was. `ix_index_terms` of
+/// Returns what `ix_terms` returns, and 3 if the handle is closed, with `out` as it was. `ix_index_terms` of
 /// `include/ix.h`.
 #[unsafe(no_mangle)]
 pub extern "C" fn ix_index_terms(

@@ -12,7 +12,7 @@ use std::str::from_utf8;
 
 /// The run text of a collection text, without the words of a stop text, its documents counted from `first` on.
 ///
-/// Answers 0 with the run text in `out`, as many of its bytes as it has room for; 1 with the line of the refusal there; 2
+/// Returns 0 with the run text in `out`, as many of its bytes as it has room for; 1 with the error line there; 2
 /// where the stop text is not UTF-8, with `out` as it was. `ix_run` of `include/ix.h`.
 #[unsafe(no_mangle)]
 pub extern "C" fn ix_run(

@@ -18,8 +18,8 @@ use std::str::from_utf8;
 
 /// The names of the documents of an index that satisfy a query, each with LF, under the stop words of the index.
 ///
-/// Answers 0 with the names in `out`, as many of their bytes as it has room for; 1 with the line of the refusal there;
-/// 2 where the query is not UTF-8, with `out` as it was. `ix_search` of `include/ix.h`.
+/// Returns 0 with the names in `out`, as many of their bytes as it has room for; 1 with the error line there;
+/// 2 if the query is not UTF-8, with `out` as it was. `ix_search` of `include/ix.h`.
 #[unsafe(no_mangle)]
 pub extern "C" fn ix_search(
     alloc: Global,
@@ -85,8 +85,8 @@ pub(crate) fn find_in(alloc: Global, index: &Index<'_>, query: &str) -> Result<L
 
 /// The terms of an index that match a pattern, each with a TAB, in how many documents it is, and LF.
 ///
-/// Answers 0 with the lines in `out`, as many of their bytes as it has room for; 1 with the line of the refusal there;
-/// 2 where the pattern is not UTF-8, with `out` as it was. `ix_terms` of `include/ix.h`.
+/// Returns 0 with the lines in `out`, as many of their bytes as it has room for; 1 with the error line there;
+/// 2 if the pattern is not UTF-8, with `out` as it was. `ix_terms` of `include/ix.h`.
 #[unsafe(no_mangle)]
 pub extern "C" fn ix_terms(
     alloc: Global,

@@ -1,4 +1,4 @@
-//! Each call once where it answers and once where it is refused, and a buffer that is too short.
+//! Each call once at its result and once at an error, and a buffer that is too short.
 
 use crate::found::tell;
 use crate::handle::Handle;
@@ -14,7 +14,7 @@ use std::test::Fail;
 
 const FIVE: &[u8] = b"a\tx y\nb\ty\nc\t\nd\ty x y\ne\tx\n";
 
-/// What has told nothing yet.
+/// What no call has written yet.
 const NOTHING: Found = Found {
     count: 9,
     size: 9,
@@ -22,7 +22,7 @@ const NOTHING: Found = Found {
     number: 9,
 };
 
-/// A status, how many were found, and what stands in the buffer.
+/// A status, how many were found, and what is in the buffer.
 #[derive(Drop)]
 struct Row<'a>(u32, usize, &'a [u8]);
 
