@@ -77,6 +77,10 @@ if [ -d /usr/share/doc ]; then
     prints "the licences of a Debian system" "0 or 1" "$([ $status -le 1 ] && echo '0 or 1' || echo $status)"
 fi
 
+"$ix" build mail.tsv mail.ix
+prints "a sound index" "" "$("$ix" check mail.ix)"
+prints "one question to a large index" "1@example.org" "$("$ix" search --trust mail.ix 'flight NEAR/3 london')"
+
 gzip mail.tsv
 prints "a compressed collection" "1@example.org
 2@example.org" "$(zcat mail.tsv.gz | "$ix" ask - 'london')"
