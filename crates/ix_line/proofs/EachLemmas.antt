@@ -1,6 +1,6 @@
 -- Lists with a proof for each element, and lists of kinds that are empty.
-use Rattle.std.proofs.Common.{◌≡◌, ◌∙◌, ◌&&◌, Bool, cond, true, false, not, refl, sym, ap, true≢false, List, [], ◌∷◌, ◌++◌, Option, Some, None}
-use Rattle.std.specs.Prelude.{IfSome, IsSomeAnd, find}
+use Rattle.std.proofs.Common.{◌≡◌, ◌∙◌, ◌&&◌, Bool, cond, true, false, not, refl, sym, ap, true≢false, List, [], ◌∷◌, ◌++◌, Some}
+use Rattle.std.specs.Prelude.{IfSome, find}
 use Rattle.std.specs.List.{list_all}
 use Rattle.clap.specs.Kinds.{Kinds, or_else}
 use Rattle.ix_line.specs.Entered.{Each}

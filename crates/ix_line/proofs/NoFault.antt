@@ -1,31 +1,29 @@
 -- Where `clap` finds no fault with the words, they name a command, and its matches fit it.
-use Rattle.std.proofs.Common.{◌≡◌, ◌∙◌, ◌&&◌, ◌||◌, Bool, cond, true, false, not, refl, sym, ap, subst, true≢false, List, [], ◌∷◌, Option, Some, None, option_map, is_some}
+use Rattle.std.proofs.Common.{◌≡◌, ◌∙◌, ◌&&◌, ◌||◌, Bool, cond, true, false, not, refl, sym, subst, arith, true≢false, List, [], ◌∷◌, Option, Some, None, option_map, is_some}
 use Rattle.std.specs.Prelude.{IfSome, IsSome, IsSomeAnd, find, fold}
 use Rattle.std.specs.List.{list_all, list_any}
 use Rattle.std.specs.Option.{option_map_or}
 use Rattle.std.specs.Str.{bytes_eq}
-use Rattle.clap.specs.Kinds.{check_kinds}
+use Rattle.clap.specs.Kinds.{check_kinds, request_kinds}
 use Rattle.clap.specs.Simple.{App, Shape, argument_words, built, entered, label_of, names_of, rows_at, subcommand_of}
-use Rattle.clap.specs.Walk.{Row, Rule, Text, answers_to, default_rows, finished, has_row, is_empty, nothing_held, reading_by, rows_after, settled, walk, walk_from, with_default}
-use Rattle.clap.specs.Faults.{defaults_fault, entered_fault, fault_of, level_fault, settle_fault, walk_fault}
+use Rattle.clap.specs.Walk.{Row, Rule, Text, answers_to, action_of, arg_by_id, default_rows, finished, has_row, is_empty, nothing_held, reading_by, rows_after, settled, walk, walk_from, with_default}
+use Rattle.clap.specs.Faults.{default_fault, defaults_fault, entered_fault, fault_of, given_default_fault, level_fault, settle_fault, values_fault, walk_fault}
 use Rattle.clap.specs.Takes.{is_given}
+use Rattle.clap.specs.declared.parser.matches.ValueSource.TheVariants.{DefaultValue}
 use Rattle.clap.proofs.SimpleLemmas.{is_nil}
 use Rattle.ix_line.specs.Entered.{Each, Entered, FitsShape, RowFits}
 use Rattle.ix_line.proofs.EachLemmas.{FindsItself, both, each_as, each_both, finds_itself, found, from_all, neither, unlike}
 use Rattle.ix_line.proofs.Walks.{KeepsRows, settled_keeps, walk_keeps}
-use Rattle.ix_line.proofs.Uses.{has_values, uses_fit}
+use Rattle.ix_line.proofs.Uses.{has_values, uses_fit, with_values_fit}
 
 -- ---- the commands of which this is so
-
-abbrev pub is_usual_rule : Rule → Bool
-is_usual_rule a = has_values a && is_empty a.defaults
 
 abbrev pub same_id : Rule → Rule → Bool
 same_id a b = bytes_eq a.id b.id
 
--- each argument takes a value or asks for help, has no default value of `clap`'s, and has its own id
+-- each argument takes a value, is a flag or asks for help, and has its own id
 abbrev pub is_usual : Shape → Bool
-is_usual s = list_all is_usual_rule s.rules && unlike same_id s.rules
+is_usual s = list_all has_values s.rules && unlike same_id s.rules
 
 abbrev pub same_name : Shape → Shape → Bool
 same_name s t = answers_to t.name (label_of s)
@@ -36,16 +34,32 @@ is_usual_app a = a.top.subcommand_required && (list_all is_usual a.subs && unlik
 
 -- ---- after the walk
 
-no_default : (rows : List Row) (a : Rule) → is_empty a.defaults ≡ true → with_default rows a ≡ rows
-no_default rows a e = ap (λ ds. cond (has_row a.id rows) rows (default_rows a.id (reading_by a) ds rows)) (is_nil a.defaults e) ∙ go (has_row a.id rows)
+-- default values that are no fault pass
+some_pass : (a : Rule) (v : Text) (vs : List Text) → cond (is_empty (v ∷ vs)) [] (given_default_fault a (v ∷ vs)) ≡ [] → values_fault a (v ∷ vs) ≡ []
+some_pass a v vs none = go (is_empty (v ∷ vs)) refl none
   where
-    go : (b : Bool) → cond b rows rows ≡ rows
-    go true = refl
-    go false = refl
+    go : (b : Bool) → is_empty (v ∷ vs) ≡ b → cond b [] (given_default_fault a (v ∷ vs)) ≡ [] → values_fault a (v ∷ vs) ≡ []
+    go true empty e = let nothing = is_nil (v ∷ vs) empty in cc
+    go false some e = (neither (request_kinds (action_of a)) (values_fault a (v ∷ vs)) e).1
 
-no_defaults : (F : List Row → Type 0) (xs : List Rule) (rows : List Row) → Each (λ a. is_usual_rule a ≡ true) xs → F rows → F (fold with_default rows xs)
-no_defaults F [] rows e f = f
-no_defaults F (a ∷ xs) rows e f = no_defaults F xs (with_default rows a) e.1 (subst F (sym (no_default rows a (both _ _ e.0).1)) f)
+-- a default that is no fault leaves each row with values that its argument takes
+default_fits : (c : List Rule) (a : Rule) (rows : List Row) → arg_by_id c a.id ≡ Some a → default_fault rows a ≡ [] → Each (RowFits c) rows → Each (RowFits c) (with_default rows a)
+default_fits c a rows self e fits = go (has_row a.id rows) e
+  where
+    values : (ds : List Text) → cond (is_empty ds) [] (given_default_fault a ds) ≡ [] → Each (RowFits c) (default_rows a.id (reading_by a) ds rows)
+    values [] none = fits
+    values (v ∷ vs) none = with_values_fit c a self DefaultValue (v ∷ vs) rows (omega arith) (some_pass a v vs none) fits
+
+    go : (b : Bool) → cond (b || is_empty a.defaults) [] (given_default_fault a a.defaults) ≡ [] → Each (RowFits c) (cond b rows (default_rows a.id (reading_by a) a.defaults rows))
+    go true none = fits
+    go false none = values a.defaults none
+
+defaults_fit : (c xs : List Rule) (rows : List Row) → Each (FindsItself same_id c) xs → defaults_fault rows xs ≡ [] → Each (RowFits c) rows → Each (RowFits c) (fold with_default rows xs)
+unfolding defaults_fault
+defaults_fit c [] rows own e fits = fits
+defaults_fit c (a ∷ xs) rows own e fits =
+    let parts = neither (default_fault rows a) _ e in
+    defaults_fit c xs (with_default rows a) own.1 parts.1 (default_fits c a rows own.0 parts.0 fits)
 
 none_wanted : (a b c : Bool) → check_kinds a b c ≡ [] → (b ≡ false) × (c ≡ false)
 none_wanted true b c e = cc
@@ -78,9 +92,9 @@ each_given rows (a ∷ xs) e =
 uses_of : (s : Shape) → is_usual s ≡ true → Each (KeepsRows (Each (RowFits s.rules)) s.args_override_self) s.rules
 uses_of s usual =
     let parts = both _ _ usual in
-    each_as (λ a. (is_usual_rule a ≡ true) × FindsItself same_id s.rules a) _ s.rules
-    (λ a h. uses_fit s.rules s.args_override_self a h.1 (both _ _ h.0).0)
-    (each_both _ _ s.rules (from_all is_usual_rule s.rules parts.0) (finds_itself same_id s.rules parts.1))
+    each_as (λ a. (has_values a ≡ true) × FindsItself same_id s.rules a) _ s.rules
+    (λ a h. uses_fit s.rules s.args_override_self a h.1 h.0)
+    (each_both _ _ s.rules (from_all has_values s.rules parts.0) (finds_itself same_id s.rules parts.1))
 
 level_fits : (s : Shape) (words : List Text) → is_usual s ≡ true → level_fault s [] nothing_held words false [] ≡ [] → FitsShape s (rows_after s.rules [] words)
 level_fits s words usual e =
@@ -90,7 +104,7 @@ level_fits s words usual e =
     let defaults = neither (defaults_fault (settled s.rules end).rows s.rules) _ settles.1 in
     let uses = uses_of s usual in
     record {
-      fits = no_defaults (Each (RowFits s.rules)) s.rules (settled s.rules end).rows (from_all is_usual_rule s.rules (both _ _ usual).0)
+      fits = defaults_fit s.rules s.rules (settled s.rules end).rows (finds_itself same_id s.rules (both _ _ usual).1) defaults.0
           (settled_keeps s.rules s.args_override_self (Each (RowFits s.rules)) uses end settles.0
           (walk_keeps s [] (Each (RowFits s.rules)) uses words (walk_from nothing_held) walks.0 tt));
       required = each_given (finished s.rules end) s.rules (none_missing s.subcommand_negates_reqs _ (none_wanted _ _ _ defaults.1).1);

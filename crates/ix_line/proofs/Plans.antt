@@ -1,6 +1,6 @@
 -- The plan that the numbers of a line's options make.
-use Rattle.std.proofs.Common.{◌≡◌, ℕ, ◌<◌, ◌≤◌, arith, refl, subst, sym, Option, Some, None}
-use Rattle.std.specs.Prelude.{IfSome, IsSome, option_map}
+use Rattle.std.proofs.Common.{◌≡◌, ℕ, ◌≤◌, subst, sym, Option, Some, None}
+use Rattle.std.specs.Prelude.{IfSome, option_map}
 use Rattle.std.specs.Option.{option_map_or}
 use Rattle.clap.specs.Walk.{Text}
 use Rattle.ix_build.specs.Blocks.{cut_number}

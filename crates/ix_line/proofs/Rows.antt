@@ -1,13 +1,18 @@
 -- What a reader of a field knows of the rows of a command that was entered.
-use Rattle.std.proofs.Common.{◌≡◌, ◌<◌, ◌||◌, Bool, cond, true, false, refl, subst, sym, arith, true≢false, List, [], ◌∷◌, length, Option, Some, None}
+use Rattle.std.proofs.Common.{◌≡◌, ◌∙◌, ◌<◌, ◌||◌, ap, Bool, cond, true, false, refl, subst, sym, arith, true≢false, List, [], ◌∷◌, length, Option, Some, None}
 use Rattle.std.specs.Prelude.{IfSome, IsSome, IsSomeAnd, find, option_and_then, option_map, slice_get}
 use Rattle.std.specs.Option.{option_map_or}
 use Rattle.std.specs.Str.{bytes_eq}
-use Rattle.clap.specs.Facts.{explicit_source}
+use Rattle.clap.specs.Facts.{Entry, explicit_source}
+use Rattle.clap.specs.Matches.{matched_of}
 use Rattle.clap.specs.Simple.{App, Shape, label_of}
-use Rattle.clap.specs.Walk.{Row, Rule, Text, all_of, answers_to, arg_by_id, first_of}
+use Rattle.clap.specs.Walk.{Row, Rule, Text, all_of, answers_to, arg_by_id, first_of, row_of, rows_of}
+use Rattle.clap.specs.declared.parser.matches.Found.{Found}
+use Rattle.clap.specs.declared.parser.matches.MatchedArg.{MatchedArg}
+use Rattle.clap.proofs.WalkLemmas.{find_row}
 use Rattle.clap.specs.Takes.{is_given}
 use Rattle.ix_line.specs.Entered.{Each, Entered, FitsShape, RowFits, ValuesFit}
+use Rattle.ix_line.specs.Lines.{source_of}
 use Rattle.ix_line.proofs.EachLemmas.{found}
 use Rattle.ix_line.proofs.Uses.{same_bytes}
 
@@ -79,3 +84,11 @@ another own name other = go (bytes_eq own name) refl
     go : (b : Bool) → bytes_eq own name ≡ b → (b || false) ≡ false
     go true same = absurd (other (sym (same_bytes own name same)))
     go false e = refl
+
+-- where the value of an argument comes from is said by its row
+pub source-rows : (f : Found) (id : Text) → option_and_then (λ (a : MatchedArg). a.source) (matched_of f id) ≡ source_of id (rows_of f)
+source-rows f id = go (find (λ e. bytes_eq e.0.now id) f.entries.items) ∙ ap (option_and_then (λ (r : Row). r.source)) (sym (find_row f.entries.items id))
+  where
+    go : (o : Option Entry) → option_and_then (λ (a : MatchedArg). a.source) (option_map (λ e. e.1) o) ≡ option_and_then (λ (r : Row). r.source) (option_map row_of o)
+    go None = refl
+    go (Some e) = refl

@@ -3,6 +3,7 @@ use Rattle.std.specs.Prelude.{◌∷◌, [], ℤ, List, Some, codes, fold, pos, 
 use Rattle.clap.specs.Lexer.{usize_max}
 use Rattle.clap.specs.Simple.{App, Shape, built, new_app, new_rule, new_shape, with_subcommand}
 use Rattle.clap.specs.Walk.{Rule, Text}
+use Rattle.clap.specs.declared.builder.action.ArgAction.TheVariants.{SetTrue}
 use Rattle.clap.specs.declared.builder.value_parser.ValueParser.TheVariants.{Signed}
 
 -- `--name VALUE` or `--name=VALUE`, which may be left out
@@ -12,6 +13,10 @@ option_rule name = record (new_rule name) { long = Some name; value_names = 1 }
 -- the same, where the value is a number in a range
 abbrev pub number_rule : Text → ℤ → ℤ → Rule
 number_rule name low high = record (option_rule name) { parser = Some (Signed low high) }
+
+-- `--name`
+abbrev pub flag_rule : Text → Rule
+flag_rule name = record (new_rule name) { long = Some name; action = Some SetTrue }
 
 -- a word in its place, which may not be left out
 abbrev pub operand_rule : Text → Rule
@@ -60,21 +65,27 @@ live_shape = record (new_shape (codes "live")) {
       ∷ []);
 }
 
--- `search INDEX QUERY`
+-- `search [--trust] INDEX QUERY`
 abbrev pub search_shape : Shape
 search_shape = record (new_shape (codes "search")) {
-  rules = operand_rule (codes "INDEX")
+  rules = flag_rule (codes "trust")
+      ∷ operand_rule (codes "INDEX")
       ∷ operand_rule (codes "QUERY")
       ∷ [];
 }
 
--- `terms INDEX PATTERN`
+-- `terms [--trust] INDEX PATTERN`
 abbrev pub terms_shape : Shape
 terms_shape = record (new_shape (codes "terms")) {
-  rules = operand_rule (codes "INDEX")
+  rules = flag_rule (codes "trust")
+      ∷ operand_rule (codes "INDEX")
       ∷ operand_rule (codes "PATTERN")
       ∷ [];
 }
+
+-- `check INDEX...`
+abbrev pub check_shape : Shape
+check_shape = record (new_shape (codes "check")) { rules = operands_rule (codes "INDEX") ∷ [] }
 
 -- `run [--stop FILE] [--first D] COLLECTION RUN`
 abbrev pub run_shape : Shape
@@ -120,7 +131,16 @@ program = record (new_app (codes "ix")) {
 -- the commands, in their order
 abbrev pub ix_shapes : List Shape
 ix_shapes =
-    ask_shape ∷ search_shape ∷ terms_shape ∷ run_shape ∷ merge_shape ∷ upgrade_shape ∷ build_shape ∷ live_shape ∷ []
+    ask_shape
+    ∷ search_shape
+    ∷ terms_shape
+    ∷ check_shape
+    ∷ run_shape
+    ∷ merge_shape
+    ∷ upgrade_shape
+    ∷ build_shape
+    ∷ live_shape
+    ∷ []
 
 -- the program with its commands
 unfoldable pub ix_app : App

@@ -2,15 +2,16 @@
 use Rattle.std.specs.Prelude.{map}
 use Rattle.clap.specs.Simple.{Shape, new_shape}
 use Rattle.clap.specs.Walk.{Rule}
-use Rattle.ix_line.specs.Commands.{number_rule, operand_rule, operands_rule, option_rule}
+use Rattle.ix_line.specs.Commands.{flag_rule, number_rule, operand_rule, operands_rule, option_rule}
 use Rattle.ix_line.specs.declared.commands.Argument.{Argument}
-use Rattle.ix_line.specs.declared.commands.Argument.TheVariants.{Number, Operand, Operands, Text}
+use Rattle.ix_line.specs.declared.commands.Argument.TheVariants.{Flag, Number, Operand, Operands, Text}
 use Rattle.ix_line.specs.declared.commands.Form.{Form}
 
 -- the rule of an argument
 abbrev pub rule_of_argument : Argument → Rule
 rule_of_argument (Text name) = option_rule name.now
 rule_of_argument (Number name low high) = number_rule name.now low high
+rule_of_argument (Flag name) = flag_rule name.now
 rule_of_argument (Operand name) = operand_rule name.now
 rule_of_argument (Operands name) = operands_rule name.now
 

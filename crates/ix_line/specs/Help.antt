@@ -6,7 +6,7 @@ use Rattle.clap.specs.Faults.{fault_of}
 use Rattle.clap.specs.Words.{IsAmong}
 use Rattle.clap.specs.declared.error.kind.ErrorKind.TheVariants.{DisplayHelp}
 use Rattle.ix_line.specs.Commands.{ix_app}
-use Rattle.ix_line.specs.declared.help.TheConstants.{HELP, HELP_ON_ASK, HELP_ON_BUILD, HELP_ON_LIVE, HELP_ON_MERGE, HELP_ON_RUN, HELP_ON_SEARCH, HELP_ON_TERMS, HELP_ON_UPGRADE}
+use Rattle.ix_line.specs.declared.help.TheConstants.{HELP, HELP_ON_ASK, HELP_ON_BUILD, HELP_ON_CHECK, HELP_ON_LIVE, HELP_ON_MERGE, HELP_ON_RUN, HELP_ON_SEARCH, HELP_ON_TERMS, HELP_ON_UPGRADE}
 
 -- `help X` is `X --help`
 abbrev pub as_flag : List Text → List Text
@@ -23,6 +23,7 @@ help_on_command name =
     if bytes_eq name (codes "ask") then HELP_ON_ASK.now else
     if bytes_eq name (codes "search") then HELP_ON_SEARCH.now else
     if bytes_eq name (codes "terms") then HELP_ON_TERMS.now else
+    if bytes_eq name (codes "check") then HELP_ON_CHECK.now else
     if bytes_eq name (codes "run") then HELP_ON_RUN.now else
     if bytes_eq name (codes "merge") then HELP_ON_MERGE.now else
     if bytes_eq name (codes "upgrade") then HELP_ON_UPGRADE.now else

@@ -1,6 +1,7 @@
 -- Which line the words are, by the matches that `clap` defines for them.
-use Rattle.std.specs.Prelude.{◌≡◌, ◌^◌, ◌<◌, ◌≤◌, ℕ, List, [], IsSome, Option, None, Some, codes, map, option_map, pos}
+use Rattle.std.specs.Prelude.{◌≡◌, ◌↔◌, ◌^◌, ◌<◌, ◌≤◌, ℕ, Bool, List, [], IsSome, IsTrue, Option, None, Some, codes, find, map, option_and_then, option_map, pos}
 use Rattle.std.specs.Option.{option_map_or}
+use Rattle.std.specs.Str.{bytes_eq}
 use Rattle.std.specs.Str.Parse.{digits_value, without_leading_plus}
 use Rattle.std.specs.Borrow.{Bor}
 use Rattle.clap.specs.Simple.{subcommand_of, subcommand_rows_of}
@@ -10,13 +11,15 @@ use Rattle.clap.specs.Walk.{Row, Text, all_of, first_of, one_of}
 use Rattle.clap.specs.Faults.{fault_of}
 use Rattle.clap.specs.Words.{IsAmong, kind_of}
 use Rattle.clap.specs.declared.parser.matches.ArgMatches.{ArgMatches}
+use Rattle.clap.specs.declared.parser.matches.ValueSource.{ValueSource}
+use Rattle.clap.specs.declared.parser.matches.ValueSource.TheVariants.{CommandLine}
 use Rattle.ix_build.specs.Blocks.{cut_number}
 use Rattle.ix_build.specs.Plans.{PlanValue}
 use Rattle.ix_build.specs.declared.plan.Cut.{Cut}
 use Rattle.ix_build.specs.declared.plan.Cut.TheVariants.{Bytes, Docs}
 use Rattle.ix_line.specs.Commands.{ix_app}
 use Rattle.ix_line.specs.declared.line.Line.{Line}
-use Rattle.ix_line.specs.declared.line.Line.TheVariants.{Ask, Build, Live, Merge, Run, Search, Terms, Upgrade}
+use Rattle.ix_line.specs.declared.line.Line.TheVariants.{Ask, Build, Check, Live, Merge, Run, Search, Terms, Upgrade}
 use Rattle.ix_line.specs.declared.error.LineError.{LineError}
 use Rattle.ix_line.specs.declared.error.LineError.TheVariants.{Both, Clap, Memory}
 
@@ -37,6 +40,14 @@ HasOperand id rows field = first_of id rows ≡ Some field.now
 -- the texts of an operand that takes the words up to the end
 abbrev pub HasOperands : Text → List Row → List (Bor Text) → Type 0
 HasOperands id rows fields = all_of id rows ≡ Some (texts_of fields)
+
+-- where the value of an argument comes from, if it has one: the words, or the argument's default
+abbrev pub source_of : Text → List Row → Option ValueSource
+source_of id rows = option_and_then (λ r. r.source) (find (λ r. bytes_eq r.id id) rows)
+
+-- whether the words give a flag
+abbrev pub HasFlag : Text → List Row → Bool → Type 0
+HasFlag id rows field = IsTrue field ↔ (source_of id rows ≡ Some CommandLine)
 
 -- the number that a text is written as
 abbrev pub number_of : Text → ℕ
@@ -103,12 +114,16 @@ Holds name rows (Live stop plan searchers script) = (name ≡ codes "live")
     × HasPlan rows None plan
     × HasNumberOr (codes "searchers") 2 rows searchers
     × HasOperand (codes "SCRIPT") rows script
-Holds name rows (Search index query) = (name ≡ codes "search")
+Holds name rows (Search index query trust) = (name ≡ codes "search")
     × HasOperand (codes "INDEX") rows index
     × HasOperand (codes "QUERY") rows query
-Holds name rows (Terms index pattern) = (name ≡ codes "terms")
+    × HasFlag (codes "trust") rows trust
+Holds name rows (Terms index pattern trust) = (name ≡ codes "terms")
     × HasOperand (codes "INDEX") rows index
     × HasOperand (codes "PATTERN") rows pattern
+    × HasFlag (codes "trust") rows trust
+Holds name rows (Check paths) = (name ≡ codes "check")
+    × HasOperands (codes "INDEX") rows paths.items
 Holds name rows (Run stop first collection run) = (name ≡ codes "run")
     × HasText (codes "stop") rows stop
     × HasNumberOr (codes "first") 0 rows first

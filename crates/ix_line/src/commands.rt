@@ -2,12 +2,12 @@
 ghost use Rattle.std.specs.Prelude.{◌≡◌, IfOk, map};
 ghost use Rattle.clap.specs.Words.{app_of};
 ghost use Rattle.ix_line.specs.Building.{IsArgument, IsCommand};
-ghost use Rattle.ix_line.specs.Commands.{ix_app, ix_shapes, leaf, number_rule, operand_rule, operands_rule};
-ghost use Rattle.ix_line.specs.Commands.{option_rule, program};
+ghost use Rattle.ix_line.specs.Commands.{flag_rule, ix_app, ix_shapes, leaf, number_rule, operand_rule};
+ghost use Rattle.ix_line.specs.Commands.{operands_rule, option_rule, program};
 ghost use Rattle.ix_line.specs.Forms.{rule_of_argument, shape_of_form};
 
 use clap::builder::ValueParser;
-use clap::{Arg, Command};
+use clap::{Arg, ArgAction, Command};
 use ix_text::{MAX_DOCUMENTS, MAX_TEXT_BYTES};
 use std::alloc::{AllocError, Global};
 
@@ -30,6 +30,8 @@ pub(crate) enum Argument {
     Text(&'static str),
     /// The same, for a number from the first to the second.
     Number(&'static str, i64, i64),
+    /// `--name`, at most once.
+    Flag(&'static str),
     /// A word that has to be there.
     Operand(&'static str),
     /// The words up to the end, of which one has to be there.
@@ -73,11 +75,23 @@ fn forms() -> &'static [Form]
         },
         Form {
             name: "search",
-            arguments: &[Argument::Operand("INDEX"), Argument::Operand("QUERY")],
+            arguments: &[
+                Argument::Flag("trust"),
+                Argument::Operand("INDEX"),
+                Argument::Operand("QUERY"),
+            ],
         },
         Form {
             name: "terms",
-            arguments: &[Argument::Operand("INDEX"), Argument::Operand("PATTERN")],
+            arguments: &[
+                Argument::Flag("trust"),
+                Argument::Operand("INDEX"),
+                Argument::Operand("PATTERN"),
+            ],
+        },
+        Form {
+            name: "check",
+            arguments: &[Argument::Operands("INDEX")],
         },
         Form {
             name: "run",
@@ -151,6 +165,7 @@ fn arg<'a>(alloc: Global, argument: &Argument) -> Arg<'a>
     match argument {
         Argument::Text(name) => option(alloc, name),
         Argument::Number(name, low, high) => number_option(alloc, name, *low, *high),
+        Argument::Flag(name) => flag(alloc, name),
         Argument::Operand(name) => operand(alloc, name),
         Argument::Operands(name) => operands(alloc, name),
     }
@@ -170,6 +185,12 @@ fn number_option<'a>(alloc: Global, name: &'a str, low: i64, high: i64) -> Arg<'
         .long(name)
         .value_name("VALUE")
         .value_parser(ValueParser::signed(low, high))
+}
+
+fn flag<'a>(alloc: Global, name: &'a str) -> Arg<'a>
+    ensures { IsArgument (flag_rule name.entry.now) result }
+{
+    Arg::new(alloc, name).long(name).action(ArgAction::SetTrue)
 }
 
 fn operand<'a>(alloc: Global, name: &'a str) -> Arg<'a>

@@ -1,10 +1,11 @@
 //! One field of a line, read from the matches of its command.
-ghost use Rattle.std.specs.Prelude.{◌≡◌, IfOk, IfSome, IsSome};
+ghost use Rattle.std.specs.Prelude.{◌≡◌, ◌↔◌, IfOk, IfSome, IsSome, IsTrue};
 ghost use Rattle.clap.specs.Words.{all_of, first_of, found_of, one_of, rows_of};
-ghost use Rattle.ix_line.specs.Lines.{HasNumberOr, HasOperand, HasOperands, HasText, IsNumberText};
-ghost use Rattle.ix_line.specs.Lines.{given_number};
+ghost use Rattle.ix_line.specs.Lines.{HasFlag, HasNumberOr, HasOperand, HasOperands, HasText};
+ghost use Rattle.ix_line.specs.Lines.{IsNumberText, given_number};
 
 use clap::ArgMatches;
+use clap::parser::ValueSource;
 use std::alloc::{AllocError, Global};
 
 /// The value of an option, where the words give it.
@@ -12,6 +13,18 @@ pub fn option<'a>(matches: &ArgMatches<'a>, id: &str) -> Option<&'a str>
     ensures { HasText id.now (rows_of (found_of matches.now)) result }
 {
     matches.get_str(id)
+}
+
+/// Whether the words give a flag.
+pub fn flag(matches: &ArgMatches<'_>, id: &str) -> bool
+    ensures { HasFlag id.now (rows_of (found_of matches.now)) result }
+{
+    // A flag that is not given has an entry too, by its default.
+    match matches.value_source(id) {
+        Some(ValueSource::CommandLine) => true,
+        Some(ValueSource::DefaultValue) => false,
+        None => false,
+    }
 }
 
 /// The number of an option, where the words give it.

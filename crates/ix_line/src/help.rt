@@ -21,6 +21,8 @@ Commands, in the order in which they are met:
             ix search mail.ix 'contract AND NOT hotel'
   terms     prints the terms of an index that match a pattern
             ix terms mail.ix 'contr*'
+  check     looks for damage in index files, and prints what it finds
+            ix check mail.ix
   run       inverts a part of a collection into a run file, to be merged elsewhere
             ix run examples/mail.txt mail.run
   merge     merges run files, in any order, and index files into an index
@@ -172,12 +174,19 @@ Example, of a script of five lines in the file mail.live:
 pub const HELP_ON_SEARCH: &str = "\
 Prints the names of the documents of an index that answer a query, one a line.
 
-Usage: ix search INDEX QUERY
+Usage: ix search [--trust] INDEX QUERY
 
   INDEX          the file of the index; `-` is the standard input
   QUERY          the query, as one argument
+  --trust        read only the parts of INDEX that the query needs, and trust the rest
 
 The words that were left out of the index are no words of a query either.
+
+Without --trust every byte of the index is checked, and an index that is damaged anywhere
+is an error. With --trust only what the query needs is read, so that a search of a large
+index takes milliseconds; damage in a part that is not read is not noticed. Use it for
+files that ix wrote and that are kept well: `ix check` looks at a whole file.
+`-`, a pipe and a device are always read whole, with or without --trust.
 
 What can be asked:
   fox               documents that hold the word, in any case
@@ -195,6 +204,7 @@ Exit status: 0 something was found, or help was asked for; 1 nothing was found;
 Examples:
   ix search mail.ix 'contract AND NOT hotel'
   ix search mail.ix '\"flights to london\" OR umbrella NEAR/3 station'
+  ix search --trust mail.ix contract
 ";
 
 /// What `ix terms --help` prints.
@@ -202,10 +212,11 @@ pub const HELP_ON_TERMS: &str = "\
 Prints the terms of an index that match a pattern, one a line, in the order of
 their bytes: the term, a TAB, and in how many documents it is.
 
-Usage: ix terms INDEX PATTERN
+Usage: ix terms [--trust] INDEX PATTERN
 
   INDEX      the file of the index; `-` is the standard input
   PATTERN    the pattern, as one argument, with at least one star
+  --trust    read only the parts of INDEX that the pattern needs, and trust the rest
 
 A term is a word without its case. A star stands for any characters, or none:
   inter*     terms that begin so
@@ -213,11 +224,42 @@ A term is a word without its case. A star stands for any characters, or none:
   re*ed      terms that begin and end so
   *tract*    terms that hold this
 
+Without --trust every byte of the index is checked, and an index that is damaged anywhere
+is an error. With --trust only what the pattern needs is read, which takes milliseconds;
+damage in a part that is not read is not noticed. Use it for files that ix wrote and that
+are kept well: `ix check` looks at a whole file.
+`-`, a pipe and a device are always read whole, with or without --trust.
+
 Exit status: 0 something was found, or help was asked for; 1 nothing was found;
 2 refused, and one line on the error output says why.
 
-Example:
+Examples:
   ix terms mail.ix 'contr*'
+  ix terms --trust mail.ix '*tract*'
+";
+
+/// What `ix check --help` prints.
+pub const HELP_ON_CHECK: &str = "\
+Reads index files whole, and prints a line for each that is damaged.
+
+Usage: ix check INDEX...
+
+  INDEX...    the index files, one or more; `-` is the standard input
+
+Every byte of a file is checked, as in a search without --trust. Of an index that is
+sound nothing is printed. Of each other file a line is printed: its path, a TAB, and
+what is wrong with it. The file mail.ix was cut short, and old.ix cannot be read:
+  mail.ix<TAB>index 3: Trailer
+  old.ix<TAB>file 1: Read
+
+All files are looked at, also those behind a file that is damaged.
+
+Exit status: 0 all files are sound, or help was asked for; 2 at least one is not, or
+the command was refused, and then one line on the error output says why.
+
+Examples:
+  ix check mail.ix
+  ix check mail.ix mail-2.ix
 ";
 
 /// What `ix run --help` prints.
@@ -320,6 +362,7 @@ fn help_on_command(name: &str) -> &'static str
         "ask" => HELP_ON_ASK,
         "search" => HELP_ON_SEARCH,
         "terms" => HELP_ON_TERMS,
+        "check" => HELP_ON_CHECK,
         "run" => HELP_ON_RUN,
         "merge" => HELP_ON_MERGE,
         "upgrade" => HELP_ON_UPGRADE,

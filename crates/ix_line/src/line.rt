@@ -7,7 +7,7 @@ ghost use Rattle.ix_line.specs.Lines.{Holds, IsMatched, Reads, Refuses, RefusesR
 
 use crate::commands;
 use crate::error::LineError;
-use crate::fields::{number_or, operand, operands, option};
+use crate::fields::{flag, number_or, operand, operands, option};
 use crate::plan::{read_plan, runs_in};
 use crate::searchers::{Searchers, read_searchers};
 use clap::ArgMatches;
@@ -52,19 +52,28 @@ pub enum Line<'a> {
         /// The file of the script.
         script: &'a str,
     },
-    /// `ix search INDEX QUERY`.
+    /// `ix search [--trust] INDEX QUERY`.
     Search {
         /// The file of the index.
         index: &'a str,
         /// The text of the query.
         query: &'a str,
+        /// Whether only what the query needs is read of the index.
+        trust: bool,
     },
-    /// `ix terms INDEX PATTERN`.
+    /// `ix terms [--trust] INDEX PATTERN`.
     Terms {
         /// The file of the index.
         index: &'a str,
         /// The text of the pattern.
         pattern: &'a str,
+        /// Whether only what the pattern needs is read of the index.
+        trust: bool,
+    },
+    /// `ix check INDEX...`.
+    Check {
+        /// The index files; there is one.
+        paths: Vec<&'a str>,
     },
     /// `ix run [--stop FILE] [--first D] COLLECTION RUN`.
     Run {
@@ -137,6 +146,7 @@ fn line_of<'a>(alloc: Global, name: &str, matches: &ArgMatches<'a>) -> Result<Li
         "live" => live_line(matches),
         "search" => Ok(search_line(matches)),
         "terms" => Ok(terms_line(matches)),
+        "check" => check_line(alloc, matches),
         "run" => Ok(run_line(matches)),
         "merge" => merge_line(alloc, matches),
         "upgrade" => Ok(upgrade_line(matches)),
@@ -203,6 +213,7 @@ fn search_line<'a>(matches: &ArgMatches<'a>) -> Line<'a>
     Line::Search {
         index: operand(matches, "INDEX"),
         query: operand(matches, "QUERY"),
+        trust: flag(matches, "trust"),
     }
 }
 
@@ -213,7 +224,17 @@ fn terms_line<'a>(matches: &ArgMatches<'a>) -> Line<'a>
     Line::Terms {
         index: operand(matches, "INDEX"),
         pattern: operand(matches, "PATTERN"),
+        trust: flag(matches, "trust"),
     }
+}
+
+fn check_line<'a>(alloc: Global, matches: &ArgMatches<'a>) -> Result<Line<'a>, LineError>
+    requires { Entered ix_built (codes "check") (rows_of (found_of matches.now)) }
+    ensures line { IfOk result (Holds (codes "check") (rows_of (found_of matches.now))) }
+    ensures refused { IfErr result (RefusesRows (rows_of (found_of matches.now))) }
+{
+    let paths = operands(alloc, matches, "INDEX")?;
+    Ok(Line::Check { paths })
 }
 
 fn run_line<'a>(matches: &ArgMatches<'a>) -> Line<'a>

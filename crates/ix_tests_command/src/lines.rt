@@ -3,8 +3,8 @@
 use super::disk::Disk;
 use super::session::{tell, words_of};
 use ix_line::{
-    HELP, HELP_ON_ASK, HELP_ON_BUILD, HELP_ON_LIVE, HELP_ON_MERGE, HELP_ON_RUN, HELP_ON_SEARCH,
-    HELP_ON_TERMS, HELP_ON_UPGRADE, Line, LineError, read_line,
+    HELP, HELP_ON_ASK, HELP_ON_BUILD, HELP_ON_CHECK, HELP_ON_LIVE, HELP_ON_MERGE, HELP_ON_RUN,
+    HELP_ON_SEARCH, HELP_ON_TERMS, HELP_ON_UPGRADE, Line, LineError, read_line,
 };
 use std::alloc::Global;
 use std::test::Fail;
@@ -26,7 +26,7 @@ fn shown(alloc: Global, text: &str) -> Result<String, Fail> {
     }
 }
 
-const LINES: [(&str, &str); 14] = [
+const LINES: [(&str, &str); 18] = [
     (
         "ask --stop=s.txt c.txt red",
         r#"Ask { stop: Some("s.txt"), plan: Plan { cut: Docs(1024), workers: 4, runs: Memory }, collection: "c.txt", query: "red" }"#,
@@ -41,11 +41,23 @@ const LINES: [(&str, &str); 14] = [
     ),
     (
         "search c.ix red",
-        r#"Search { index: "c.ix", query: "red" }"#,
+        r#"Search { index: "c.ix", query: "red", trust: false }"#,
+    ),
+    (
+        "search c.ix red --trust",
+        r#"Search { index: "c.ix", query: "red", trust: true }"#,
     ),
     (
         "terms c.ix re*",
-        r#"Terms { index: "c.ix", pattern: "re*" }"#,
+        r#"Terms { index: "c.ix", pattern: "re*", trust: false }"#,
+    ),
+    (
+        "terms --trust c.ix re*",
+        r#"Terms { index: "c.ix", pattern: "re*", trust: true }"#,
+    ),
+    (
+        "check c.ix -- -d.ix",
+        r#"Check { paths: ["c.ix", "-d.ix"] }"#,
     ),
     (
         "merge c.ix 4.run -- -2.run 0.run",
@@ -53,6 +65,7 @@ const LINES: [(&str, &str); 14] = [
     ),
     ("", "1 Clap(MissingSubcommand)"),
     ("ask c.txt", "1 Clap(MissingRequiredArgument)"),
+    ("check", "1 Clap(MissingRequiredArgument)"),
     ("ask c.txt red sea", "1 Clap(UnknownArgument)"),
     ("ask --all c.txt red", "1 Clap(UnknownArgument)"),
     ("find c.txt red", "1 Clap(InvalidSubcommand)"),
@@ -70,13 +83,14 @@ fn lines_that_are_read_and_refused(rt: HostRuntime) -> Result<(), Fail> {
 }
 
 /// Words that ask for help, the help that is printed, and what stands in it.
-const HELPS: [(&str, &str, &str); 11] = [
+const HELPS: [(&str, &str, &str); 12] = [
     ("--help", HELP, "\n  a NEAR/3 b "),
     ("-h", HELP, "\nExit status: 0 "),
     ("help", HELP, "\nA collection is a text"),
     ("ask -h five", HELP_ON_ASK, "\n  inter*, re*ed "),
     ("help search", HELP_ON_SEARCH, "\n  a NEAR/3 b "),
     ("terms -h", HELP_ON_TERMS, "Usage: ix terms "),
+    ("check -h", HELP_ON_CHECK, "Usage: ix check INDEX...\n"),
     ("build --help", HELP_ON_BUILD, "Usage: ix build "),
     ("live --help", HELP_ON_LIVE, "Usage: ix live "),
     ("run --help", HELP_ON_RUN, "Usage: ix run "),

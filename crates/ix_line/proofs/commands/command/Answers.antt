@@ -1,5 +1,5 @@
 -- Each argument adds its rule.
-use Rattle.std.proofs.Common.{◌+◌, List, arith, refl, subst, sym, take, get_or}
+use Rattle.std.proofs.Common.{◌+◌, List, arith, subst, sym, take}
 use Rattle.std.proofs.lemmas.List.{take_all}
 use Rattle.std.specs.List.{AllZip}
 use Rattle.clap.specs.declared.builder.arg.Arg.{Arg}

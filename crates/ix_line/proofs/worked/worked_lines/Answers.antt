@@ -15,6 +15,12 @@ returns _ = record {
     hyphen = (refl, refl);
     empty = (refl, refl);
   };
+  flags = record {
+    absent = (refl, refl);
+    first = (refl, refl);
+    between = (refl, refl);
+    last = (refl, refl);
+  };
   faults = record {
     no_words = refl;
     no_operands = refl;
@@ -23,6 +29,8 @@ returns _ = record {
     unknown = refl;
     twice = refl;
     no_value = refl;
+    flag_twice = refl;
+    flag_value = refl;
     help = refl;
     help_of_ask = refl;
   };
