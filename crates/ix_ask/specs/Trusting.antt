@@ -5,8 +5,8 @@ use Rattle.ix_text.specs.Collections.{Collection}
 use Rattle.ix_file.specs.declared.open_error.OpenError.TheVariants as open_error
 use Rattle.ix_extract.specs.declared.extract_error.ExtractError.{ExtractError}
 use Rattle.ix_extract.specs.declared.extract_error.ExtractError.TheVariants as extracting
-use Rattle.ix_ask.specs.Listing.{LeavesListing, RefusesPattern}
-use Rattle.ix_ask.specs.Searching.{LeavesSearch, RefusesQuery}
+use Rattle.ix_ask.specs.Listing.{LeavesListing}
+use Rattle.ix_ask.specs.Searching.{LeavesSearch}
 use Rattle.ix_ask.specs.declared.ask_error.AskError.{AskError}
 use Rattle.ix_ask.specs.declared.ask_error.AskError.TheVariants as asking
 use Rattle.ix_ask.specs.declared.trust_error.TrustError.{TrustError}
@@ -25,13 +25,14 @@ RefusesTrusting refuses Read = Unit {0}
 RefusesTrusting refuses (Ask (asking.Open error)) = error ≡ open_error.Memory
 RefusesTrusting refuses (Ask error) = refuses error
 
--- Why there is no answer, and what went out: nothing, or what of an opened index goes out.
-abbrev pub LeavesTrusting : (AskError → Type 0) → Option (List ℕ) → Option (List ℕ) → TrustError → Type 0
-LeavesTrusting leaves old new Read = Keeps old new
-LeavesTrusting leaves old new (Ask (asking.Open error)) = (error ≡ open_error.Memory) × Keeps old new
-LeavesTrusting leaves old new (Ask error) = leaves error
+-- Why a search has no answer, and what went out: nothing, or what of an opened index goes out.
+abbrev pub LeavesTrusting : Collection → List ℕ → Option (List ℕ) → Option (List ℕ) → TrustError → Type 0
+LeavesTrusting collection query old new Read = Keeps old new
+LeavesTrusting collection query old new (Ask (asking.Open error)) = (error ≡ open_error.Memory) × Keeps old new
+LeavesTrusting collection query old new (Ask error) = LeavesSearch collection query old new error
 
--- Nothing went out, if not a write failed.
-abbrev pub LeavesUnwritten : Option (List ℕ) → Option (List ℕ) → TrustError → Type 0
-LeavesUnwritten old new (Ask asking.Write) = Unit {0}
-LeavesUnwritten old new _ = Keeps old new
+-- Why a listing has no answer, and what went out.
+abbrev pub LeavesTrustingListing : Collection → List ℕ → Option (List ℕ) → Option (List ℕ) → TrustError → Type 0
+LeavesTrustingListing collection pattern old new Read = Keeps old new
+LeavesTrustingListing collection pattern old new (Ask (asking.Open error)) = (error ≡ open_error.Memory) × Keeps old new
+LeavesTrustingListing collection pattern old new (Ask error) = LeavesListing collection pattern old new error

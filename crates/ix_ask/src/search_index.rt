@@ -6,7 +6,7 @@ ghost use Rattle.ix_file.specs.Sections.{Version};
 ghost use Rattle.ix_projection.specs.Asked.{KeepsAsked};
 ghost use Rattle.ix_projection.specs.Kept.{Test, kept_collection};
 ghost use Rattle.ix_query.specs.Grammar.{Reads};
-ghost use Rattle.ix_query_text.specs.declared.tree.Tree.{Tree as SeenTree};
+ghost use Rattle.ix_query.specs.Tree.{Tree as SeenTree};
 ghost use Rattle.ix_ask.specs.Searching.{IsFound, IsSearched, LeavesSearch, RefusesQuery};
 
 use crate::ask_error::AskError;

@@ -1,11 +1,14 @@
 //! Questions to an index text that nobody has checked: only what a question needs is read.
-ghost use Rattle.std.specs.Prelude.{IfOk, IfErr};
+ghost use Rattle.std.specs.Prelude.{◌≡◌, ◌≢◌, IfOk, IfErr};
+ghost use Rattle.std.specs.Io.KnownBytes.{Keeps};
 ghost use Rattle.ix_text.specs.Collections.{Collection, IsLawful};
 ghost use Rattle.ix_file.specs.Sections.{Version};
 ghost use Rattle.ix_extract.specs.Projections.{HasIndexText};
-ghost use Rattle.ix_ask.specs.Listing.{IsListed, IsPrinted, LeavesListing, RefusesPattern};
-ghost use Rattle.ix_ask.specs.Searching.{IsFound, IsSearched, LeavesSearch, RefusesQuery};
-ghost use Rattle.ix_ask.specs.Trusting.{LeavesTrusting, LeavesUnwritten, RefusesTrusting};
+ghost use Rattle.ix_ask.specs.Listing.{IsListed, IsPrinted, RefusesPattern};
+ghost use Rattle.ix_ask.specs.Searching.{IsFound, IsSearched, RefusesQuery};
+ghost use Rattle.ix_ask.specs.Trusting.{LeavesTrusting, LeavesTrustingListing, RefusesTrusting};
+ghost use Rattle.ix_ask.specs.declared.ask_error.AskError.TheVariants as asking;
+ghost use Rattle.ix_ask.specs.declared.trust_error.TrustError.TheVariants.{Ask};
 
 use crate::ask_error::AskError;
 use crate::list_index::{find_terms, read_pattern};
@@ -38,9 +41,9 @@ pub fn search_trusting<S: ReadAt, W: Write>(
         × IsSearched collection query.now (W.contents out.old) (W.contents out.new) count) }
     ensures refused { IfErr result (λ error. (version : Version) (collection : Collection)
         → HasIndexText (S.contents source.now) version collection
-        → LeavesTrusting (LeavesSearch collection query.now (W.contents out.old)
-        (W.contents out.new)) (W.contents out.old) (W.contents out.new) error) }
-    ensures left { IfErr result (LeavesUnwritten (W.contents out.old) (W.contents out.new)) }
+        → LeavesTrusting collection query.now (W.contents out.old) (W.contents out.new) error) }
+    ensures kept { IfErr result (λ error. error ≢ Ask asking.Write
+        → Keeps (W.contents out.old) (W.contents out.new)) }
 {
     let names = find_names_trusting(alloc, source, query)?;
     match write_whole(out, &names.bytes) {
@@ -92,9 +95,10 @@ pub fn list_terms_trusting<S: ReadAt, W: Write>(
         × IsPrinted collection pattern.now (W.contents out.old) (W.contents out.new) count) }
     ensures refused { IfErr result (λ error. (version : Version) (collection : Collection)
         → HasIndexText (S.contents source.now) version collection
-        → LeavesTrusting (LeavesListing collection pattern.now (W.contents out.old)
-        (W.contents out.new)) (W.contents out.old) (W.contents out.new) error) }
-    ensures left { IfErr result (LeavesUnwritten (W.contents out.old) (W.contents out.new)) }
+        → LeavesTrustingListing collection pattern.now (W.contents out.old)
+        (W.contents out.new) error) }
+    ensures kept { IfErr result (λ error. error ≢ Ask asking.Write
+        → Keeps (W.contents out.old) (W.contents out.new)) }
 {
     let rows = find_terms_trusting(alloc, source, pattern)?;
     match write_whole(out, &rows.bytes) {

@@ -11,10 +11,10 @@ pub returns-clause-listed : goal.returns-clause-listed
 returns-clause-listed c = λ version collection index.
     let numbers = c.in_ok-numbers.numbers.items in
     let parts = c.args.index.now.parts in
-    let matches = subst (λ (pieces : List (List ℕ)). AreMatches (terms_of parts.entries) pieces numbers) c.in-Ok.ensures.pieces c.in_ok-numbers.ensures.matches in
+    let matches = subst (λ (pieces : List (List ℕ)). AreMatches (terms_of parts.entries) pieces numbers) c.in_ok-pieces.ensures.pieces c.in_ok-numbers.ensures.matches in
     record {
-      star = c.in-Ok.ensures.with_star;
-      piece = c.in-Ok.ensures.with_piece;
+      star = c.in_ok-pieces.ensures.with_star;
+      piece = c.in_ok-pieces.ensures.with_piece;
       rows = picked (term_rows parts.entries) numbers;
       listed = rows_listed collection parts (pieces_of c.args.pattern.now) numbers index.parts matches;
       printed = search rules;
