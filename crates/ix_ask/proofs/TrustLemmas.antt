@@ -1,9 +1,10 @@
 -- What an index with fewer terms says of the whole collection, and what is left if there is no answer.
-use Rattle.std.proofs.Common.{◌≡◌, ◌∙◌, ℕ, List, get_or, Option, true, length, ap, refl, subst}
+use Rattle.std.proofs.Common.{◌≡◌, ◌∙◌, ◌⊎◌, inl, inr, sym, ℕ, List, get_or, Option, true, length, ap, refl, subst}
 use Rattle.std.proofs.KnownBytes.{Keeps-refl}
 use Rattle.std.proofs.lemmas.List.Elements.{Contains-get_or}
 use Rattle.std.specs.List.{Contains}
 use Rattle.ix_text.specs.Collections.{Collection, HasPosting}
+use Rattle.ix_file.specs.Sections.{Version}
 use Rattle.ix_gram.specs.Patterns.{Matches, pieces_of}
 use Rattle.ix_projection.specs.Kept.{Test, kept_collection}
 use Rattle.ix_projection.proofs.KeptLemmas.{posting_kept}
@@ -15,7 +16,8 @@ use Rattle.ix_query.specs.Tree.{Tree}
 use Rattle.ix_projection.specs.Alike.{ScansAlike}
 use Rattle.ix_projection.specs.Asked.{KeepsAsked}
 use Rattle.ix_projection.proofs.KeptLemmas.{names_kept}
-use Rattle.ix_extract.specs.Refusals.{IsPatternRefused, IsQueryRefused}
+use Rattle.ix_extract.specs.Projections.{HasIndexText}
+use Rattle.ix_extract.specs.Refusals.{IsQueryRefused, IsReadFault}
 use Rattle.ix_extract.specs.declared.extract_error.ExtractError.{ExtractError}
 use Rattle.ix_extract.specs.declared.extract_error.ExtractError.TheVariants as extracting
 use Rattle.ix_ask.specs.NameLines.{name_lines, names_indexed}
@@ -108,11 +110,10 @@ query_refused collection query extracting.Read refused = tt
 query_refused collection query (extracting.Query error) fails = fails
 query_refused collection query (extracting.Index error) refused = absurd refused
 
-pub pattern_refused : (pattern : List ℕ) (error : ExtractError) → IsPatternRefused error → RefusesTrusting (RefusesPattern pattern) (error_of_extract error)
-pattern_refused pattern extracting.Memory refused = tt
-pattern_refused pattern extracting.Read refused = tt
-pattern_refused pattern (extracting.Query error) refused = absurd refused
-pattern_refused pattern (extracting.Index error) refused = absurd refused
+pub pattern_refused : (contents : Option (List ℕ)) (pattern : List ℕ) (version : Version) (collection : Collection) (error : ExtractError) → HasIndexText contents version collection → IsReadFault contents error → RefusesTrusting (RefusesPattern pattern) (error_of_extract error)
+pattern_refused contents pattern version collection error has (inl (inl is)) = subst (λ e. RefusesTrusting (RefusesPattern pattern) (error_of_extract e)) (sym is) tt
+pattern_refused contents pattern version collection error has (inl (inr is)) = subst (λ e. RefusesTrusting (RefusesPattern pattern) (error_of_extract e)) (sym is) tt
+pattern_refused contents pattern version collection error has (inr (fault, none)) = absurd (none version collection has)
 
 -- why the smaller collection has no answer is why the whole one has none
 pub kept_refused : (keeps : Test) (collection : Collection) (query : List ℕ) (error : AskError) → RefusesQuery (kept_collection keeps collection) query error → RefusesTrusting (RefusesQuery collection query) (Ask error)

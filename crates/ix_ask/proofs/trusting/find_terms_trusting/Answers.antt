@@ -10,7 +10,7 @@ use Rattle.ix_ask.proofs.trusting.find_terms_trusting.Goals as goal
 pub returns-in_err-text-clause-refused : goal.returns-in_err-text-clause-refused
 returns-in_err-text-clause-refused g c =
     let p = err_from_is_err_and c.from_residual-in_err-text.result c.from_residual-in_err-text.ensures.1 in
-    rw (p.1, p.2) (λ version collection has. pattern_refused c.args.pattern.now c.in_err-text.field-0.0 (c.in_err-text.ensures.refused version collection has))
+    rw (p.1, p.2) (λ version collection has. pattern_refused (g.S.ReadAt.contents c.args.source.now) c.args.pattern.now version collection c.in_err-text.field-0.0 has c.in_err-text.ensures.refused)
 
 pub returns-in_err-index-clause-refused : goal.returns-in_err-index-clause-refused
 returns-in_err-index-clause-refused g c =
