@@ -1,9 +1,1 @@
-pub mod AssembleLemmas
-pub mod ChosenLemmas
-pub mod ErrorLemmas
-pub mod FrameLemmas
-pub mod HeldLemmas
-pub mod ListLemmas
-pub mod Projecting
-pub mod ScanLemmas
-pub mod TrailerLemmas
+pub mod SoughtLemmas
