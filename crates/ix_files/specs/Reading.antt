@@ -1,5 +1,5 @@
 -- What the files of given paths hold, and what was read of them.
-use Rattle.std.specs.Prelude.{◌≡◌, ℕ, List, Some, take}
+use Rattle.std.specs.Prelude.{◌≡◌, ℕ, List, Option, Some, MatchOption, take}
 use Rattle.ix_files.specs.Slots.{bytes_of}
 use Rattle.ix_files.specs.Views.{View}
 
@@ -16,3 +16,7 @@ pub record IsFront (Holds : List ℕ → Type 0) (room : ℕ) (bytes : List ℕ)
   pub whole : List ℕ
   pub held : Holds whole
   pub cut : bytes ≡ take room whole
+
+-- What is known of bytes for which this holds: which they are; or nothing, and then it holds for any.
+abbrev pub AreKnownOf : (List ℕ → Type 0) → Option (List ℕ) → Type 0
+AreKnownOf Holds contents = MatchOption contents ((bytes : List ℕ) → Holds bytes) Holds

@@ -4,6 +4,7 @@ ghost use Rattle.std.specs.Prelude.{◌≡◌, ◌≢◌, ◌≤◌, ◌<◌, �
 ghost use Rattle.std.specs.String.{string_bytes};
 ghost use Rattle.ix_files.specs.Locations.{place_of};
 ghost use Rattle.ix_files.specs.Opened.{IsKindOf, IsOpened, IsReadError};
+ghost use Rattle.ix_files.specs.Reading.{AreKnownOf, held_in};
 ghost use Rattle.ix_files.specs.Slots.{IsSame, Nothing, Slots, Stops};
 ghost use Rattle.ix_files.specs.Steps.{Creates, Overwrites, Removes, Renames, Settles, Shares, Stays, Syncs};
 ghost use Rattle.ix_files.specs.Views.{Calls, HasCause, View};
@@ -12,6 +13,7 @@ ghost use Rattle.ix_files.specs.declared.file_error.FileError.TheVariants.{Exist
 use crate::file_error::FileError;
 use crate::kind::Kind;
 use crate::location::Location;
+use crate::read_at::ReadAt;
 use crate::shared_files::SharedFiles;
 use std::io::{Read, Write};
 
@@ -23,6 +25,9 @@ use std::io::{Read, Write};
 pub trait Files {
     /// Reads what a path leads to, from its front to its end. It is owned, so that threads share nothing by it.
     type Reader: Read + Drop;
+
+    /// A file that is open to be read by ranges.
+    type Ranges: ReadAt + Drop;
 
     /// Writes a new file, which is locked, or a device or a pipe.
     type Writer: Write + Drop;
@@ -88,6 +93,15 @@ pub trait Files {
     fn open(&self, path: &str) -> Result<Self::Reader, FileError>
         ensures opened { IfOk result (λ reader. (view self.now).honest
             → IsOpened (view self.now) path.now (Self.Reader.remaining reader)) }
+        ensures cause { IfErr result (IsReadError (failed self.now path.now)) };
+
+    /// Opens the file that a path leads to, to be read by ranges.
+    ///
+    /// # Errors
+    /// `Memory`; `Failed`, also if there is none.
+    fn open_ranges(&self, path: &str) -> Result<Self::Ranges, FileError>
+        ensures opened { IfOk result (λ ranges.
+            AreKnownOf (held_in (view self.now) path.now) (Self.Ranges.contents ranges)) }
         ensures cause { IfErr result (IsReadError (failed self.now path.now)) };
 
     /// Locks a folder.

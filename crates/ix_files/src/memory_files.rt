@@ -12,6 +12,7 @@ use crate::files::Files;
 use crate::kind::Kind;
 use crate::location::Location;
 use crate::memory_changes::{Change, Found, again, found_at};
+use crate::memory_ranges::MemoryRanges;
 use crate::memory_shared::{Failures, MemoryShared};
 use crate::memory_writer::MemoryWriter;
 use once_cell::race::OnceBox;
@@ -249,6 +250,8 @@ impl Files for MemoryFiles {
 
     type Reader = Cursor<Vec<u8>>;
 
+    type Ranges = MemoryRanges;
+
     type Writer = MemoryWriter;
 
     type Held = ();
@@ -306,6 +309,16 @@ impl Files for MemoryFiles {
         }
     }
 
+    fn open_ranges(&self, path: &str) -> Result<MemoryRanges, FileError> {
+        match self.look(path)? {
+            Found::Kept(bytes) => Ok(MemoryRanges {
+                bytes: Vec::from_slice(self.alloc, bytes)?,
+                failures: self.failures.try_clone()?,
+            }),
+            Found::Growing | Found::Nothing => Err(FileError::Failed),
+        }
+    }
+
     fn lock_folder(&self, _path: &str) -> Result<(), FileError> {
         if self.failures.is_next() {
             return Err(FileError::Failed);
@@ -359,11 +372,7 @@ impl Files for MemoryFiles {
                 return Err(FileError::Memory);
             }
         }
-        let failures = Failures {
-            calls: Arc::try_clone(&self.failures.calls)?,
-            failing: self.failures.failing,
-            starved: self.failures.starved,
-        };
+        let failures = self.failures.try_clone()?;
         Ok(MemoryShared {
             alloc: self.alloc,
             names,

@@ -10,7 +10,7 @@ use crate::location::Location;
 use crate::memory_writer::MemoryWriter;
 use crate::shared_files::SharedFiles;
 use once_cell::race::OnceBox;
-use std::alloc::Global;
+use std::alloc::{AllocError, Global};
 use std::io::Cursor;
 use std::sync::Arc;
 use std::sync::atomic::{AtomicUsize, Ordering};
@@ -37,6 +37,15 @@ pub(crate) struct Failures {
 }
 
 impl Failures {
+    /// The same count of calls, and the same one that is to fail.
+    pub(crate) fn try_clone(&self) -> Result<Failures, AllocError> {
+        Ok(Failures {
+            calls: Arc::try_clone(&self.calls)?,
+            failing: self.failing,
+            starved: self.starved,
+        })
+    }
+
     /// Counts a call, and returns whether it is the one that is to fail.
     pub(crate) fn is_next(&self) -> bool {
         let before = self.calls.fetch_add(1, Ordering::SeqCst);

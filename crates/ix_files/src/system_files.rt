@@ -9,6 +9,7 @@ use crate::file_error::FileError;
 use crate::files::Files;
 use crate::kind::Kind;
 use crate::location::{Location, split};
+use crate::system_ranges::SystemRanges;
 use crate::system_shared::SystemShared;
 use std::fs::{File, Metadata, OpenOptions, Permissions, TryLockError};
 use std::io::{ErrorKind, Input, Print, Printer, Read, Write};
@@ -128,6 +129,8 @@ where
 {
     type Reader = SystemReader<R::Reader>;
 
+    type Ranges = SystemRanges;
+
     type Writer = SystemWriter<'r, R>;
 
     type Held = File;
@@ -181,6 +184,17 @@ where
             Ok(file) => Ok(SystemReader::File(file)),
             Err(error) => Err(fault(&error)),
         }
+    }
+
+    fn open_ranges(&self, path: &str) -> Result<SystemRanges, FileError> {
+        // To open a pipe waits for its writer.
+        match fs::metadata(self.rt, path) {
+            Ok(metadata) if metadata.is_file() => {}
+            Ok(_) => return Err(FileError::Failed),
+            Err(error) => return Err(fault(&error)),
+        }
+        let file = opened(File::open(self.rt, path))?;
+        Ok(SystemRanges { file })
     }
 
     fn lock_folder(&self, path: &str) -> Result<File, FileError> {

@@ -1,9 +1,11 @@
+pub mod Dictionaries
 pub mod FoundEntries
 pub mod FoundTerms
 pub mod Fronts
 pub mod Listed
 pub mod LookupErrors
 pub mod Matchers
+pub mod Pieces
 pub mod Rows
 pub mod TermOrder
 pub mod Versions

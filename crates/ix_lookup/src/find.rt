@@ -1,57 +1,63 @@
 //! The scan of a dictionary.
-ghost use Rattle.std.specs.Prelude.{◌≡◌, ◌≤◌, ◌+◌, ◌++◌, ◌∷◌, ◌⊎◌, ◌↔◌, [], ℕ, List, length, take, All, IfOk, IfErr, OnOk};
+ghost use Rattle.std.specs.Prelude.{◌≡◌, ◌≤◌, ◌<◌, ◌+◌, ◌^◌, ◌++◌, ◌↔◌, [], ℕ, List, Some, length, take, All, IfOk, IfErr, OnOk};
 ghost use Rattle.ix_text.specs.Terms.{IsTerm};
-ghost use Rattle.ix_lookup.specs.FoundTerms.{AreFoundIn, HasAtMostOneMore, IsAdded, IsNoted};
-ghost use Rattle.ix_lookup.specs.Listed.{IsOfNone};
+ghost use Rattle.ix_lookup.specs.Dictionaries.{AreFoundAt, IsNoDictionary};
+ghost use Rattle.ix_lookup.specs.FoundTerms.{HasAtMostOneMore, IsAdded, IsNoted};
 ghost use Rattle.ix_lookup.specs.TermOrder.{IsBelow};
-ghost use Rattle.ix_lookup.specs.Versions.{version_in};
-ghost use Rattle.ix_lookup.specs.declared.lookup_error.LookupError.TheVariants.{Memory};
+ghost use Rattle.ix_lookup.specs.declared.lookup_error.LookupError.TheVariants.{Malformed};
 
+use crate::pieces::Pieces;
 use crate::row::{Row, read_row};
-use crate::{FoundTerm, LookupError, TermMatcher, Version};
+use crate::{Dictionary, FoundTerm, LookupError, TermMatcher};
+use ix_files::ReadAt;
 use std::alloc::{AllocError, Global};
 
-/// Finds the terms that a matcher looks for in DICTIONARY, which has this many terms, whose lists have that many bytes
-/// together. Returns them in their order.
+/// Finds the terms that a matcher looks for in the DICTIONARY of a source. Returns them in their order.
+///
+/// The section is read in pieces, up to the last term that can be looked for. What is in memory of it is one piece.
 ///
 /// # Errors
 /// * `Malformed` if the bytes are not a dictionary of that many terms and bytes of lists. Not every fault is detected.
+/// * `Read` if a read of the source failed.
 /// * `Memory` if out of memory.
-pub fn find_terms<M: TermMatcher>(
+pub fn find_terms<S: ReadAt, M: TermMatcher>(
     alloc: Global,
-    version: Version,
-    section: &[u8],
-    count: u32,
-    postings: usize,
+    source: &S,
+    dictionary: &Dictionary,
     matcher: &mut M,
 ) -> Result<Vec<FoundTerm>, LookupError>
-    requires { M.is_at matcher.old [] }
-    ensures found { IfOk result (λ found. AreFoundIn (version_in version) section.now count postings
-        (M.wants matcher.old) found.items) }
+    requires begun { M.is_at matcher.old [] }
+    requires room { dictionary.now.start + dictionary.now.size < 2 ^ 64 }
+    ensures found { (bytes : List ℕ) → S.contents source.now ≡ Some bytes
+        → IfOk result (λ found.
+        AreFoundAt dictionary.now bytes (M.wants matcher.old) found.items) }
     ensures within { IfOk result (λ found.
-        All (λ one. one.start + one.size ≤ postings) found.items) }
-    ensures few { IfOk result (λ found. length found.items ≤ count) }
-    ensures refused { IfErr result (λ error. (error ≡ Memory)
-        ⊎ IsOfNone (version_in version) section.now count postings) }
+        All (λ one. one.start + one.size ≤ dictionary.now.postings) found.items) }
+    ensures few { IfOk result (λ found. length found.items ≤ dictionary.now.terms) }
+    ensures refused { IfErr result (λ error. error ≡ Malformed → (bytes : List ℕ)
+        → S.contents source.now ≡ Some bytes → IsNoDictionary dictionary.now bytes) }
 {
+    let mut pieces = Pieces::new(alloc, dictionary.start, dictionary.size);
     let mut found = Vec::new(alloc);
     let mut start = 0usize;
-    let mut left = section;
-    for place in 0..count {
-        let Some(row) = read_row(version, place, left) else {
+    for place in 0..dictionary.terms {
+        pieces.fill(source)?;
+        let Some(row) = read_row(dictionary.version, place, pieces.rest()) else {
             return Err(LookupError::Malformed);
         };
-        if row.size as usize > postings - start {
+        if row.size as usize > dictionary.postings - start {
             return Err(LookupError::Malformed);
         }
         note(alloc, &mut found, matcher, &row, start)?;
+        start += row.size as usize;
+        let rest = row.rest.len();
+        pieces.keep(rest);
         if matcher.is_past() {
             return Ok(found);
         }
-        start += row.size as usize;
-        left = row.rest;
     }
-    if !left.is_empty() || start != postings {
+    pieces.fill(source)?;
+    if !pieces.rest().is_empty() || start != dictionary.postings {
         return Err(LookupError::Malformed);
     }
     Ok(found)

@@ -1,15 +1,16 @@
 //! Finds terms in the DICTIONARY of an index text without opening the index.
 //!
-//! [`find_terms`] scans the section once. A [`TermMatcher`] says which terms are wanted: a [`Word`], several [`Words`],
-//! the terms that begin with a text and pass a test ([`Prefixed`], for a pattern), or those of any of several matchers
-//! ([`AnyOf`]). The scan gives it only the bytes by which a term differs from the term before, so a term is put together
-//! only if its matcher needs it. It ends behind the last term that can be wanted. A term that was found says where its
+//! [`find_terms`] scans the section once, by a source that is read by ranges. A [`TermMatcher`] says which terms are
+//! wanted: a [`Word`], several [`Words`], the terms that begin with a text and pass a test ([`Prefixed`], for a pattern),
+//! or those of any of several matchers ([`AnyOf`]). The scan gives it only the bytes by which a term differs from the
+//! term before, so a term is put together only if its matcher needs it. It ends behind the last term that can be wanted.
+//! The section is read in pieces, of which one is in memory, whatever its size. A term that was found says where its
 //! list is in POSTINGS, so that the list can be read by itself:
 //!
 //! ```text
 //! let mut words = Words::new(vec![in alloc; "red", "retired"]?);
-//! for found in &find_terms(alloc, version, dictionary, terms, postings.len(), &mut words)? {
-//!     let list = &postings[found.start..found.start + found.size as usize];
+//! for found in &find_terms(alloc, &source, &dictionary, &mut words)? {
+//!     source.append_at(&mut list, postings_start + found.start, found.size as usize)?;
 //! }
 //! ```
 //!
@@ -21,11 +22,13 @@
 #![tactic(auto)]
 
 mod any_of;
+mod dictionary;
 mod find;
 mod found_term;
 mod laws;
 mod lookup_error;
 mod matcher;
+mod pieces;
 mod prefixed;
 mod row;
 mod term_test;
@@ -36,6 +39,7 @@ mod word;
 mod words;
 
 pub use any_of::AnyOf;
+pub use dictionary::Dictionary;
 pub use find::find_terms;
 pub use found_term::FoundTerm;
 pub use laws::found_terms_are_entries;

@@ -1,8 +1,9 @@
 //! Why terms are not found in a dictionary.
 ghost use Rattle.std.specs.Prelude.{◌≡◌};
-ghost use Rattle.ix_lookup.specs.LookupErrors.{lookup_error_number};
+ghost use Rattle.ix_lookup.specs.LookupErrors.{lookup_error_number, lookup_error_of};
 ghost use Rattle.ix_lookup.specs.declared.lookup_error.LookupError.TheVariants.{Memory};
 
+use ix_files::FileError;
 use std::alloc::AllocError;
 use thiserror::Error;
 
@@ -12,6 +13,9 @@ pub enum LookupError {
     /// Out of memory.
     #[error("Memory")]
     Memory,
+    /// A read of the source failed.
+    #[error("Read")]
+    Read,
     /// The bytes are no dictionary of that many terms and bytes of lists.
     #[error("Malformed")]
     Malformed,
@@ -24,7 +28,8 @@ impl LookupError {
     {
         match self {
             LookupError::Memory => 1,
-            LookupError::Malformed => 2,
+            LookupError::Read => 2,
+            LookupError::Malformed => 3,
         }
     }
 }
@@ -34,5 +39,16 @@ impl From<AllocError> for LookupError {
 
     fn from(_error: AllocError) -> LookupError {
         LookupError::Memory
+    }
+}
+
+impl From<FileError> for LookupError {
+    ghost from_gives = { λ file error. error ≡ lookup_error_of file };
+
+    fn from(error: FileError) -> LookupError {
+        match error {
+            FileError::Memory => LookupError::Memory,
+            _ => LookupError::Read,
+        }
     }
 }

@@ -1,9 +1,11 @@
 //! Tests of `ix_files`, and nothing else: outputs over files in memory, of which each call fails in turn, and over files of the
-//! system. A crate that has tests is proved twice; `ix_files` has none of its own, and is proved once.
+//! system, and files that are read by ranges. A crate that has tests is proved twice; `ix_files` has none of its own, and is proved once.
 #![tactic(auto)]
 
 #[cfg(test)]
 mod memory;
+#[cfg(test)]
+mod ranges;
 #[cfg(test)]
 mod system;
 #[cfg(test)]

@@ -8,7 +8,7 @@ use std::test::Fail;
 use std::{env, fs, process};
 
 /// Makes a folder that no other test and no other process has.
-fn new_folder(rt: &HostRuntime, word: &str) -> Result<String, Fail> {
+pub(super) fn new_folder(rt: &HostRuntime, word: &str) -> Result<String, Fail> {
     let above = env::temp_dir(rt)?;
     let process = process::id(rt.process());
     let folder = format!(in rt.alloc(); "{}/ix-files-{process}-{word}", above.as_path().display())?;

@@ -1,0 +1,54 @@
+//! Bytes that are read by ranges.
+
+ghost use Rattle.std.specs.Prelude.{◌≡◌, ◌+◌, ◌++◌, ℕ, List, Option, Some, drop, length, take, IfErr, IfOk, OnOk};
+ghost use Rattle.ix_files.specs.Opened.{IsReadError};
+
+use crate::file_error::FileError;
+
+/// Bytes that are read by ranges, as an open file's.
+pub trait ReadAt {
+    // The bytes, if contracts know them.
+    ghost contents: { Self → Option (List ℕ) };
+
+    /// How many bytes there are.
+    ///
+    /// # Errors
+    /// `Memory`; `Failed`.
+    fn size(&self) -> Result<usize, FileError>
+        ensures told { (bytes : List ℕ) → contents self.now ≡ Some bytes
+            → IfOk result (λ size. size ≡ length bytes) }
+        ensures error { IfErr result (IsReadError (Unit {0})) };
+
+    /// Appends the `size` bytes from `start` on.
+    ///
+    /// # Errors
+    /// `Memory`; `Failed` if a read failed, or there are fewer bytes. What `out` gained is not known then.
+    fn append_at(&self, out: &mut Vec<u8>, start: usize, size: usize) -> Result<(), FileError>
+        ensures sized { OnOk result (length out.new.items ≡ length out.old.items + size) }
+        ensures told { (bytes : List ℕ) → contents self.now ≡ Some bytes
+            → OnOk result (out.new.items ≡ out.old.items ++ take size (drop start bytes)) }
+        ensures error { IfErr result (IsReadError (Unit {0})) };
+}
+
+/// Bytes in memory.
+#[derive(Clone, Copy)]
+pub struct Slice<'a> {
+    /// The bytes.
+    pub bytes: &'a [u8],
+}
+
+impl ReadAt for Slice<'_> {
+    ghost contents = { λ slice. Some slice.bytes.now };
+
+    fn size(&self) -> Result<usize, FileError> {
+        Ok(self.bytes.len())
+    }
+
+    fn append_at(&self, out: &mut Vec<u8>, start: usize, size: usize) -> Result<(), FileError> {
+        if start > self.bytes.len() || size > self.bytes.len() - start {
+            return Err(FileError::Failed);
+        }
+        out.extend_from_slice(&self.bytes[start..start + size])?;
+        Ok(())
+    }
+}
