@@ -1,1 +1,10 @@
+pub mod AssembleLemmas
+pub mod ChosenLemmas
+pub mod EndLemmas
+pub mod ErrorLemmas
+pub mod FrameLemmas
+pub mod ListLemmas
+pub mod Projecting
 pub mod SoughtLemmas
+pub mod StopLemmas
+pub mod TrailerLemmas
