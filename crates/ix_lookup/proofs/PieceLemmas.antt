@@ -1,5 +1,5 @@
 -- What is left of a section that is read in pieces, and the row that the rest of a piece has.
-use Rattle.std.proofs.Common.{◌≡◌, ℕ, ◌+◌, ◌-◌, ◌/◌, ◌%◌, ◌<◌, ◌≤◌, ◌⊎◌, Bool, true, false, cond, List, [], ◌∷◌, ◌++◌, length, take, drop, nat_eq, refl, sym, ap, ◌∙◌, inl, inr, arith, length-append, length-drop, zero-add}
+use Rattle.std.proofs.Common.{◌≡◌, ℕ, ◌+◌, ◌-◌, ◌/◌, ◌%◌, ◌≤◌, ◌⊎◌, Bool, true, false, cond, List, [], ◌∷◌, ◌++◌, length, take, drop, nat_eq, sym, ap, ◌∙◌, inl, inr, arith, length-append, length-drop, zero-add}
 use Rattle.std.specs.Int.Digits.{digits_of}
 use Rattle.std.specs.List.{common_prefix_len, copy_within}
 use Rattle.std.proofs.lemmas.Int.Digits.{length-digits_of-le}
@@ -75,10 +75,14 @@ term_size FrontCoded place before term few short = grouped_size place before ter
 -- a row has no more bytes than a piece has room for
 pub row_size : (version : Version) (place : ℕ) (before : List ℕ) (listing : Listing) → length before ≤ 255 → IsReadable listing → length (listing_bytes version place before listing) ≤ ROW_BYTES
 row_size version place before listing few readable =
-    omega (arith, length-append (dictionary_term_bytes version place before listing.term) (code_of listing.documents ++ code_of listing.size),
+    omega (
+      arith,
+      length-append (dictionary_term_bytes version place before listing.term) (code_of listing.documents ++ code_of listing.size),
       length-append (code_of listing.documents) (code_of listing.size),
       term_size version place before listing.term few readable.term.short,
-      (length-code_of listing.documents readable.documents).1, (length-code_of listing.size readable.size).1)
+      (length-code_of listing.documents readable.documents).1,
+      (length-code_of listing.size readable.size).1,
+    )
 
 -- The rest of a piece begins with the row, and this follows it there.
 pub record IsRowIn (rest unread row others : List ℕ) : Type 0 where

@@ -13,7 +13,8 @@ section_of dictionary bytes = take dictionary.size (drop dictionary.start bytes)
 -- They were found in the section, whichever listings it is the dictionary of.
 abbrev pub AreFoundAt : Dictionary → List ℕ → (List ℕ → Type 0) → List FoundTerm → Type 0
 AreFoundAt dictionary bytes wants found =
-    AreFoundIn (version_in dictionary.version) (section_of dictionary bytes) dictionary.terms dictionary.postings wants found
+    AreFoundIn (version_in dictionary.version) (section_of dictionary bytes) dictionary.terms dictionary.postings wants
+    found
 
 -- The section is no dictionary of that many terms and bytes of lists.
 abbrev pub IsNoDictionary : Dictionary → List ℕ → Type 0

@@ -33,9 +33,11 @@ impl<M: TermMatcher + Drop> AnyOf<M> {
     pub fn push(&mut self, matcher: M) -> Result<(), AllocError>
         requires begun { ⟦<AnyOf<M> as TermMatcher>⟧.is_at self.old [] }
         requires matcher { M.is_at matcher [] }
-        ensures wanted { (term : List ℕ) → OnOk result (⟦<AnyOf<M> as TermMatcher>⟧.wants self.new term
+        ensures wanted { (term : List ℕ) → OnOk result
+            (⟦<AnyOf<M> as TermMatcher>⟧.wants self.new term
             ↔ (⟦<AnyOf<M> as TermMatcher>⟧.wants self.old term ⊎ M.wants matcher term)) }
-        ensures same { (term : List ℕ) → OnErr result (⟦<AnyOf<M> as TermMatcher>⟧.wants self.new term
+        ensures same { (term : List ℕ) → OnErr result
+            (⟦<AnyOf<M> as TermMatcher>⟧.wants self.new term
             ↔ ⟦<AnyOf<M> as TermMatcher>⟧.wants self.old term) }
         ensures begun { ⟦<AnyOf<M> as TermMatcher>⟧.is_at self.new [] }
     {

@@ -1,10 +1,11 @@
 //! Dictionaries that were spelled by hand, from the definition of the format.
-ghost use Rattle.std.specs.Prelude.{[], IfOk};
+ghost use Rattle.std.specs.Prelude.{◌+◌, ◌<◌, ◌^◌, [], IfOk};
 
 use crate::{
-    AnyOf, FoundTerm, LookupError, Prefixed, TermMatcher, TermTest, Version, Word, Words,
-    find_terms,
+    AnyOf, Dictionary, FoundTerm, LookupError, Prefixed, TermMatcher, TermTest, Version, Word,
+    Words, find_terms,
 };
+use ix_files::{Files, MemoryFiles, Slice};
 use std::alloc::{AllocError, Global};
 use std::test::Fail;
 
@@ -31,6 +32,27 @@ const LISTED: [(&str, u32, usize, u32); 3] = [
 /// How many bytes the lists of the three terms have.
 const POSTINGS: usize = 310;
 
+/// Finds the terms that a matcher looks for in a section.
+fn find_in<M: TermMatcher>(
+    alloc: Global,
+    version: Version,
+    section: &[u8],
+    count: u32,
+    postings: usize,
+    matcher: &mut M,
+) -> Result<Vec<FoundTerm>, LookupError>
+    requires { M.is_at matcher.old [] }
+{
+    let dictionary = Dictionary {
+        version,
+        start: 0,
+        size: section.len(),
+        terms: count,
+        postings,
+    };
+    find_terms(alloc, &Slice { bytes: section }, &dictionary, matcher)
+}
+
 /// Finds one word.
 fn find_word(
     alloc: Global,
@@ -41,7 +63,7 @@ fn find_word(
     text: &str,
 ) -> Result<Vec<FoundTerm>, LookupError> {
     let mut word = Word::new(text);
-    find_terms(alloc, version, section, count, postings, &mut word)
+    find_in(alloc, version, section, count, postings, &mut word)
 }
 
 /// Whether a term that was found is the one that is listed.
@@ -103,7 +125,7 @@ fn count_prefixed(
     size: usize,
 ) -> Result<usize, LookupError> {
     let mut prefixed = Prefixed::new(alloc, front, HasSize(size));
-    let found = find_terms(alloc, version, section, 3, POSTINGS, &mut prefixed)?;
+    let found = find_in(alloc, version, section, 3, POSTINGS, &mut prefixed)?;
     Ok(found.len())
 }
 
@@ -111,11 +133,11 @@ fn count_prefixed(
 fn several_words_and_fronts(rt: HostRuntime) -> Result<(), Fail> {
     for (version, section) in BOTH {
         let mut words = Words::new(vec![in rt.alloc(); "zoo", "red", "raw", "red", "retired"]?);
-        let found = find_terms(rt.alloc(), version, section, 3, POSTINGS, &mut words)?;
+        let found = find_in(rt.alloc(), version, section, 3, POSTINGS, &mut words)?;
         assert!(rt; found.len() == 2);
         assert!(rt; is_listed(&found[0], LISTED[0]) && is_listed(&found[1], LISTED[2]));
         let mut none = Words::new(Vec::new(rt.alloc()));
-        let found = find_terms(rt.alloc(), version, section, 3, POSTINGS, &mut none)?;
+        let found = find_in(rt.alloc(), version, section, 3, POSTINGS, &mut none)?;
         assert!(rt; found.is_empty());
         for (front, size, count) in [
             ("", 3, 1),
@@ -147,7 +169,7 @@ fn two_patterns(alloc: Global) -> Result<AnyOf<Prefixed<'static, HasSize>>, Allo
 fn patterns_in_one_pass(rt: HostRuntime) -> Result<(), Fail> {
     for (version, section) in BOTH {
         let mut any = two_patterns(rt.alloc())?;
-        let found = find_terms(rt.alloc(), version, section, 3, POSTINGS, &mut any)?;
+        let found = find_in(rt.alloc(), version, section, 3, POSTINGS, &mut any)?;
         assert!(rt; found.len() == 2);
         assert!(rt; is_listed(&found[0], LISTED[1]) && is_listed(&found[1], LISTED[2]));
     }
@@ -166,7 +188,7 @@ fn search_any(
         let _prefixed = count_prefixed(alloc, version, section, text, 4);
     }
     let mut words = Words::new(vec![in alloc; "red", "retired", "z"]?);
-    let _words = find_terms(alloc, version, section, count, POSTINGS, &mut words);
+    let _words = find_in(alloc, version, section, count, POSTINGS, &mut words);
     Ok(())
 }
 
@@ -212,11 +234,104 @@ fn a_scan_ends_behind_the_last_word(rt: HostRuntime) -> Result<(), Fail> {
     Ok(())
 }
 
+/// How many terms the dictionary of numbers has.
+const NUMBERS: u32 = 20_000;
+
+/// Appends the row of a term of five bytes behind another, which is in one document and has a list of three bytes.
+fn push_row(
+    bytes: &mut Vec<u8>,
+    before: &[u8],
+    term: &[u8],
+    is_whole: bool,
+) -> Result<(), AllocError> {
+    let shared = before
+        .iter()
+        .zip(term)
+        .take_while(|(one, other)| one == other)
+        .count();
+    match term.get(shared..) {
+        Some(own) if !is_whole => {
+            bytes.push(0x80 + (shared % 128) as u8)?;
+            bytes.push(0x80 + (own.len() % 128) as u8)?;
+            bytes.extend_from_slice(own)?;
+        }
+        _ => {
+            bytes.push(0x85)?;
+            bytes.extend_from_slice(term)?;
+        }
+    }
+    bytes.extend_from_slice(b"\x81\x83")?;
+    Ok(())
+}
+
+/// The numbers from 0 on, in five digits, behind three other bytes and before three. It has more bytes than are read at
+/// once.
+fn list_numbers(alloc: Global, version: Version) -> Result<(Vec<u8>, Dictionary), AllocError>
+    ensures { IfOk result (λ listed. listed.1.start + listed.1.size < 2 ^ 64) }
+{
+    let mut bytes = Vec::from_slice(alloc, b"abc")?;
+    let mut before = String::new(alloc);
+    for number in 0..NUMBERS {
+        let term = format!(in alloc; "{number:05}")?;
+        let is_whole = version == Version::Plain || number % 4 == 0;
+        push_row(&mut bytes, before.as_bytes(), term.as_bytes(), is_whole)?;
+        before = term;
+    }
+    let dictionary = Dictionary {
+        version,
+        start: 3,
+        size: bytes.len().saturating_sub(3),
+        terms: NUMBERS,
+        postings: 3 * NUMBERS as usize,
+    };
+    bytes.extend_from_slice(b"xyz")?;
+    Ok((bytes, dictionary))
+}
+
+#[test]
+fn terms_are_found_in_each_piece(rt: HostRuntime) -> Result<(), Fail> {
+    for (version, _) in BOTH {
+        let (bytes, dictionary) = list_numbers(rt.alloc(), version)?;
+        assert!(rt; bytes.len() > 1 << 16);
+        let mut all = Prefixed::new(rt.alloc(), "", HasSize(5));
+        let source = Slice { bytes: &bytes };
+        let found = find_terms(rt.alloc(), &source, &dictionary, &mut all)?;
+        assert!(rt; found.len() == NUMBERS as usize);
+        let mut start = 0usize;
+        for (number, one) in found.iter().enumerate() {
+            let term = format!(in rt.alloc(); "{number:05}")?;
+            assert!(rt; is_listed(one, (term.as_str(), 1, start, 3)), "{number}");
+            start = start.wrapping_add(3);
+        }
+    }
+    Ok(())
+}
+
+#[test]
+fn a_read_fails(rt: HostRuntime) -> Result<(), Fail> {
+    let (bytes, dictionary) = list_numbers(rt.alloc(), Version::Plain)?;
+    let mut files = MemoryFiles::new(rt.alloc())?;
+    files.put("index", &bytes)?;
+    for (starved, error) in [(false, LookupError::Read), (true, LookupError::Memory)] {
+        // The first call opens the file, and the third reads the second piece.
+        files.fail_at(3, starved);
+        let source = files.open_ranges("index")?;
+        let found = find_terms(rt.alloc(), &source, &dictionary, &mut Word::new("00001"))?;
+        assert!(rt; found.len() == 1 && files.calls() == 2);
+        files.fail_at(3, starved);
+        let source = files.open_ranges("index")?;
+        let found = find_terms(rt.alloc(), &source, &dictionary, &mut Word::new("19999"));
+        assert!(rt; found.err() == Some(error) && files.calls() == 3);
+    }
+    Ok(())
+}
+
 #[test]
 fn errors_are_named_and_numbered(rt: HostRuntime) -> Result<(), Fail> {
     for (error, name, number) in [
         (LookupError::Memory, "Memory", 1),
-        (LookupError::Malformed, "Malformed", 2),
+        (LookupError::Read, "Read", 2),
+        (LookupError::Malformed, "Malformed", 3),
     ] {
         let text = format!(in rt.alloc(); "{error}")?;
         assert_eq!(rt; text.as_str(), name);
