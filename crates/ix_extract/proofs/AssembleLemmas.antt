@@ -1,6 +1,5 @@
 -- An index text, piece after piece.
-use Rattle.std.proofs.Common.{◌≡◌, ℕ, ◌+◌, ◌-◌, List, [], ◌++◌, length, refl, sym, ap, ap₂, ◌∙◌, append_assoc, arith, length-append}
-use Rattle.std.proofs.lemmas.List.{append-nil}
+use Rattle.std.proofs.Common.{◌≡◌, ℕ, ◌+◌, ◌-◌, List, [], ◌++◌, length, ap, ap₂, ◌∙◌, append_assoc, arith, length-append}
 use Rattle.ix_index_text.specs.IndexText.{end_mark, magic}
 use Rattle.ix_index_text.specs.Sections.{Plain}
 use Rattle.ix_index_text.proofs.TextLaws.{length-magic}
@@ -48,6 +47,7 @@ body_appended texts o0 o1 o2 o3 o4 o5 o6 are =
   where
     regroup : (m a b c d g : List ℕ) → [] ++ m ++ a ++ b ++ c ++ d ++ g ≡ m ++ (a ++ (b ++ (c ++ (d ++ g))))
     regroup m a b c d g = simp append_assoc
+
     grouped : (o0 o1 o2 o3 o4 o5 o6 m a b c d g : List ℕ) → o0 ≡ [] → o1 ≡ o0 ++ m → o2 ≡ o1 ++ a → o3 ≡ o2 ++ b → o4 ≡ o3 ++ c → o5 ≡ o4 ++ d → o6 ≡ o5 ++ g → o6 ≡ m ++ (a ++ (b ++ (c ++ (d ++ g))))
     grouped o0 o1 o2 o3 o4 o5 o6 m a b c d g p0 p1 p2 p3 p4 p5 p6 = let whole : o6 ≡ [] ++ m ++ a ++ b ++ c ++ d ++ g = cc in whole ∙ regroup m a b c d g
 

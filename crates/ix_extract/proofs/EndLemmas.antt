@@ -1,5 +1,5 @@
 -- What is read of a frame by its ends.
-use Rattle.std.proofs.Common.{◌≡◌, ℕ, ◌+◌, ◌-◌, ◌^◌, ◌<◌, ◌++◌, List, Option, Some, length, take, drop, ap, ap₂, ◌∙◌, arith}
+use Rattle.std.proofs.Common.{◌≡◌, ℕ, ◌-◌, ◌^◌, ◌<◌, ◌++◌, List, [], Option, Some, length, take, drop, ap, ap₂, ◌∙◌, arith}
 use Rattle.ix_index_text.specs.Sections.{Version}
 use Rattle.ix_file.specs.Frames.{FileSectionTexts, framed, joined_sections}
 use Rattle.ix_extract.specs.Framed.{HasNoFrame, IsFramed, IsTrailerIn}
@@ -15,6 +15,12 @@ module _ (contents : Option (List ℕ)) where
   -- both ends were read
   abbrev pub AreEndsAt : ℕ → List ℕ → Type 0
   AreEndsAt size frame = (bytes : List ℕ) → contents ≡ Some bytes → frame ≡ take 8 bytes ++ take 56 (drop (size - 56) bytes)
+
+  -- they were appended one behind the other
+  pub ends_appended : (size : ℕ) (none one two frame : List ℕ) → none ≡ [] → ((bytes : List ℕ) → contents ≡ Some bytes → one ≡ none ++ take 8 bytes) → ((bytes : List ℕ) → contents ≡ Some bytes → two ≡ one ++ take 56 (drop (size - 56) bytes)) → frame ≡ two
+      → AreEndsAt size frame
+  ends_appended size none one two frame empty first second is bytes known =
+      is ∙ second bytes known ∙ ap (λ (xs : List ℕ). xs ++ take 56 (drop (size - 56) bytes)) (first bytes known ∙ ap (λ (xs : List ℕ). xs ++ take 8 bytes) empty)
 
   -- a source of fewer bytes has no frame
   pub too_short : (size : ℕ) → HasSize size → size < 64 → HasNoFrame contents

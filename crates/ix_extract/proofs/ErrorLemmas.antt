@@ -1,12 +1,14 @@
 -- Errors that are handed up.
-use Rattle.std.proofs.Common.{◌≡◌, ◌≢◌, ◌⊎◌, inl, inr, ℕ, List, Option, Some, Result, Ok, Err, IsErrAnd, IfErr, refl, sym, ◌∙◌, subst}
+use Rattle.std.proofs.Common.{◌≡◌, ◌≢◌, inl, inr, ℕ, List, Option, Result, Ok, Err, IsErrAnd, IfErr, refl, sym, subst}
+use Rattle.ix_text.specs.Collections.{Collection}
+use Rattle.ix_index_text.specs.Sections.{Version}
 use Rattle.ix_file.specs.declared.open_error.OpenError.{OpenError}
 use Rattle.ix_file.specs.declared.open_error.OpenError.TheVariants as opening
 use Rattle.ix_lookup.specs.declared.lookup_error.LookupError.{LookupError}
 use Rattle.ix_lookup.specs.declared.lookup_error.LookupError.TheVariants as lookup
 use Rattle.ix_extract.specs.ErrorsHandedUp.{IsOfOpen, error_of_lookup}
-use Rattle.ix_extract.specs.Projections.{IsOfNone}
-use Rattle.ix_extract.specs.Refusals.{IsOutside, IsReadFault}
+use Rattle.ix_extract.specs.Projections.{HasIndexText, IsOfNone}
+use Rattle.ix_extract.specs.Refusals.{IsQueryRefused, IsReadFault}
 use Rattle.ix_extract.specs.declared.extract_error.ExtractError.{ExtractError}
 
 -- an error that is what a claim wants
@@ -29,3 +31,9 @@ module _ (contents : Option (List ℕ)) where
   lookup_fault lookup.Memory error is none = inl (inl is)
   lookup_fault lookup.Read error is none = inl (inr is)
   lookup_fault lookup.Malformed error is none = inr ((_, is), none refl)
+
+  -- it is no fault of the query
+  pub read_refused : (version : Version) (collection : Collection) (query : List ℕ) (error : ExtractError) → HasIndexText contents version collection → IsReadFault contents error → IsQueryRefused collection query error
+  read_refused version collection query error has (inl (inl memory)) = subst (IsQueryRefused collection query) (sym memory) tt
+  read_refused version collection query error has (inl (inr read)) = subst (IsQueryRefused collection query) (sym read) tt
+  read_refused version collection query error has (inr fault) = absurd (fault.1 version collection has)

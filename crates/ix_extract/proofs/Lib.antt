@@ -5,6 +5,7 @@ pub mod ErrorLemmas
 pub mod FrameLemmas
 pub mod ListLemmas
 pub mod Projecting
+pub mod QueryLemmas
 pub mod SoughtLemmas
 pub mod StopLemmas
 pub mod TrailerLemmas

@@ -3,10 +3,10 @@ use Rattle.std.proofs.Common.{◌≡◌, ℕ, ◌+◌, ◌≤◌, List, [], ◌�
 use Rattle.std.proofs.lemmas.List.{length-map}
 use Rattle.std.proofs.lemmas.List.Elements.{All-cons, All-head, All-tail}
 use Rattle.ix_text.specs.Collections.{Collection}
-use Rattle.ix_text.specs.Parts.{DictionaryEntry, GramEntry}
+use Rattle.ix_text.specs.Parts.{DictionaryEntry}
 use Rattle.ix_index_text.specs.Grams.{AreGramsOfTerms}
 use Rattle.ix_index_text.specs.IndexText.{IsIndexText}
-use Rattle.ix_index_text.specs.Sections.{Version, Plain, dictionary_section, grams_section, postings_section}
+use Rattle.ix_index_text.specs.Sections.{Version, Plain, dictionary_section, postings_section}
 use Rattle.ix_index_text.proofs.SectionSizes.{AreSmall, few_entries, small_entries, small_parts}
 use Rattle.ix_file.specs.Frames.{FileSectionTexts, framed}
 use Rattle.ix_file.specs.Spelled.{AreSectionsOf, sections_of}
@@ -91,10 +91,11 @@ module _ (contents : Option (List ℕ)) (version : Version) (collection : Collec
       → P version (dictionary_section version has.text.parts.entries) (length has.text.parts.entries) (length (postings_section has.text.parts.entries))
   of_dictionary P p =
       let entries = has.text.parts.entries in
+      let section = take trailer.dictionary (drop (8 + trailer.postings + trailer.stop + trailer.documents) bytes) in
       subst (λ v. P v (dictionary_section version entries) (length entries) (length (postings_section entries))) of_trailer.of_version
       (subst (λ s. P (version_in trailer.version) s (length entries) (length (postings_section entries))) dictionary_there
-      (subst (λ n. P (version_in trailer.version) _ n (length (postings_section entries))) of_trailer.term_count
-      (subst (λ n. P (version_in trailer.version) _ trailer.terms n) of_trailer.postings_size p)))
+      (subst (λ n. P (version_in trailer.version) section n (length (postings_section entries))) of_trailer.term_count
+      (subst (λ n. P (version_in trailer.version) section trailer.terms n) of_trailer.postings_size p)))
 
   -- bytes that are no dictionary are not there
   some_dictionary : IsNoDictionary (dictionary_of trailer) bytes → ⊥
@@ -174,6 +175,6 @@ projected contents version collection trailer wants found text has is are within
     }
 
 -- a projection for more terms is one for fewer
-pub wants_fewer : (collection : Collection) (wants asked : List ℕ → Type 0) (bytes : List ℕ) → ((term : List ℕ) → asked term → wants term) → IsProjection collection wants bytes → IsProjection collection asked bytes
-wants_fewer collection wants asked bytes within is =
+pub wants_fewer : (collection : Collection) (wants asked : List ℕ → Type 0) (text : List ℕ) → ((term : List ℕ) → asked term → wants term) → IsProjection collection wants text → IsProjection collection asked text
+wants_fewer collection wants asked text within is =
     record { keeps = is.keeps; text = is.text; wanted = λ term number position posting asks. is.wanted term number position posting (within term asks) }

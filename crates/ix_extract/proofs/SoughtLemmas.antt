@@ -1,5 +1,5 @@
 -- What the matchers of a query's words and patterns look for.
-use Rattle.std.proofs.Common.{◌≡◌, ℕ, zero, suc, ◌+◌, ◌<◌, ◌≤◌, ◌↔◌, ◌⊎◌, inl, inr, Bool, Result, IfOk, OnOk, IsTrue, List, [], ◌∷◌, ◌++◌, Option, Some, None, length, take, get_or, map, Any, Contains, Bor, refl, sym, ap, ◌∙◌, subst, arith}
+use Rattle.std.proofs.Common.{◌≡◌, ℕ, zero, suc, ◌+◌, ◌<◌, ◌≤◌, ◌↔◌, ◌⊎◌, inl, inr, Bool, Result, IfOk, IsTrue, List, [], ◌∷◌, ◌++◌, Option, Some, None, length, take, get_or, map, Any, Contains, Bor, refl, sym, ap, ◌∙◌, subst, arith}
 use Rattle.std.proofs.lemmas.List.{append-nil, map-append, take_all, take_more}
 use Rattle.std.proofs.lemmas.List.Elements.{Contains-append_cases, Contains-append_left, Contains-append_right}
 use Rattle.ix_text.specs.Terms.{IsTerm}

@@ -1,16 +1,16 @@
 -- The index text of a collection without documents.
-use Rattle.std.proofs.Common.{◌≡◌, ℕ, ◌+◌, ◌≤◌, List, [], ◌∷◌, ◌++◌, Option, Some, length, Contains, slice_get, refl, sym, ap, ◌∙◌, subst, arith, length-append}
+use Rattle.std.proofs.Common.{◌≡◌, ℕ, ◌+◌, List, [], ◌++◌, Option, Some, length, refl, sym, ap, ◌∙◌, subst, arith, length-append}
 use Rattle.std.proofs.lemmas.List.{append-nil}
+use Rattle.std.specs.List.Sorted.{IsStrictlySortedBy}
 use Rattle.std.proofs.lemmas.Option.{slice_get_within}
-use Rattle.ix_text.specs.Collections.{Collection, HasPosting, IsLawful, IsVocabulary}
-use Rattle.ix_text.specs.Parts.{ArePartsOf, GramEntry, Parts}
+use Rattle.ix_text.specs.Collections.{Collection, HasPosting, IsLawful}
+use Rattle.ix_text.specs.Parts.{ArePartsOf, Parts}
 use Rattle.ix_text.proofs.AscendingLists.{contains_none}
 use Rattle.ix_index_text.specs.Grams.{AreGramsOfTerms}
 use Rattle.ix_index_text.specs.IndexText.{IsIndexText, end_mark, layout, magic}
 use Rattle.ix_index_text.specs.Sections.{Version, Plain, dictionary_section, documents_section, grams_section, postings_section, stop_section}
 use Rattle.ix_index_text.proofs.GramLists.{of_collection}
-use Rattle.ix_file.specs.Frames.{FileSectionTexts, counts, framed}
-use Rattle.ix_file.specs.Spelled.{sections_of}
+use Rattle.ix_file.specs.Frames.{counts, framed}
 use Rattle.ix_file.proofs.Framing.{layout_framed}
 use Rattle.ix_extract.specs.Assembled.{stop_alone}
 use Rattle.ix_extract.specs.Framed.{IsTrailerIn}
@@ -20,8 +20,7 @@ use Rattle.ix_extract.specs.Trailers.{sizes_bytes}
 use Rattle.ix_extract.specs.declared.trailer.Sizes.{Sizes}
 use Rattle.ix_extract.specs.declared.trailer.Trailer.{Trailer}
 use Rattle.ix_extract.proofs.AssembleLemmas.{framed_behind}
-use Rattle.ix_extract.proofs.Projecting.{bytes, known, stop_there}
-use Rattle.ix_index_text.proofs.TextLaws.{length-magic}
+use Rattle.ix_extract.proofs.Projecting.{known, stop_there}
 
 -- STOP between a mark and a trailer
 pub stop_framed : (stop o0 o1 o2 o3 : List ℕ) (size : ℕ) → o0 ≡ [] → o1 ≡ o0 ++ magic Plain → o2 ≡ o1 ++ stop → length o2 ≡ length o1 + size
@@ -42,6 +41,7 @@ module _ (collection : Collection) (lawful : IsLawful collection) where
   no_posting term number position has = let within = slice_get_within [] number has.document has.numbered in omega arith
 
   parts_alone : ArePartsOf (without_documents collection) alone
+  unfolding IsStrictlySortedBy
   parts_alone = record {
     stop = refl;
     rows = refl;
@@ -65,6 +65,7 @@ module _ (collection : Collection) (lawful : IsLawful collection) where
   }
 
   no_grams : AreGramsOfTerms [] []
+  unfolding IsStrictlySortedBy
   no_grams = record {
     ascending = tt;
     each = λ k d below. absurd (omega arith);

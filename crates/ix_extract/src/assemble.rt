@@ -123,12 +123,7 @@ fn append_grams(alloc: Global, out: &mut Vec<u8>, found: &[FoundTerm]) -> Result
 }
 
 /// Appends the trailer of an index text of version 1 whose sections have these sizes.
-fn append_trailer(
-    out: &mut Vec<u8>,
-    sizes: &Sizes,
-    rows: u32,
-    terms: u32,
-) -> Result<(), AllocError>
+fn append_trailer(out: &mut Vec<u8>, sizes: &Sizes, rows: u32, terms: u32) -> Result<(), AllocError>
     ensures { OnOk result (out.new.items ≡ out.old.items
         ++ ((sizes_bytes sizes.now ++ counts rows terms) ++ end_mark Plain)) }
 {

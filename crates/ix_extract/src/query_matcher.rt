@@ -76,10 +76,7 @@ impl TermMatcher for Part<'_> {
 ///
 /// # Errors
 /// Out of memory.
-pub(crate) fn match_query<'a>(
-    alloc: Global,
-    query: &'a Tree,
-) -> Result<AnyOf<Part<'a>>, AllocError>
+pub(crate) fn match_query<'a>(alloc: Global, query: &'a Tree) -> Result<AnyOf<Part<'a>>, AllocError>
     ensures wanted { (term : List ℕ) → IfOk result (λ matcher.
         ⟦<AnyOf<Part<'static>> as TermMatcher>⟧.wants matcher term ↔ AsksAbout term query.now) }
     ensures begun { IfOk result (λ matcher. ⟦<AnyOf<Part<'static>> as TermMatcher>⟧.is_at matcher []) }
@@ -140,10 +137,7 @@ fn collect_each<'a>(
 }
 
 /// Adds the terms of a phrase.
-fn collect_words<'a>(
-    parts: &'a [Option<Term>],
-    words: &mut Vec<&'a str>,
-) -> Result<(), AllocError>
+fn collect_words<'a>(parts: &'a [Option<Term>], words: &mut Vec<&'a str>) -> Result<(), AllocError>
     ensures { (term : List ℕ) → OnOk result (IsText words.new.items term
         ↔ (IsText words.old.items term ⊎ Contains parts.now (Some term))) }
 {

@@ -1,7 +1,7 @@
-use Rattle.std.proofs.Common.{◌-◌, ◌++◌, List, ℕ, ap, arith, drop, inr, refl, take, ◌∙◌}
+use Rattle.std.proofs.Common.{arith, inr, refl}
 use Rattle.ix_extract.specs.ErrorsHandedUp.{IsOfOpen}
 use Rattle.ix_extract.specs.Refusals.{IsReadFault}
-use Rattle.ix_extract.proofs.EndLemmas.{AreEndsAt, no_trailer, too_short, trailer_told}
+use Rattle.ix_extract.proofs.EndLemmas.{ends_appended, no_trailer, too_short, trailer_told}
 use Rattle.ix_extract.proofs.ErrorLemmas.{handed_up, open_fault}
 use Rattle.ix_extract.proofs.Projecting.{no_text}
 use Rattle.ix_extract.proofs.extract.read_frame.Goals as goal
@@ -16,17 +16,15 @@ returns-in_err-trailer-clause-refused g c =
     let contents = g.S.ReadAt.contents c.args.source.now in
     let size = c.in_ok-size.size in
     let given = c.in_err-trailer.field-0.0 in
-    let ends : AreEndsAt contents size c.as_slice.result.now =
-    λ bytes known. c.as_slice.ensures.value ∙ c.in_ok-append_at-2.ensures.told bytes known
-    ∙ ap (λ (xs : List ℕ). xs ++ take 56 (drop (size - 56) bytes)) (c.in_ok-append_at.ensures.told bytes known ∙ ap (λ (xs : List ℕ). xs ++ take 8 bytes) c.new-frame.ensures.items) in
+    let frame = c.as_slice.result.now in
+    let ends = ends_appended contents size c.new-frame.result.items c.append_at.new.out.items c.append_at-2.new.out.items frame c.new-frame.ensures.items c.in_ok-append_at.ensures.told c.in_ok-append_at-2.ensures.told c.as_slice.ensures.value in
     handed_up (IsOfOpen given) (IsReadFault contents) c.from_residual-in_err-trailer.result c.from_residual-in_err-trailer.ensures.1
-    (λ error of. open_fault contents given error of (λ _. no_text contents (no_trailer contents size c.as_slice.result.now c.in_ok-size.ensures.told ends c.in_err-trailer.ensures.found)))
+    (λ error of. open_fault contents given error of (λ _. no_text contents (no_trailer contents size frame c.in_ok-size.ensures.told ends c.in_err-trailer.ensures.found)))
 
 pub returns-clause-trailer : goal.returns-clause-trailer
 returns-clause-trailer g c =
     let contents = g.S.ReadAt.contents c.args.source.now in
     let size = c.in_ok-size.size in
-    let ends : AreEndsAt contents size c.as_slice.result.now =
-    λ bytes known. c.as_slice.ensures.value ∙ c.in_ok-append_at-2.ensures.told bytes known
-    ∙ ap (λ (xs : List ℕ). xs ++ take 56 (drop (size - 56) bytes)) (c.in_ok-append_at.ensures.told bytes known ∙ ap (λ (xs : List ℕ). xs ++ take 8 bytes) c.new-frame.ensures.items) in
-    trailer_told contents size c.as_slice.result.now c.in_ok-trailer.trailer c.in_ok-size.ensures.told ends c.in_ok-trailer.ensures.found
+    let frame = c.as_slice.result.now in
+    let ends = ends_appended contents size c.new-frame.result.items c.append_at.new.out.items c.append_at-2.new.out.items frame c.new-frame.ensures.items c.in_ok-append_at.ensures.told c.in_ok-append_at-2.ensures.told c.as_slice.ensures.value in
+    trailer_told contents size frame c.in_ok-trailer.trailer c.in_ok-size.ensures.told ends c.in_ok-trailer.ensures.found

@@ -1,4 +1,3 @@
-use Rattle.std.proofs.Common.{List, ℕ}
 use Rattle.ix_extract.proofs.SoughtLemmas.{matches_front}
 use Rattle.ix_extract.proofs.query_matcher.match_pattern.Goals as goal
 
