@@ -46,6 +46,7 @@ regroup_three m a b c d g e = simp append_assoc
 pub record AreRanges (bytes : List ℕ) (version : Version) (texts : FileSectionTexts) (documents terms : ℕ) : Type 0 where
   pub size : length bytes ≡ 64 + length (joined_sections texts)
   pub sections : length (joined_sections texts) ≡ length texts.postings + length texts.stop + length texts.documents + length texts.dictionary + length texts.grams
+  pub mark_range : take 8 bytes ≡ magic version
   pub trailer_range : take 56 (drop (length bytes - 56) bytes) ≡ trailer_of version texts documents terms
   pub stop_range : take (length texts.stop) (drop (8 + length texts.postings) bytes) ≡ texts.stop
   pub documents_range : take (length texts.documents) (drop (8 + length texts.postings + length texts.stop) bytes) ≡ texts.documents
@@ -77,6 +78,7 @@ ranges version texts documents terms =
     record {
       size = size;
       sections = omega (arith, length-append a (b ++ (c ++ (d ++ g))), length-append b (c ++ (d ++ g)), length-append c (d ++ g), length-append d g);
+      mark_range = ap (λ n. take n all) (sym eight) ∙ take-append_seam mark (body ++ end);
       trailer_range = ap (λ n. take n (drop (length all - 56) all)) (sym end_size) ∙ ap (λ xs. take (length end) (drop (length all - 56) xs)) last ∙ part_at (mark ++ body) end [] (length all - 56) at_end;
       stop_range = ap (λ xs. take (length b) (drop (8 + length a) xs)) one ∙ part_at (mark ++ a) b (c ++ (d ++ (g ++ end))) (8 + length a) at_a;
       documents_range = ap (λ xs. take (length c) (drop (8 + length a + length b) xs)) two ∙ part_at ((mark ++ a) ++ b) c (d ++ (g ++ end)) (8 + length a + length b) at_b;

@@ -1,9 +1,11 @@
 pub mod AssembleLemmas
 pub mod ChosenLemmas
+pub mod EndLemmas
 pub mod ErrorLemmas
 pub mod FrameLemmas
-pub mod HeldLemmas
 pub mod ListLemmas
 pub mod Projecting
-pub mod ScanLemmas
+pub mod QueryLemmas
+pub mod SoughtLemmas
+pub mod StopLemmas
 pub mod TrailerLemmas

@@ -1,38 +1,30 @@
-//! Answers a question from an index text that nobody has checked, reading only what the question needs.
+//! Reads of an index text that nobody has checked what a question needs, and no more of it.
 //!
-//! A [`Source`] is read by ranges: the trailer, the sections STOP, DOCS and DICTIONARY, and the lists of the terms that
-//! the question asks about. Of these [`project`] puts the bytes of a small index text together, of version 1, with a
-//! dictionary of these terms alone: the index text of the collection in which every other token is nothing. The exact
-//! reader opens it, and so checks each of its bytes, and [`answer_trusting`] returns what the query finds in it.
+//! A source is read by ranges ([`ReadAt`](ix_files::ReadAt)): both ends of the index text, which say where its sections
+//! are, the sections STOP and DOCS, the dictionary up to the last term that the question can ask about, and the lists of
+//! the terms that it asks about. [`extract_query`] and [`extract_pattern`] put an index text of version 1 together of
+//! these, with a dictionary of these terms alone: that of the collection in which every other token is nothing. The
+//! exact reader opens it, so that each of its bytes is checked, and answers the question.
 //!
 //! ```text
-//! let source = Slice { bytes };
-//! let numbers = answer_trusting(alloc, &source, &query, &grams)?;
+//! let text = extract_query(alloc, &source, "red AND fox*")?;
+//! let index = Index::open(alloc, text.as_slice())?;
 //! ```
 //!
-//! Proved, for both versions: if the source's bytes are known, and are the index text of a collection, the answer is
-//! the scan of the collection, or an error other than `Malformed`. For every other source a call is safe, ends, and
-//! returns an answer or an error. A fault in a part that is not read is not seen.
+//! A query is read under the source's own stop list. Its STOP is opened for this by the exact reader, too, in the index
+//! text of a collection without documents.
 //!
-//! The GRAMS section of the small text is made by a [`GramsWriter`], which has no implementation here: the one that the
-//! writer of index texts has is private, and is to take its place.
+//! Proved, for both versions: if the source's bytes are known, and are the index text of a collection, what comes back
+//! is the index text of that collection with fewer terms, among them all that the question asks about, or the error is
+//! that of the query, a failed read, or out of memory. For every other source a call is safe, ends, and returns bytes or
+//! an error. A fault in a part that is not read is not seen.
 #![tactic(auto)]
 
-mod answer;
-mod asked_terms;
 mod assemble;
+mod extract;
 mod extract_error;
-mod gather;
-mod grams_writer;
-mod held;
-mod projection;
-mod source;
-#[cfg(test)]
-mod tests;
+mod query_matcher;
 mod trailer;
 
-pub use answer::answer_trusting;
+pub use extract::{extract_pattern, extract_query};
 pub use extract_error::ExtractError;
-pub use grams_writer::GramsWriter;
-pub use projection::project;
-pub use source::{Slice, Source};

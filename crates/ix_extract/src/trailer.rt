@@ -1,15 +1,16 @@
 //! The trailer of an index text.
 
-ghost use Rattle.std.specs.Prelude.{◌≡◌, ◌+◌, ◌^◌, ◌<◌, ◌≤◌, ◌++◌, ℕ, List, ◌↔◌, length, IfSome, IsSomeAnd, IsTrue};
-ghost use Rattle.ix_index_text.specs.IndexText.{end_mark};
+ghost use Rattle.std.specs.Prelude.{◌≡◌, ◌≢◌, ◌+◌, ◌^◌, ◌<◌, ◌≤◌, ◌++◌, ℕ, ◌↔◌, length, IfOk, IsOkAnd, IsTrue, MatchOption};
+ghost use Rattle.ix_index_text.specs.IndexText.{end_mark, magic};
 ghost use Rattle.ix_index_text.specs.Sections.{Version as FormatVersion};
-ghost use Rattle.ix_file.specs.Frames.{FileSectionTexts, counts, eight, joined_sections, lengths};
+ghost use Rattle.ix_file.specs.Frames.{FileSectionTexts, counts, eight, joined_sections};
 ghost use Rattle.ix_lookup.specs.Versions.{version_in};
-ghost use Rattle.ix_extract.specs.Trailers.{AreSmall, IsTrailerOf, sizes_bytes, sum_of};
+ghost use Rattle.ix_extract.specs.Trailers.{AreEnds, AreSmall, IsTrailerOf, ends_of, sizes_bytes, sum_of};
 
+use ix_file::OpenError;
 use ix_index_text::{
-    COUNT_BYTES, COUNTS_BYTES, END_MARK_FRONT_CODED, END_MARK_PLAIN, LENGTH_BYTES, LENGTHS_BYTES,
-    TRAILER_BYTES,
+    COUNT_BYTES, COUNTS_BYTES, END_MARK_FRONT_CODED, END_MARK_PLAIN, FRAME_BYTES, LENGTH_BYTES,
+    LENGTHS_BYTES, MAGIC_FRONT_CODED, MAGIC_PLAIN, MARK_BYTES,
 };
 use ix_lookup::Version;
 
@@ -26,49 +27,104 @@ pub(crate) struct Trailer {
     pub(crate) terms: u32,
 }
 
-/// What a trailer says. `None` if the sections do not have `left` bytes together, or the mark is that of no version.
-pub(crate) fn read_trailer(trailer: &[u8], left: usize) -> Option<Trailer>
-    requires { length trailer.now ≡ TRAILER_BYTES }
-    ensures within { IfSome result (λ read.
+/// What the trailer of a frame says, of which these are the mark at the front and, behind it, the trailer.
+///
+/// # Errors
+/// In this order: `Magic` if the first mark is that of no version; `Trailer` if the last one is not that of the version;
+/// `Lengths` if the sections do not have `left` bytes together.
+pub(crate) fn read_trailer(frame: &[u8], left: usize) -> Result<Trailer, OpenError>
+    requires { length frame.now ≡ FRAME_BYTES }
+    ensures within { IfOk result (λ read.
         ((read.postings + read.stop) + read.documents) + read.dictionary ≤ left) }
     ensures found { (version : FormatVersion) (texts : FileSectionTexts) (rows terms : ℕ)
         → rows < 2 ^ 32 → terms < 2 ^ 32 → length (joined_sections texts) ≡ left
-        → trailer.now ≡ (lengths texts ++ counts rows terms) ++ end_mark version
-        → IsSomeAnd result (IsTrailerOf version texts rows terms) }
+        → frame.now ≡ ends_of version texts rows terms
+        → IsOkAnd result (IsTrailerOf version texts rows terms) }
 {
-    let (numbers, mark) = trailer.split_at(LENGTHS_BYTES + COUNTS_BYTES);
-    let (lengths, counts) = numbers.split_at(LENGTHS_BYTES);
-    let sizes = read_sizes(lengths);
-    let (rows, terms) = read_counts(counts);
-    if !sizes.have_sum(left as u64) {
-        return None;
+    let parts = split_ends(frame);
+    let Some(version) = version_of(parts.mark) else {
+        return Err(OpenError::Magic);
+    };
+    if !is_end_mark(version, parts.end_mark) {
+        return Err(OpenError::Trailer);
     }
-    match version_of(mark) {
-        None => None,
-        Some(version) => Some(Trailer {
-            version,
-            postings: sizes.postings as usize,
-            stop: sizes.stop as usize,
-            documents: sizes.documents as usize,
-            dictionary: sizes.dictionary as usize,
-            rows,
-            terms,
-        }),
+    let sizes = read_sizes(parts.sizes);
+    let (rows, terms) = read_counts(parts.counts);
+    if !sizes.have_sum(left as u64) {
+        return Err(OpenError::Lengths);
+    }
+    Ok(Trailer {
+        version,
+        postings: sizes.postings as usize,
+        stop: sizes.stop as usize,
+        documents: sizes.documents as usize,
+        dictionary: sizes.dictionary as usize,
+        rows,
+        terms,
+    })
+}
+
+/// The parts of both ends of a frame.
+#[derive(Clone, Copy)]
+struct Ends<'a> {
+    mark: &'a [u8],
+    sizes: &'a [u8],
+    counts: &'a [u8],
+    end_mark: &'a [u8],
+}
+
+/// Cuts both ends of a frame.
+fn split_ends(frame: &[u8]) -> Ends<'_>
+    requires { length frame.now ≡ FRAME_BYTES }
+    ensures { AreEnds frame.now result }
+{
+    let (mark, trailer) = frame.split_at(MARK_BYTES);
+    let (numbers, end_mark) = trailer.split_at(LENGTHS_BYTES + COUNTS_BYTES);
+    let (sizes, counts) = numbers.split_at(LENGTHS_BYTES);
+    Ends {
+        mark,
+        sizes,
+        counts,
+        end_mark,
+    }
+}
+
+/// The version whose mark is at the front.
+fn version_of(mark: &[u8]) -> Option<Version>
+    ensures { MatchOption result ((version : FormatVersion) → mark.now ≢ magic version)
+        (λ version. mark.now ≡ magic (version_in version)) }
+{
+    if mark == MAGIC_PLAIN {
+        return Some(Version::Plain);
+    }
+    if mark == MAGIC_FRONT_CODED {
+        return Some(Version::FrontCoded);
+    }
+    None
+}
+
+/// Whether the mark is that of the end of this version.
+fn is_end_mark(version: Version, mark: &[u8]) -> bool
+    ensures { IsTrue result ↔ (mark.now ≡ end_mark (version_in version)) }
+{
+    match version {
+        Version::Plain => mark == END_MARK_PLAIN,
+        Version::FrontCoded => mark == END_MARK_FRONT_CODED,
     }
 }
 
 /// The sizes of the five sections.
 #[derive(Clone, Copy)]
-struct Sizes {
-    postings: u64,
-    stop: u64,
-    documents: u64,
-    dictionary: u64,
-    grams: u64,
+pub(crate) struct Sizes {
+    pub(crate) postings: u64,
+    pub(crate) stop: u64,
+    pub(crate) documents: u64,
+    pub(crate) dictionary: u64,
+    pub(crate) grams: u64,
 }
 
 impl Sizes {
-    /// Whether they are so many bytes together.
+    /// Whether that is their sum.
     fn have_sum(&self, size: u64) -> bool
         ensures { IsTrue result ↔ (sum_of self.now ≡ size) }
     {
@@ -109,20 +165,6 @@ fn read_sizes(bytes: &[u8]) -> Sizes
         dictionary,
         grams,
     }
-}
-
-/// The version whose mark is at the end.
-fn version_of(mark: &[u8]) -> Option<Version>
-    ensures { (version : FormatVersion) → mark.now ≡ end_mark version
-        → IsSomeAnd result (λ found. version_in found ≡ version) }
-{
-    if mark == END_MARK_PLAIN {
-        return Some(Version::Plain);
-    }
-    if mark == END_MARK_FRONT_CODED {
-        return Some(Version::FrontCoded);
-    }
-    None
 }
 
 /// The size at the front, and what follows it.
