@@ -69,7 +69,8 @@ pub(crate) fn stop_text<S: ReadAt>(
     trailer: &Trailer,
 ) -> Result<Vec<u8>, ExtractError>
     requires room { HasRoom trailer.now }
-    ensures text { (bytes : List ℕ) → S.contents source.now ≡ Some bytes → IfOk result (λ text.
+    ensures text { (bytes : List ℕ) → S.contents source.now ≡ Some bytes
+        → IfOk result (λ text.
         text.items ≡ framed Plain (stop_alone (stop_at bytes trailer.now)) 0 0) }
     ensures refused { IfErr result IsOutside }
 {

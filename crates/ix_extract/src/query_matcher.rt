@@ -79,7 +79,8 @@ impl TermMatcher for Part<'_> {
 pub(crate) fn match_query<'a>(alloc: Global, query: &'a Tree) -> Result<AnyOf<Part<'a>>, AllocError>
     ensures wanted { (term : List ℕ) → IfOk result (λ matcher.
         ⟦<AnyOf<Part<'static>> as TermMatcher>⟧.wants matcher term ↔ AsksAbout term query.now) }
-    ensures begun { IfOk result (λ matcher. ⟦<AnyOf<Part<'static>> as TermMatcher>⟧.is_at matcher []) }
+    ensures begun { IfOk result (λ matcher.
+        ⟦<AnyOf<Part<'static>> as TermMatcher>⟧.is_at matcher []) }
 {
     let mut words = Vec::new(alloc);
     let mut matcher = AnyOf::new(alloc);
