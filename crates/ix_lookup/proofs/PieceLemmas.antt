@@ -33,17 +33,14 @@ read_behind rest bytes start unread size few =
     ∙ ap (λ xs. rest ++ (take size unread_bytes ++ take (unread - size) xs)) (sym (drop-drop size start bytes))
     ∙ ap (λ xs. rest ++ xs) (sym (take-add size (unread - size) unread_bytes) ∙ ap (λ n. take n unread_bytes) all)
 
--- what is left of a piece at its front
-pub moved_rest : (piece moved : List ℕ) (place whole size : ℕ) → place ≤ length piece → moved ≡ copy_within piece place whole 0 → whole ≡ length piece → size ≡ length piece - place → take size moved ≡ drop place piece
-moved_rest piece moved place whole size within is_moved is_whole is_size =
-    let all : moved ≡ copy_within piece place (length piece) 0 = is_moved ∙ ap (λ n. copy_within piece place n 0) is_whole in
-    ap (λ n. take n moved) is_size ∙ ap (take (length piece - place)) all ∙ moved_front piece place within
-
 -- So what is left after a read is what was left before.
-pub reads_on : (piece filled bytes : List ℕ) (place start unread size : ℕ) → filled ≡ drop place piece ++ take size (drop start bytes) → size ≤ unread
-    → filled ++ take (unread - size) (drop (start + size) bytes) ≡ drop place piece ++ take unread (drop start bytes)
-reads_on piece filled bytes place start unread size is_filled few =
-    ap (λ xs. xs ++ take (unread - size) (drop (start + size) bytes)) is_filled ∙ read_behind (drop place piece) bytes start unread size few
+pub reads_on : (piece moved rest filled bytes : List ℕ) (place whole size_of_rest start unread size : ℕ) → place ≤ length piece → moved ≡ copy_within piece place whole 0 → whole ≡ length piece → size_of_rest ≡ length piece - place → rest ≡ take size_of_rest moved
+    → filled ≡ rest ++ take size (drop start bytes) → size ≤ unread → filled ++ take (unread - size) (drop (start + size) bytes) ≡ drop place piece ++ take unread (drop start bytes)
+reads_on piece moved rest filled bytes place whole size_of_rest start unread size within is_moved is_whole is_size is_rest is_filled few =
+    let all : moved ≡ copy_within piece place (length piece) 0 = is_moved ∙ ap (λ n. copy_within piece place n 0) is_whole in
+    let same : rest ≡ drop place piece = is_rest ∙ ap (λ n. take n moved) is_size ∙ ap (take (length piece - place)) all ∙ moved_front piece place within in
+    ap (λ xs. xs ++ take (unread - size) (drop (start + size) bytes)) (is_filled ∙ ap (λ xs. xs ++ take size (drop start bytes)) same)
+    ∙ read_behind (drop place piece) bytes start unread size few
 
 -- ---- the row
 

@@ -1,5 +1,5 @@
 //! A section that is read in pieces.
-ghost use Rattle.std.specs.Prelude.{◌≡◌, ◌≤◌, ◌<◌, ◌+◌, ◌-◌, ◌^◌, ◌++◌, ℕ, List, Some, length, take, drop, OnOk};
+ghost use Rattle.std.specs.Prelude.{◌≡◌, ◌≤◌, ◌<◌, ◌+◌, ◌-◌, ◌^◌, ℕ, List, Some, length, take, drop, OnOk};
 
 use ix_files::{FileError, ReadAt};
 use std::alloc::Global;
@@ -52,13 +52,26 @@ impl Pieces {
             → OnOk result (left_in self.new bytes ≡ left_in self.old bytes) }
     {
         if self.unread > 0 && self.piece.len() - self.place < ROW_BYTES {
-            let place = self.place;
-            let size = self.unread.min(READ_BYTES);
-            self.place = 0;
-            read_on(source, &mut self.piece, place, self.start, size)?;
-            self.start += size;
-            self.unread -= size;
+            self.read_on(source)?;
         }
+        Ok(())
+    }
+
+    /// Moves the rest of the piece to its front, and reads on behind it.
+    #[cold]
+    fn read_on<S: ReadAt>(&mut self, source: &S) -> Result<(), FileError>
+        ensures filled { OnOk result (HasRow self.new) }
+        ensures same { (bytes : List ℕ) → S.contents source.now ≡ Some bytes
+            → OnOk result (left_in self.new bytes ≡ left_in self.old bytes) }
+    {
+        let rest = self.piece.len() - self.place;
+        self.piece.copy_within(self.place.., 0);
+        self.piece.truncate(rest);
+        self.place = 0;
+        let size = self.unread.min(READ_BYTES);
+        source.append_at(&mut self.piece, self.start, size)?;
+        self.start += size;
+        self.unread -= size;
         Ok(())
     }
 
@@ -80,27 +93,4 @@ impl Pieces {
     {
         self.place = self.piece.len() - size.min(self.piece.len() - self.place);
     }
-}
-
-/// Moves what a piece has from `place` on to its front, and appends the `size` bytes of the source from `start` on.
-#[cold]
-fn read_on<S: ReadAt>(
-    source: &S,
-    piece: &mut Vec<u8>,
-    place: usize,
-    start: usize,
-    size: usize,
-) -> Result<(), FileError>
-    requires { place ≤ length piece.old.items }
-    ensures sized { OnOk result
-        (length piece.new.items ≡ length piece.old.items - place + size) }
-    ensures told { (bytes : List ℕ) → S.contents source.now ≡ Some bytes
-        → OnOk result (piece.new.items
-        ≡ drop place piece.old.items ++ take size (drop start bytes)) }
-{
-    let rest = piece.len() - place;
-    piece.copy_within(place.., 0);
-    piece.truncate(rest);
-    source.append_at(piece, start, size)?;
-    Ok(())
 }
