@@ -99,7 +99,7 @@ impl Searcher {
     /// The names of the documents of these numbers, removed ones too, after the history that the searcher knows of: that
     /// of its last answer, if it has learned nothing since.
     ///
-    /// `Number` with the place of a number that is no document's there; `Memory` if out of memory.
+    /// `Number` with the place of the first number that is no document's there; `Memory` if out of memory.
     pub fn names(&self, numbers: &[u32]) -> Result<Vec<String>, NameError>
         ensures names { IfOk result (λ names.
             AreNamesOf (documents_added (operations_in self.now.history)) numbers.now
