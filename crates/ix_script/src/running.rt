@@ -206,11 +206,6 @@ fn publish<'e, R: Wait>(rt: &R, indexer: &mut Indexer, team: &mut Team) -> Resul
     ensures refused { IfErr result (λ error. (error ≡ Live live_error.Memory)
         × (progress_of indexer.new ≡ progress_of indexer.old)) }
 {
-    match indexer.publish(rt) {
-        Ok(news) => {
-            team.learn(news);
-            Ok(())
-        }
-        Err(error) => Err(RunError::Live(error)),
-    }
+    team.learn(indexer.publish(rt)?);
+    Ok(())
 }
