@@ -1,7 +1,7 @@
 //! Writing the answers of a group.
 ghost use Rattle.std.specs.Prelude.{◌≡◌, IfErr, IfOk, length, map};
 ghost use Rattle.std.specs.Io.KnownBytes.{Appends};
-ghost use Rattle.ix_script.specs.Jobs.{names_in};
+ghost use Rattle.ix_script.specs.Answers.{names_in};
 ghost use Rattle.ix_script.specs.PrintedAnswers.{answered_with, asked_in, lines_of};
 ghost use Rattle.ix_script.specs.Runs.{some_found};
 ghost use Rattle.ix_script.specs.Steps.{step_of};
