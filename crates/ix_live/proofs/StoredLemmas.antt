@@ -1,6 +1,6 @@
 -- What a version keeps after one operation more.
 use Rattle.std.proofs.Common.{◌≡◌, ℕ, zero, suc, ◌+◌, ◌<◌, ◌≤◌, ◌^◌, ◌⊎◌, inl, inr, List, [], ◌∷◌, ◌++◌, map, take, drop, length, refl, sym, ap, ◌∙◌, subst, arith, append_assoc, length-append}
-use Rattle.std.specs.Prelude.{◌↔◌, Contains, Option}
+use Rattle.std.specs.Prelude.{◌↔◌, Contains, IfErr, IsErrAnd, Option, Result, Ok, Err}
 use Rattle.std.specs.List.{take-map}
 use Rattle.std.specs.List.Sorted.{IsStrictlyIncreasing}
 use Rattle.std.proofs.lemmas.List.{append-nil, length-map, length-take, map-append, map_push, take-append-drop}
@@ -152,15 +152,19 @@ module _ (stop : List (List ℕ)) (segments : List (Option Segment)) (entries : 
       subst (λ (n : ℕ). RefusesDocuments workers n (tokens_of (documents_added operations)) documents error) size
       (subst (λ (n : ℕ). RefusesDocuments workers (length (rows_in segments)) n documents error) all h)
 
+  pub few_enough : (texts size : ℕ) → size ≡ texts → count + size ≤ 2 ^ 28 → length (documents_added operations) + texts ≤ 2 ^ 28
+  few_enough texts size is h = omega (arith, is, h, count_stored)
+
   pub too_many : (documents : List Document) (size : ℕ) → size ≡ length documents → 2 ^ 28 < count + size → 2 ^ 28 < length (documents_added operations) + length documents
   too_many documents size is h = omega (arith, is, h, count_stored)
 
 -- the first errors are those of each addition
-pub refused_by_building : (workers count tokens : ℕ) (documents : List Document) (error : LiveError) → IsOfBuilding workers error → RefusesDocuments workers count tokens documents error
-refused_by_building workers count tokens documents (Build error) h = h
-refused_by_building workers count tokens documents TooLarge h = absurd h
-refused_by_building workers count tokens documents Memory h = tt
-refused_by_building workers count tokens documents (Number number) h = absurd h
+pub refused_by_building : (workers count tokens : ℕ) (documents : List Document) (error : LiveError) → count + length documents ≤ 2 ^ 28 → IsOfBuilding workers error
+    → RefusesDocuments workers count tokens documents error
+refused_by_building workers count tokens documents (Build error) few h = (few, h)
+refused_by_building workers count tokens documents TooLarge few h = absurd h
+refused_by_building workers count tokens documents Memory few h = few
+refused_by_building workers count tokens documents (Number number) few h = absurd h
 
 pub addition_some : (documents : List Document) → 0 < length documents → Add documents ∷ [] ≡ addition_of documents
 addition_some [] some = absurd (omega (arith, some))
@@ -184,3 +188,8 @@ pub stored_is : (stop : List (List ℕ)) (segments segments' : List (Option Segm
 stored_is stop segments segments' entries entries' gone count tokens operations operations' one two three h =
     subst (λ (s : List (Option Segment)). IsStored stop s entries' gone count tokens operations') (sym one)
     (subst (λ (e : List Entry). IsStored stop segments e gone count tokens operations') (sym two) (subst (λ (o : List Operation). IsStored stop segments entries gone count tokens o) (sym three) h))
+
+-- what holds of an error holds of the same error, passed on
+pub passed_on : {T E : Type 0} (P : E → Type 0) (result : Result T E) (told : E) → IsErrAnd result (λ error. error ≡ told) → P told → IfErr result P
+passed_on P (Ok value) told is holds = tt
+passed_on P (Err error) told is holds = subst P (sym is) holds

@@ -1,15 +1,12 @@
 -- What versions keep, and what is found and named by it.
-use Rattle.std.proofs.Common.{◌≡◌, ℕ, List, [], Some, map, length, refl, sym, ap, ◌∙◌, subst, arith}
+use Rattle.std.proofs.Common.{◌≡◌, ℕ, List, [], Some, map, refl, sym, ap, ◌∙◌, subst, arith}
 use Rattle.std.specs.Prelude.{Option}
-use Rattle.std.proofs.lemmas.List.{length-map}
 use Rattle.ix_text.specs.Collections.{Document}
 use Rattle.ix_text.specs.Parts.{DocumentRow, row_of}
 use Rattle.ix_query.specs.Tree.{Tree}
 use Rattle.ix_live.specs.declared.entry.Entry.{Entry}
-use Rattle.ix_live.specs.declared.name_error.NameError.{NameError}
 use Rattle.ix_live.specs.declared.segment.Segment.{Segment}
 use Rattle.ix_live.specs.Findings.{AreFound, with_removed}
-use Rattle.ix_live.specs.NameErrors.{RefusesNames}
 use Rattle.ix_live.specs.Names.{AreNamesOf, name_in_rows}
 use Rattle.ix_live.specs.Operations.{Operation, documents_added, state_after}
 use Rattle.ix_live.specs.Segments.{rows_in}
@@ -38,9 +35,6 @@ module _ (stop : List (List ℕ)) (segments : List (Option Segment)) (entries : 
   pub names_are : {X : Type 0} (f : X → List ℕ) (numbers : List ℕ) (names : List X) → map (λ name. Some (f name)) names ≡ map (name_in_rows (rows_in segments)) numbers → AreNamesOf (documents_added operations) numbers (map f names)
   names_are f numbers names are =
       map_some f names ∙ are ∙ ap (λ (rows : List DocumentRow). map (name_in_rows rows) numbers) rows_are ∙ names_same (documents_added operations) numbers
-
-  pub refused_names : (numbers : List ℕ) (error : NameError) → RefusesNames (length (rows_in segments)) numbers error → RefusesNames (length (documents_added operations)) numbers error
-  refused_names numbers error = subst (λ (k : ℕ). RefusesNames k numbers error) (ap length rows_are ∙ length-map (documents_added operations) row_of)
 
 -- nothing was done yet
 pub stored_first : (stop : List (List ℕ)) → IsStored stop [] [] [] 0 0 []

@@ -1,4 +1,4 @@
--- A table of segments with documents more.
+-- A table of segments with more documents.
 use Rattle.std.specs.Prelude.{◌≡◌, ℕ, ◌≤◌, List, [], ◌∷◌, ◌++◌, drop, take, length, map, Option, Some}
 use Rattle.ix_text.specs.Collections.{Document, NamedText, collection_of}
 use Rattle.ix_text.specs.Parts.{row_of}

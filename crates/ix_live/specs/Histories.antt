@@ -41,7 +41,7 @@ nothing_done = record { publishes = []; pending = [] }
 abbrev pub operations_of : Past → List Operation
 operations_of past = joined past.publishes ++ past.pending
 
--- operations more that wait
+-- more operations that wait
 abbrev pub waiting : Past → List Operation → Past
 waiting past operations = record { publishes = past.publishes; pending = past.pending ++ operations }
 

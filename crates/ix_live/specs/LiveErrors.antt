@@ -23,6 +23,11 @@ live_error_name TooLarge = codes "TooLarge"
 live_error_name Memory = codes "Memory"
 live_error_name (Number document) = codes "Number(" ++ (decimal document ++ codes ")")
 
+-- the error of building into memory as that of a live index: a failed write is out of memory
+abbrev pub told_of_build : BuildError → LiveError
+told_of_build Write = Memory
+told_of_build error = Build error
+
 -- this many workers did not build documents into memory for this reason, which is no failed write
 abbrev pub RefusesBuilding : ℕ → BuildError → Type 0
 RefusesBuilding workers error = IsBuildRefusal workers error × (error ≢ Write)
@@ -34,22 +39,22 @@ IsOfBuilding workers TooLarge = ⊥
 IsOfBuilding workers Memory = Unit {0}
 IsOfBuilding workers (Number document) = ⊥
 
--- documents are not added by this many workers to a number of documents with a number of tokens for this reason: they are
--- not built, or would be too many, or have too many tokens, or the call was out of memory
+-- documents are not added by this many workers to a number of documents with a number of tokens for this reason: they
+-- would be too many; or they are few enough, and are not built, or have too many tokens, or the call was out of memory
 abbrev pub RefusesDocuments : ℕ → ℕ → ℕ → List Document → LiveError → Type 0
-RefusesDocuments workers count tokens documents (Build error) = RefusesBuilding workers error
+RefusesDocuments workers count tokens documents (Build error) = (count + length documents ≤ 2 ^ 28) × RefusesBuilding workers error
 RefusesDocuments workers count tokens documents TooLarge = (2 ^ 28 < count + length documents) ⊎ (2 ^ 28 < tokens + tokens_of documents)
-RefusesDocuments workers count tokens documents Memory = Unit {0}
+RefusesDocuments workers count tokens documents Memory = count + length documents ≤ 2 ^ 28
 RefusesDocuments workers count tokens documents (Number document) = ⊥
 
 -- documents are not added by this many workers behind those of operations for this reason
 abbrev pub RefusesAddition : ℕ → List Operation → List Document → LiveError → Type 0
 RefusesAddition workers operations documents = RefusesDocuments workers (length (documents_added operations)) (tokens_of (documents_added operations)) documents
 
--- a number is not removed from this many documents for this reason: there is none of that number, or the call was out of
--- memory
+-- a number is not removed from this many documents for this reason: there is none of that number, or there is one and the
+-- call was out of memory
 abbrev pub RefusesRemoval : ℕ → ℕ → LiveError → Type 0
 RefusesRemoval count number (Build error) = ⊥
 RefusesRemoval count number TooLarge = ⊥
-RefusesRemoval count number Memory = Unit {0}
+RefusesRemoval count number Memory = number < count
 RefusesRemoval count number (Number document) = (document ≡ number) × (count ≤ number)

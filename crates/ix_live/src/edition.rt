@@ -97,8 +97,9 @@ impl Edition {
         self.version.find(alloc, query)
     }
 
-    /// The names of the documents of these numbers, removed ones too. `Number` with the place of a number that is no
-    /// document's, or `Memory`.
+    /// The names of the documents of these numbers, removed ones too.
+    ///
+    /// `Number` with the place of the first number that is no document's; `Memory` if out of memory.
     pub fn names(&self, alloc: Global, numbers: &[u32]) -> Result<Vec<String>, NameError>
         ensures names { IfOk result (λ names.
             AreNamesOf (documents_added (operations_in self.now.history)) numbers.now

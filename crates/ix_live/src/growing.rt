@@ -1,8 +1,10 @@
-//! A table of segments with documents more.
-ghost use Rattle.std.specs.Prelude.{◌≡◌, ◌^◌, ◌<◌, ◌≤◌, ◌+◌, length, IfOk, IfErr};
+//! A table of segments with more documents.
+ghost use Rattle.std.specs.Prelude.{◌≡◌, ◌^◌, ◌<◌, ◌≤◌, ◌+◌, length, IfOk, IfErr, MatchResult};
+ghost use Rattle.ix_merge.specs.Rows.{tokens_in};
 ghost use Rattle.ix_live.specs.Growing.{Grows, HaveDocuments, documents_under, tokens_of};
 ghost use Rattle.ix_live.specs.LiveErrors.{RefusesDocuments};
 ghost use Rattle.ix_live.specs.Segments.{rows_in};
+ghost use Rattle.ix_live.specs.declared.live_error.LiveError.TheVariants.{TooLarge};
 
 use crate::live_error::LiveError;
 use crate::merging::build_volume;
@@ -15,7 +17,7 @@ use std::alloc::Global;
 use std::sync::Wait;
 use std::thread::Threads;
 
-/// A segment that stands for all from `left` on and for documents more, of which are so many tokens.
+/// A segment in place of all from `left` on, with more documents behind theirs, and how many tokens these have.
 #[derive(Drop)]
 pub struct Grown {
     pub left: usize,
@@ -23,10 +25,11 @@ pub struct Grown {
     pub tokens: u32,
 }
 
-/// Builds documents, of which there are some, and merges their segment with those at the end of a table that has so
-/// many tokens.
+/// Builds documents, of which there are some, and merges their segment with those at the end of a table that has
+/// `tokens` tokens.
 ///
-/// `Build` where they are not built, `TooLarge` where they have too many tokens, `Memory` where memory is refused.
+/// `Build` if they are not built, `TooLarge` if they have too many tokens, `Memory` if out of memory.
+#[tactic(auto, using(crate::proofs::StoredLemmas::documents_counted))]
 pub fn grow<R: Threads + Wait + Sync>(
     rt: &R,
     alloc: Global,
@@ -53,10 +56,10 @@ pub fn grow<R: Threads + Wait + Sync>(
         Ok(volume) => volume,
         Err(error) => return Err(error),
     };
-    let more = volume.index().token_total();
-    if more > MAX_TOKENS - tokens {
-        return Err(LiveError::TooLarge);
-    }
+    let more = match count_tokens(&volume, tokens) {
+        Ok(more) => more,
+        Err(error) => return Err(error),
+    };
     let segment = Segment {
         generation: 0,
         volume,
@@ -68,4 +71,18 @@ pub fn grow<R: Threads + Wait + Sync>(
         place,
         tokens: more,
     })
+}
+
+/// How many tokens the documents of a volume have. `TooLarge` if these and `tokens` more are too many.
+fn count_tokens(volume: &Volume, tokens: u32) -> Result<u32, LiveError>
+    requires { tokens ≤ 2 ^ 28 }
+    ensures { MatchResult result
+        (λ more. (more ≡ tokens_in volume.now.parts.rows) × (tokens + more ≤ 2 ^ 28))
+        (λ error. (error ≡ TooLarge) × (2 ^ 28 < tokens + tokens_in volume.now.parts.rows)) }
+{
+    let more = volume.index().token_total();
+    if more > MAX_TOKENS - tokens {
+        return Err(LiveError::TooLarge);
+    }
+    Ok(more)
 }

@@ -1,5 +1,5 @@
 //! The indexer: it grows a version, and shows it.
-ghost use Rattle.std.specs.Prelude.{◌≡◌, ◌<◌, ◌++◌, ◌∷◌, [], length, option_map, slice_get, IfErr, IfOk, OnErr, OnOk};
+ghost use Rattle.std.specs.Prelude.{◌≡◌, ◌<◌, ◌≤◌, ◌+◌, ◌^◌, ◌++◌, ◌∷◌, [], length, option_map, slice_get, IfErr, IfOk, OnErr, OnOk};
 ghost use Rattle.ix_live.specs.Growing.{documents_under};
 ghost use Rattle.ix_live.specs.Identities.{shown_in};
 ghost use Rattle.ix_live.specs.Indexers.{IsAhead, indexer_of};
@@ -74,7 +74,7 @@ impl Indexer {
     /// Adds documents behind all others; they are pending until they are published. A collection without documents
     /// changes nothing.
     ///
-    /// `Build` if the documents are not built, `TooLarge` if there would be more than 2^28 documents or tokens, and
+    /// `TooLarge` if there would be more than 2^28 documents or tokens, `Build` if the documents are not built, and
     /// `Memory` if out of memory. All is then as it was.
     pub fn add<R: Threads + Wait + Sync>(
         &mut self,
@@ -86,6 +86,9 @@ impl Indexer {
             × (self.new.published ≡ self.old.published) }
         ensures added { OnOk result (self.new.pending
             ≡ self.old.pending ++ addition_of (documents_under self.old.stop documents.now)) }
+        ensures few { OnOk result
+            (length (documents_added (joined self.old.published ++ self.old.pending))
+            + length documents.now ≤ 2 ^ 28) }
         ensures pieces { OnOk result
             (self.new.pieces ≡ after_adding (length documents.now) self.old.pieces) }
         ensures kept { OnErr result (self.new ≡ self.old) }

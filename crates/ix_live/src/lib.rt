@@ -1,6 +1,7 @@
 //! The live index: it is searched while it grows. `live` makes an indexer and searchers. The indexer adds documents,
 //! removes documents and publishes; searchers answer, each in a thread of its own if it likes, from histories that were
-//! published, that never go back and that begin with all that they learned. A history is a list of publishes, each of
+//! published, that never go back and that begin with all that they learned. News of a publish, which threads may share,
+//! answers after just the history up to it. A history is a list of publishes, each of
 //! which is the list of the operations that were pending. A version is a live index after all that was done to it: it
 //! answers queries from segments, which are merged by generations, and a copy of it shares them. An edition is a version
 //! without anything pending. Two copies between the threads each show an edition.

@@ -45,6 +45,21 @@ impl From<AllocError> for LiveError {
     }
 }
 
+impl From<BuildError> for LiveError {
+    ghost use Rattle.std.specs.Prelude.{◌≡◌};
+    ghost use Rattle.ix_live.specs.LiveErrors.{told_of_build};
+
+    ghost from_gives = { λ cause error. error ≡ told_of_build cause };
+
+    /// A failed write is one into memory.
+    fn from(error: BuildError) -> LiveError {
+        match error {
+            BuildError::Write => LiveError::Memory,
+            error => LiveError::Build(error),
+        }
+    }
+}
+
 impl fmt::Display for LiveError {
     ghost use Rattle.std.specs.Prelude.{Some};
     ghost use Rattle.ix_live.specs.LiveErrors.{live_error_name};

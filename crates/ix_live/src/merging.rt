@@ -8,7 +8,7 @@ ghost use Rattle.ix_live.specs.LiveErrors.{IsOfBuilding};
 ghost use Rattle.ix_live.specs.Segments.{of_documents};
 
 use crate::live_error::LiveError;
-use ix_build::{BuildError, Plan, build_in_memory};
+use ix_build::{Plan, build_in_memory};
 use ix_file::Volume;
 use ix_merge::{IndexSource, merge};
 use ix_text::{Collection as Documents, Memory, StopList};
@@ -16,8 +16,9 @@ use std::alloc::{AllocError, Global};
 use std::sync::Wait;
 use std::thread::Threads;
 
-/// An index of documents under a stop list, built by a plan. `Build` as the building says, but for a refused write,
-/// which is want of memory here.
+/// An index of documents under a stop list, built by a plan.
+///
+/// `Build` if the documents are not built, and `Memory` if out of memory.
 pub fn build_volume<R: Threads + Wait + Sync>(
     rt: &R,
     alloc: Global,
@@ -30,11 +31,8 @@ pub fn build_volume<R: Threads + Wait + Sync>(
     ensures refused { IfErr result (IsOfBuilding plan.now.workers) }
 {
     let mut bytes = Vec::new(alloc);
-    match build_in_memory(rt, alloc, documents, stop, plan, &mut bytes) {
-        Ok(()) => Ok(open_volume(alloc, bytes)?),
-        Err(BuildError::Write) => Err(LiveError::Memory),
-        Err(error) => Err(LiveError::Build(error)),
-    }
+    build_in_memory(rt, alloc, documents, stop, plan, &mut bytes)?;
+    Ok(open_volume(alloc, bytes)?)
 }
 
 /// An index of the documents of one index and, behind them, those of another under the same stop set.
@@ -67,12 +65,12 @@ fn merge_bytes(alloc: Global, one: &Volume, other: &Volume) -> Result<Vec<u8>, M
     let mut bytes = Vec::new(alloc);
     match merge(alloc, sources, &mut bytes) {
         Ok(()) => Ok(bytes),
-        // The documents follow one another under one stop set and have few tokens, so nothing but memory is refused.
+        // The documents follow one another under one stop set and have few tokens, so the merge was out of memory.
         Err(_) => Err(AllocError),
     }
 }
 
-/// Opens an index text, which is refused for want of memory alone.
+/// Opens an index text. `Memory` if out of memory.
 fn open_volume(alloc: Global, bytes: Vec<u8>) -> Result<Volume, Memory>
     ensures { IfOk result (λ volume. (collection : Collection)
         → IsIndexText FrontCoded collection bytes.items → IsIndexOf volume FrontCoded collection) }

@@ -99,7 +99,7 @@ impl Searcher {
     /// The names of the documents of these numbers, removed ones too, after the history that the searcher knows of: that
     /// of its last answer, if it has learned nothing since.
     ///
-    /// `Number` with the place of a number that is no document's there; `Memory` if out of memory.
+    /// `Number` with the place of the first number that is no document's there; `Memory` if out of memory.
     pub fn names(&self, numbers: &[u32]) -> Result<Vec<String>, NameError>
         ensures names { IfOk result (λ names.
             AreNamesOf (documents_added (operations_in self.now.history)) numbers.now
@@ -108,26 +108,6 @@ impl Searcher {
             (length (documents_added (operations_in self.now.history))) numbers.now) }
     {
         self.latest.names(self.alloc, numbers)
-    }
-
-    /// An answer as of `answer`, after just the history of these news, whatever was published since.
-    pub fn answer_after(&self, news: &News, query: &Query) -> Result<Vec<u32>, Memory>
-        ensures { IfOk result (λ numbers.
-            IsStateScan (state_after news.now.stop (operations_in news.now.history)) query.now
-            numbers.items) }
-    {
-        news.edition.find(self.alloc, query)
-    }
-
-    /// Names as of `names`, after just the history of these news.
-    pub fn names_after(&self, news: &News, numbers: &[u32]) -> Result<Vec<String>, NameError>
-        ensures names { IfOk result (λ names.
-            AreNamesOf (documents_added (operations_in news.now.history)) numbers.now
-            (map string_bytes names.items)) }
-        ensures refused { IfErr result (RefusesNames
-            (length (documents_added (operations_in news.now.history))) numbers.now) }
-    {
-        news.edition.names(self.alloc, numbers)
     }
 
     /// The edition that is shown, which goes on from all that the searcher knows.

@@ -1,5 +1,5 @@
 //! Versions: a live index after all that was done to it.
-ghost use Rattle.std.specs.Prelude.{◌≡◌, ◌<◌, ◌∷◌, [], length, map, option_map, slice_get, IfErr, IfOk, OnErr, OnOk};
+ghost use Rattle.std.specs.Prelude.{◌≡◌, ◌<◌, ◌≤◌, ◌+◌, ◌^◌, ◌∷◌, [], length, map, option_map, slice_get, IfErr, IfOk, OnErr, OnOk};
 ghost use Rattle.std.specs.Arc.{arc_value};
 ghost use Rattle.std.specs.String.{string_bytes};
 ghost use Rattle.ix_live.specs.Growing.{documents_under};
@@ -16,7 +16,7 @@ use crate::finding::find_documents;
 use crate::growing::grow;
 use crate::live_error::LiveError;
 use crate::name_error::NameError;
-use crate::naming::find_names;
+use crate::naming::{find_names, find_unknown};
 use crate::past::Past;
 use crate::removing::insert_number;
 use crate::segment::Place;
@@ -110,7 +110,7 @@ impl Version {
 
     /// Adds documents behind all others. A collection without documents changes nothing.
     ///
-    /// `Build` if the documents are not built, `TooLarge` if there would be more than 2^28 documents or tokens, and
+    /// `TooLarge` if there would be more than 2^28 documents or tokens, `Build` if the documents are not built, and
     /// `Memory` if out of memory. All is then as it was.
     pub fn add<R: Threads + Wait + Sync>(
         &mut self,
@@ -122,6 +122,8 @@ impl Version {
         ensures same { self.new.stop ≡ self.old.stop }
         ensures added { OnOk result (self.new.past ≡ waiting self.old.past
             (addition_of (documents_under self.old.stop documents.now))) }
+        ensures few { OnOk result (length (documents_added (operations_of self.old.past))
+            + length documents.now ≤ 2 ^ 28) }
         ensures pieces { OnOk result
             (self.new.pieces ≡ after_adding (length documents.now) self.old.pieces) }
         ensures kept { OnErr result (self.new ≡ self.old) }
@@ -129,11 +131,11 @@ impl Version {
             (operations_of self.old.past) (documents_under self.old.stop documents.now)) }
     {
         let count = documents.docs().len();
-        if count == 0 {
-            return Ok(());
-        }
         if count > (MAX_DOCUMENTS - self.count) as usize {
             return Err(LiveError::TooLarge);
+        }
+        if count == 0 {
+            return Ok(());
         }
         let table = self.segments.as_slice();
         let grown = match grow(rt, alloc, &self.stop, table, self.tokens, documents, plan) {
@@ -208,8 +210,9 @@ impl Version {
         )
     }
 
-    /// The names of the documents of these numbers, removed ones too. `Number` with the place of a number that is no
-    /// document's, or `Memory`.
+    /// The names of the documents of these numbers, removed ones too.
+    ///
+    /// `Number` with the place of the first number that is no document's; `Memory` if out of memory.
     pub fn names(&self, alloc: Global, numbers: &[u32]) -> Result<Vec<String>, NameError>
         ensures names { IfOk result (λ names.
             AreNamesOf (documents_added (operations_of self.now.past)) numbers.now
@@ -217,7 +220,10 @@ impl Version {
         ensures refused { IfErr result
             (RefusesNames (length (documents_added (operations_of self.now.past))) numbers.now) }
     {
-        find_names(alloc, self.segments.as_slice(), numbers)
+        if let Some(place) = find_unknown(numbers, self.count) {
+            return Err(NameError::Number(place));
+        }
+        Ok(find_names(alloc, self.segments.as_slice(), numbers)?)
     }
 }
 

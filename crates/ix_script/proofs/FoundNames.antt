@@ -11,7 +11,7 @@ use Rattle.ix_live.specs.declared.name_error.NameError.TheVariants.{Number}
 -- each number that is found is a document's
 pub found_is_document : (stop : List (List ℕ)) (operations : List Operation) (query : Tree) (numbers handed : List ℕ) (place : ℕ) → handed ≡ numbers
     → IsStateScan (state_after stop operations) query numbers → ¬ (RefusesNames (length (documents_added operations)) handed (Number place))
-found_is_document stop operations query numbers handed place same scan (number, at, high) =
+found_is_document stop operations query numbers handed place same scan (number, at, high, first) =
     let among : Contains handed number = (place, slice_get_within handed place number at, get_or_from_slice_get handed place number number at) in
     let found = (scan.exact number).0 (subst (λ l. Contains l number) same among) in
     omega (arith, high, slice_get_within (documents_added operations) number found.0.document found.0.numbered)

@@ -1,5 +1,7 @@
--- What the searchers of a live index answer to queries.
-use Rattle.std.specs.Prelude.{ℕ, List, [], ◌∷◌}
+-- Answers to queries after what was published in a live index.
+use Rattle.std.specs.Prelude.{ℕ, List, [], ◌∷◌, String, map}
+use Rattle.std.specs.Global.{Global, Vec}
+use Rattle.std.specs.String.{string_bytes}
 use Rattle.ix_query.specs.Tree.{Tree}
 use Rattle.ix_live.specs.Names.{AreNamesOf}
 use Rattle.ix_live.specs.Operations.{Operation, documents_added, state_after}
@@ -17,3 +19,7 @@ AreAnswers stop operations [] [] = Unit {0}
 AreAnswers stop operations [] (names ∷ answers) = ⊥
 AreAnswers stop operations (query ∷ queries) [] = ⊥
 AreAnswers stop operations (query ∷ queries) (names ∷ answers) = IsAnswer stop operations query names × AreAnswers stop operations queries answers
+
+-- the names in a list of texts, by their bytes
+abbrev pub names_in : Vec (String Global) → List (List ℕ)
+names_in names = map string_bytes names.items

@@ -1,6 +1,5 @@
 pub mod Answers
 pub mod Groups
-pub mod Jobs
 pub mod PrintedAnswers
 pub mod Runs
 pub mod ScriptErrors

@@ -13,7 +13,7 @@ pub record Progress : Type 0 where
   pub published : List Operation
   pub pending : List Operation
 
--- operations more that wait
+-- more operations that wait
 abbrev pub waiting : Progress → List Operation → Progress
 waiting progress operations = record { published = progress.published; pending = progress.pending ++ operations }
 

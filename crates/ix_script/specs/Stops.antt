@@ -1,6 +1,8 @@
 -- Why steps of a script failed, and what is left then.
 use Rattle.std.specs.Prelude.{◌≡◌, ℕ, ◌⊎◌, ◌^◌, ◌<◌, ◌≤◌, List, ◌∷◌, ◌++◌, length, map, take, Option, Result, Ok, Err}
 use Rattle.std.specs.Io.KnownBytes.{Keeps}
+use Rattle.ix_files.specs.declared.file_error.FileError.{FileError}
+use Rattle.ix_files.specs.declared.file_error.FileError.TheVariants as file
 use Rattle.ix_text.specs.CollectionFaults.{IsCollectionFault}
 use Rattle.ix_text.specs.Collections.{NamedText}
 use Rattle.ix_output.specs.Sinks.{AppendsFront}
@@ -39,6 +41,12 @@ IsUnread Holds path (Unread named) = named.now ≡ path
 IsUnread Holds path (Collection error) = (error ≡ collection.TooLarge) × (text : Text) × Holds text × (2 ^ 28 < length text)
 IsUnread Holds path Memory = Unit {0}
 IsUnread Holds path _ = ⊥
+
+-- the error of reading the file of this path: out of memory, or the file cannot be read
+abbrev pub IsReadError : FileError → Text → RunError → Type 0
+IsReadError file.Memory path error = error ≡ Memory
+IsReadError _ path (Unread named) = named.now ≡ path
+IsReadError _ path _ = ⊥
 
 -- why there are no documents of a text: it is no collection text, or the call was out of memory
 abbrev pub IsNoCollection : Text → RunError → Type 0

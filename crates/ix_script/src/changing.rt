@@ -5,7 +5,7 @@ ghost use Rattle.ix_text.specs.CollectionText.{IsCollectionText};
 ghost use Rattle.ix_script.specs.Groups.{IsGroup, is_publish};
 ghost use Rattle.ix_script.specs.Runs.{Changes};
 ghost use Rattle.ix_script.specs.Steps.{Add, step_of};
-ghost use Rattle.ix_script.specs.Stops.{IsNoCollection, IsUnread, KeepsPublished, RefusesChanges};
+ghost use Rattle.ix_script.specs.Stops.{IsNoCollection, IsReadError, IsUnread, KeepsPublished, RefusesChanges};
 ghost use Rattle.ix_script.specs.Stops.{RefusesStep, progress_of};
 
 use crate::run_error::RunError;
@@ -77,10 +77,7 @@ fn change<'t, R: Threads + Wait + Sync, F: Files>(
 {
     match step {
         Step::Add(path) => add(rt, alloc, files, plan, indexer, path),
-        Step::Remove(number) => match indexer.remove(*number) {
-            Ok(()) => Ok(()),
-            Err(error) => Err(RunError::Live(error)),
-        },
+        Step::Remove(number) => Ok(indexer.remove(*number)?),
         Step::Ask(_, _) | Step::Publish => Ok(()),
     }
 }
@@ -102,10 +99,7 @@ fn add<'t, R: Threads + Wait + Sync, F: Files>(
 {
     let text = read(alloc, files, path)?;
     let documents = documents_of(alloc, &text)?;
-    match indexer.add(rt, &documents, plan) {
-        Ok(()) => Ok(()),
-        Err(error) => Err(RunError::Live(error)),
-    }
+    Ok(indexer.add(rt, &documents, plan)?)
 }
 
 /// The bytes of a collection file.
@@ -121,10 +115,17 @@ fn read<'t, F: Files>(alloc: Global, files: &F, path: &'t str) -> Result<Vec<u8>
             }
             Ok(bytes)
         }
-        Err(FileError::Memory) => Err(RunError::Memory),
-        Err(FileError::Failed | FileError::Exists | FileError::Locked) => {
-            Err(RunError::Unread(path))
-        }
+        Err(error) => Err(read_error(error, path)),
+    }
+}
+
+/// The error of reading the file of a path.
+fn read_error<'t>(error: FileError, path: &'t str) -> RunError<'t>
+    ensures { IsReadError error path.entry.now result }
+{
+    match error {
+        FileError::Memory => RunError::Memory,
+        FileError::Failed | FileError::Exists | FileError::Locked => RunError::Unread(path),
     }
 }
 
@@ -133,8 +134,5 @@ fn documents_of<'t, 'e>(alloc: Global, text: &'t [u8]) -> Result<Collection<'t>,
     ensures read { IfOk result (IsCollectionText text.now) }
     ensures refused { IfErr result (IsNoCollection text.now) }
 {
-    match Collection::read(alloc, text) {
-        Ok(documents) => Ok(documents),
-        Err(error) => Err(RunError::Collection(error)),
-    }
+    Ok(Collection::read(alloc, text)?)
 }

@@ -1,9 +1,9 @@
 //! A group of a script: its asks are answered while its additions and removals are carried out.
 ghost use Rattle.std.specs.Prelude.{◌≡◌, ◌<◌, Ok, IfErr, IfOk, OnOk, length, map};
 ghost use Rattle.ix_files.specs.Reading.{held_in};
-ghost use Rattle.ix_script.specs.Answers.{AreAnswers};
+ghost use Rattle.ix_live.specs.Histories.{operations_in};
+ghost use Rattle.ix_script.specs.Answers.{AreAnswers, names_in};
 ghost use Rattle.ix_script.specs.Groups.{IsGroup};
-ghost use Rattle.ix_script.specs.Jobs.{names_in};
 ghost use Rattle.ix_script.specs.PrintedAnswers.{answered_with, asked_in};
 ghost use Rattle.ix_script.specs.Runs.{Changes, Runs};
 ghost use Rattle.ix_script.specs.Steps.{step_of};
@@ -20,7 +20,7 @@ use ix_files::Files;
 use ix_live::Indexer;
 use std::alloc::{AllocError, Global};
 use std::sync::Wait;
-use std::thread::Threads;
+use std::thread::{Threads, join_mut};
 
 /// Carries out a group: its additions and removals, and meanwhile its asks, which are answered after just what is
 /// published. The answers are lists of names, one for each ask, in order.
@@ -32,17 +32,16 @@ pub fn run_group<'t, R: Threads + Wait + Sync, F: Files>(
     files: &F,
     plan: &Plan,
     indexer: &mut Indexer,
-    team: Team,
+    team: &Team,
     group: &[Step<'t>],
-) -> Result<(Team, Vec<Vec<String>>), RunError<'t>>
+) -> Result<Vec<Vec<String>>, RunError<'t>>
     requires group { IsGroup (map step_of group.now) }
-    requires team { IsTeamOf indexer.old team }
+    requires team { IsTeamOf indexer.old team.now }
     ensures same { KeepsPublished indexer.old indexer.new }
-    ensures team { IfOk result (λ r. r.0 ≡ team) }
-    ensures ran { IfOk result (λ r. Runs (held_in (F.view files.now)) indexer.old.stop
+    ensures ran { IfOk result (λ answers. Runs (held_in (F.view files.now)) indexer.old.stop
         (map step_of group.now) (progress_of indexer.old) (progress_of indexer.new)
-        (answered_with (map step_of group.now) (map names_in r.1.items))) }
-    ensures count { IfOk result (λ r. length (map names_in r.1.items)
+        (answered_with (map step_of group.now) (map names_in answers.items))) }
+    ensures count { IfOk result (λ answers. length (map names_in answers.items)
         ≡ length (asked_in (map step_of group.now))) }
     ensures refused { IfErr result (RefusesGroup (held_in (F.view files.now)) plan.now.workers
         indexer.old.stop (map step_of group.now) (progress_of indexer.old)) }
@@ -57,18 +56,18 @@ fn answer_and_change<'t, R: Threads + Wait + Sync, F: Files>(
     files: &F,
     plan: &Plan,
     indexer: &mut Indexer,
-    team: Team,
+    team: &Team,
     group: &[Step<'t>],
-) -> Result<(Team, Vec<Vec<String>>), RunError<'t>>
+) -> Result<Vec<Vec<String>>, RunError<'t>>
     requires group { IsGroup (map step_of group.now) }
-    requires team { IsTeamOf indexer.old team }
+    requires team { IsTeamOf indexer.old team.now }
     ensures same { KeepsPublished indexer.old indexer.new }
-    ensures team { IfOk result (λ r. r.0 ≡ team) }
-    ensures changed { IfOk result (λ r. Changes (held_in (F.view files.now)) indexer.old.stop
-        (map step_of group.now) (progress_of indexer.old) (progress_of indexer.new)) }
-    ensures answers { IfOk result (λ r. AreAnswers indexer.old.stop
+    ensures changed { IfOk result (λ answers. Changes (held_in (F.view files.now))
+        indexer.old.stop (map step_of group.now) (progress_of indexer.old)
+        (progress_of indexer.new)) }
+    ensures answers { IfOk result (λ answers. AreAnswers indexer.old.stop
         (progress_of indexer.old).published
-        (asked_in (map step_of group.now)) (map names_in r.1.items)) }
+        (asked_in (map step_of group.now)) (map names_in answers.items)) }
     ensures refused { IfErr result (RefusesGroup (held_in (F.view files.now)) plan.now.workers
         indexer.old.stop (map step_of group.now) (progress_of indexer.old)) }
 {
@@ -76,6 +75,11 @@ fn answer_and_change<'t, R: Threads + Wait + Sync, F: Files>(
         Ok(queries) => queries,
         Err(AllocError) => return Err(RunError::Memory),
     };
+    let mut asks = || -> Result<Vec<Vec<String>>, usize>
+        ensures { IfOk result (λ answers. AreAnswers team.entry.now.stop
+            (operations_in team.entry.now.history)
+            (map (λ query. query.now) queries.entry.items) (map names_in answers.items)) }
+    { team.answer(rt, alloc, &queries) };
     let mut changes = || -> Result<(), Stopped<'_>>
         requires { IsGroup (map step_of group.now) }
         ensures same { KeepsPublished indexer.entry.now indexer.exit.now }
@@ -87,7 +91,7 @@ fn answer_and_change<'t, R: Threads + Wait + Sync, F: Files>(
             plan.entry.now.workers indexer.entry.now.stop (map step_of group.entry.now)
             (progress_of indexer.entry.now) stopped.error) }
     { change_all(rt, alloc, files, plan, indexer, group) };
-    let (asked, changed) = team.answer_beside(rt, alloc, &queries, &mut changes);
+    let (asked, changed) = join_mut(rt, &mut asks, &mut changes);
     both(group, asked, changed)
 }
 
@@ -95,12 +99,12 @@ fn answer_and_change<'t, R: Threads + Wait + Sync, F: Files>(
 /// removals.
 fn both<'t>(
     group: &[Step<'t>],
-    asked: Result<(Team, Vec<Vec<String>>), usize>,
+    asked: Result<Vec<Vec<String>>, usize>,
     changed: Result<(), Stopped<'t>>,
-) -> Result<(Team, Vec<Vec<String>>), RunError<'t>>
+) -> Result<Vec<Vec<String>>, RunError<'t>>
     requires { IfErr changed (λ stopped. stopped.place < length group.now) }
-    ensures asked { IfOk result (λ r. asked ≡ Ok r) }
-    ensures changed { IfOk result (λ r. changed.entry ≡ Ok tt) }
+    ensures asked { IfOk result (λ answers. asked ≡ Ok answers) }
+    ensures changed { IfOk result (λ answers. changed.entry ≡ Ok tt) }
     ensures refused { IfErr result (IsFirstError group.now asked changed.entry) }
 {
     match (asked, changed) {

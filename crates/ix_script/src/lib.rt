@@ -7,7 +7,6 @@ mod changing;
 mod error;
 mod group_running;
 mod groups;
-mod jobs;
 mod laws;
 mod printing;
 mod read;

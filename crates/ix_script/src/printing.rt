@@ -1,6 +1,6 @@
 //! The asks of a group: their queries, and their answers as they are printed.
 ghost use Rattle.std.specs.Prelude.{◌≡◌, ◌++◌, IfOk, OnOk, length, map, string_bytes};
-ghost use Rattle.ix_script.specs.Jobs.{names_in};
+ghost use Rattle.ix_script.specs.Answers.{names_in};
 ghost use Rattle.ix_script.specs.PrintedAnswers.{answer_lines, answered_with, asked_in, lines_of};
 ghost use Rattle.ix_script.specs.Runs.{is_some_name, some_found};
 ghost use Rattle.ix_script.specs.Steps.{step_of};

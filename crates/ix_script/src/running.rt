@@ -1,5 +1,5 @@
 //! Carrying out the steps of a script, group by group.
-ghost use Rattle.std.specs.Prelude.{◌≡◌, ◌<◌, ◌≤◌, ◌⊎◌, All, IfErr, IfOk, OnOk, length, map, take, vec_len};
+ghost use Rattle.std.specs.Prelude.{◌≡◌, ◌<◌, ◌≤◌, ◌⊎◌, All, IfErr, IfOk, OnOk, length, map, take};
 ghost use Rattle.ix_files.specs.Reading.{held_in};
 ghost use Rattle.ix_live.specs.declared.live_error.LiveError.TheVariants as live_error;
 ghost use Rattle.ix_script.specs.Groups.{IsGroup};
@@ -18,15 +18,15 @@ use crate::team::Team;
 use crate::writing::write_answers;
 use ix_build::Plan;
 use ix_files::Files;
-use ix_live::{Indexer, Searcher, live};
+use ix_live::{Indexer, live};
 use ix_text::StopList;
 use std::alloc::Global;
 use std::io::Write;
 use std::sync::Wait;
 use std::thread::Threads;
 
-/// Carries out the steps of a script on a new live index with 1 to 64 searchers, and returns whether a name was
-/// found. The answers to the asks of a group go to `out` once the whole group was carried out, and then it is published.
+/// Carries out the steps of a script on a new live index, and returns whether a name was found. Its asks are answered by
+/// at most that many threads beside this one. The answers to the asks of a group go to `out` once the whole group was carried out, and then it is published.
 /// What waits at the end is dropped.
 ///
 /// The first step that fails ends it. Of its group nothing is written then, unless the output itself failed: then a
@@ -41,13 +41,14 @@ pub fn run_steps<'t, R: Threads + Wait + Sync, F: Files, W: Write>(
     steps: &[Step<'t>],
     out: &mut W,
 ) -> Result<bool, RunError<'t>>
-    requires { (1 ≤ searchers) × (searchers ≤ 64) }
+    requires { 0 < searchers }
     ensures ran { IfOk result (IsCarriedOut (held_in (F.view files.now)) stop
         (map step_of steps.now) (W.contents out.old) (W.contents out.new)) }
     ensures refused { IfErr result (IsStopped (held_in (F.view files.now)) plan.now.workers stop
         (map step_of steps.now) (W.contents out.old) (W.contents out.new)) }
 {
-    let Ok((mut indexer, searchers)) = live(rt, alloc, stop, searchers) else {
+    // A team answers after news, and no searcher.
+    let Ok((mut indexer, _searchers)) = live(rt, alloc, stop, 1) else {
         return Err(RunError::Memory);
     };
     let done = run_new(rt, alloc, files, plan, &mut indexer, searchers, steps, out);
@@ -62,12 +63,12 @@ fn run_new<'t, R: Threads + Wait + Sync, F: Files, W: Write>(
     files: &F,
     plan: &Plan,
     indexer: &mut Indexer,
-    searchers: Vec<Searcher>,
+    searchers: usize,
     steps: &[Step<'t>],
     out: &mut W,
 ) -> Result<bool, RunError<'t>>
     requires new { progress_of indexer.old ≡ nothing_yet }
-    requires some { 0 < vec_len searchers }
+    requires some { 0 < searchers }
     ensures ran { IfOk result (CarriesOut (held_in (F.view files.now)) indexer.old.stop
         (map step_of steps.now) nothing_yet (progress_of indexer.new)
         (W.contents out.old) (W.contents out.new)) }
@@ -79,8 +80,16 @@ fn run_new<'t, R: Threads + Wait + Sync, F: Files, W: Write>(
     let Ok(news) = indexer.publish(rt) else {
         return Err(RunError::Memory);
     };
-    let team = Team::new(searchers, news);
-    run_on(rt, alloc, files, plan, indexer, team, steps, out)
+    run_on(
+        rt,
+        alloc,
+        files,
+        plan,
+        indexer,
+        Team::new(searchers, news),
+        steps,
+        out,
+    )
 }
 
 /// Carries out the steps of a script, group by group.
@@ -106,8 +115,16 @@ fn run_on<'t, R: Threads + Wait + Sync, F: Files, W: Write>(
     let mut found = false;
     let mut place = 0;
     while place < steps.len() {
-        let round = run_round(rt, alloc, files, plan, indexer, team, &steps[place..], out)?;
-        team = round.team;
+        let round = run_round(
+            rt,
+            alloc,
+            files,
+            plan,
+            indexer,
+            &mut team,
+            &steps[place..],
+            out,
+        )?;
         found = found | round.found;
         place += round.count;
     }
@@ -117,7 +134,6 @@ fn run_on<'t, R: Threads + Wait + Sync, F: Files, W: Write>(
 /// What came of the first group of steps.
 #[derive(Drop)]
 struct Round {
-    team: Team,
     /// Whether a name was found.
     found: bool,
     /// How many steps were carried out, the publish behind the group included.
@@ -131,14 +147,14 @@ fn run_round<'t, R: Threads + Wait + Sync, F: Files, W: Write>(
     files: &F,
     plan: &Plan,
     indexer: &mut Indexer,
-    team: Team,
+    team: &mut Team,
     steps: &[Step<'t>],
     out: &mut W,
 ) -> Result<Round, RunError<'t>>
     requires some { 0 < length steps.now }
-    requires team { IsTeamOf indexer.old team }
+    requires team { IsTeamOf indexer.old team.old }
     ensures same { indexer.new.stop ≡ indexer.old.stop }
-    ensures team { IfOk result (λ round. IsTeamOf indexer.new round.team) }
+    ensures team { OnOk result (IsTeamOf indexer.new team.new) }
     ensures count { IfOk result (λ round. (0 < round.count)
         × (round.count ≤ length steps.now)) }
     ensures published { IfOk result (λ round.
@@ -152,17 +168,15 @@ fn run_round<'t, R: Threads + Wait + Sync, F: Files, W: Write>(
         (W.contents out.old) (W.contents out.new)) }
 {
     let (group, rest) = first_group(steps);
-    let (mut team, found) = answer_group(rt, alloc, files, plan, indexer, team, group, out)?;
+    let found = answer_group(rt, alloc, files, plan, indexer, team, group, out)?;
     let Some(rest) = rest else {
         return Ok(Round {
-            team,
             found,
             count: steps.len(),
         });
     };
-    publish(rt, indexer, &mut team)?;
+    publish(rt, indexer, team)?;
     Ok(Round {
-        team,
         found,
         count: steps.len() - rest.len(),
     })
@@ -175,24 +189,22 @@ fn answer_group<'t, R: Threads + Wait + Sync, F: Files, W: Write>(
     files: &F,
     plan: &Plan,
     indexer: &mut Indexer,
-    team: Team,
+    team: &Team,
     group: &[Step<'t>],
     out: &mut W,
-) -> Result<(Team, bool), RunError<'t>>
+) -> Result<bool, RunError<'t>>
     requires group { IsGroup (map step_of group.now) }
-    requires team { IsTeamOf indexer.old team }
+    requires team { IsTeamOf indexer.old team.now }
     ensures same { KeepsPublished indexer.old indexer.new }
-    ensures team { IfOk result (λ r. r.0 ≡ team) }
-    ensures ran { IfOk result (λ r. CarriesOut (held_in (F.view files.now)) indexer.old.stop
+    ensures ran { IfOk result (CarriesOut (held_in (F.view files.now)) indexer.old.stop
         (map step_of group.now) (progress_of indexer.old) (progress_of indexer.new)
-        (W.contents out.old) (W.contents out.new) r.1) }
+        (W.contents out.old) (W.contents out.new)) }
     ensures refused { IfErr result (Stops (held_in (F.view files.now)) plan.now.workers
         indexer.old.stop (map step_of group.now) (progress_of indexer.old)
         (W.contents out.old) (W.contents out.new)) }
 {
-    let (team, answers) = run_group(rt, alloc, files, plan, indexer, team, group)?;
-    let found = write_answers(alloc, group, &answers, out)?;
-    Ok((team, found))
+    let answers = run_group(rt, alloc, files, plan, indexer, team, group)?;
+    write_answers(alloc, group, &answers, out)
 }
 
 /// Publishes what waits, and the team learns of it.
@@ -206,11 +218,6 @@ fn publish<'e, R: Wait>(rt: &R, indexer: &mut Indexer, team: &mut Team) -> Resul
     ensures refused { IfErr result (λ error. (error ≡ Live live_error.Memory)
         × (progress_of indexer.new ≡ progress_of indexer.old)) }
 {
-    match indexer.publish(rt) {
-        Ok(news) => {
-            team.learn(news);
-            Ok(())
-        }
-        Err(error) => Err(RunError::Live(error)),
-    }
+    team.learn(indexer.publish(rt)?);
+    Ok(())
 }

@@ -1,7 +1,7 @@
 //! Writing the answers of a group.
 ghost use Rattle.std.specs.Prelude.{◌≡◌, IfErr, IfOk, length, map};
 ghost use Rattle.std.specs.Io.KnownBytes.{Appends};
-ghost use Rattle.ix_script.specs.Jobs.{names_in};
+ghost use Rattle.ix_script.specs.Answers.{names_in};
 ghost use Rattle.ix_script.specs.PrintedAnswers.{answered_with, asked_in, lines_of};
 ghost use Rattle.ix_script.specs.Runs.{some_found};
 ghost use Rattle.ix_script.specs.Steps.{step_of};
@@ -11,7 +11,7 @@ use crate::printing::lines_of;
 use crate::run_error::RunError;
 use crate::step::Step;
 use ix_output::{flush, put_all};
-use std::alloc::{AllocError, Global};
+use std::alloc::Global;
 use std::io::Write;
 
 /// Writes the answers to the asks of a group, flushes, and returns whether a name is among them. The answers are lists of
@@ -33,14 +33,8 @@ pub fn write_answers<'e, W: Write>(
         (lines_of (answered_with (map step_of group.now) (map names_in answers.now)))
         (W.contents out.old) (W.contents out.new)) }
 {
-    match lines_of(alloc, group, answers) {
-        Ok((lines, found)) => {
-            if put_all(out, lines.as_bytes()).is_ok() && flush(out).is_ok() {
-                Ok(found)
-            } else {
-                Err(RunError::Write)
-            }
-        }
-        Err(AllocError) => Err(RunError::Memory),
-    }
+    let (lines, found) = lines_of(alloc, group, answers)?;
+    put_all(out, lines.as_bytes())?;
+    flush(out)?;
+    Ok(found)
 }

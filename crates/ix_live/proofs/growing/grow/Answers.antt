@@ -10,7 +10,7 @@ use Rattle.ix_live.proofs.TableLemmas.{rows_counted}
 use Rattle.ix_live.proofs.growing.grow.Goals as goal
 
 pub returns-in-Err-clause-refused : goal.returns-in-Err-clause-refused
-returns-in-Err-clause-refused g c = refused_by_building c.args.plan.now.workers (length (rows_in c.args.table.now)) c.args.tokens (documents_under c.args.stop.now c.args.documents.now) c.in-Err.error c.in-Err.ensures.refused
+returns-in-Err-clause-refused g c = refused_by_building c.args.plan.now.workers (length (rows_in c.args.table.now)) c.args.tokens (documents_under c.args.stop.now c.args.documents.now) c.in-Err.error (omega (arith, documents_counted c.args.stop.now c.args.documents.now, c.requires.few)) c.in-Err.ensures.refused
 
 pub merge_alike-requires-clause-few : goal.merge_alike-requires-clause-few
 merge_alike-requires-clause-few g c =

@@ -7,7 +7,6 @@ use Rattle.ix_live.proofs.naming.find_names.Given as goal
 
 abbrev pub invariant-loop-number : goal.invariant-loop-number
 invariant-loop-number l = record {
-  place : l.place ≡ l.number-index;
   made : length l.names.items ≡ l.number-index;
   room : length l.numbers ≤ vec_capacity l.names;
   named : map (λ name. Some (string_bytes name)) l.names.items ≡ map (name_in_rows (rows_in l.segments)) (take l.number-index l.numbers);

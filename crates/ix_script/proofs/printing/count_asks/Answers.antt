@@ -1,5 +1,5 @@
 -- The next step asks one query more, or none.
-use Rattle.std.proofs.Common.{◌∙◌, ◌∷◌, [], ap, length, length-append, map, take, arith}
+use Rattle.std.proofs.Common.{◌∷◌, [], ap, length, length-append, map, take, arith}
 use Rattle.ix_script.specs.PrintedAnswers.{asked_in}
 use Rattle.ix_script.specs.Steps.{step_of}
 use Rattle.ix_script.proofs.PrintingLemmas.{next_asked, next_quiet}

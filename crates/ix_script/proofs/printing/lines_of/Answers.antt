@@ -2,7 +2,7 @@
 use Rattle.std.proofs.Common.{◌∙◌, ◌≡◌, ◌+◌, ◌<◌, ◌||◌, ◌∷◌, [], ◌++◌, ap, ap₂, arith, length, length-append, map, rules, get_or, take, sym}
 use Rattle.std.specs.String.{string_bytes}
 use Rattle.std.proofs.lemmas.List.{length-map}
-use Rattle.ix_script.specs.Jobs.{names_in}
+use Rattle.ix_script.specs.Answers.{names_in}
 use Rattle.ix_script.specs.PrintedAnswers.{answer_lines, answered_with, asked_in, lines_of}
 use Rattle.ix_script.specs.Runs.{is_some_name, some_found}
 use Rattle.ix_script.specs.Steps.{step_of}

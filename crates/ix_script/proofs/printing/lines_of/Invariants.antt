@@ -1,6 +1,6 @@
 use Rattle.std.proofs.Common.{◌≡◌, length, map, take}
 use Rattle.std.specs.String.{string_bytes}
-use Rattle.ix_script.specs.Jobs.{names_in}
+use Rattle.ix_script.specs.Answers.{names_in}
 use Rattle.ix_script.specs.PrintedAnswers.{answered_with, asked_in, lines_of}
 use Rattle.ix_script.specs.Runs.{some_found}
 use Rattle.ix_script.specs.Steps.{step_of}

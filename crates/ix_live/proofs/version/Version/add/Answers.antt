@@ -9,11 +9,13 @@ use Rattle.ix_live.specs.declared.segment.Segment.{Segment}
 use Rattle.ix_live.specs.Histories.{operations_of, waiting}
 use Rattle.ix_live.specs.Operations.{Add}
 use Rattle.ix_live.specs.Growing.{documents_under}
+use Rattle.ix_live.specs.LiveErrors.{RefusesAddition}
+use Rattle.ix_live.specs.declared.live_error.LiveError.TheVariants.{Memory}
 use Rattle.ix_live.specs.Pieces.{after_adding, pieces_in}
 use Rattle.ix_live.specs.Segments.{rows_in}
 use Rattle.ix_live.proofs.Falling.{after_none}
 use Rattle.ix_live.proofs.Pasts.{none_waiting, operations_waiting}
-use Rattle.ix_live.proofs.StoredLemmas.{addition_some, documents_counted, pieces_grown, refused_addition, room_left, stored_is, stored_more, too_many}
+use Rattle.ix_live.proofs.StoredLemmas.{addition_some, documents_counted, few_enough, passed_on, pieces_grown, refused_addition, room_left, stored_is, stored_more, too_many}
 use Rattle.ix_live.proofs.version.Version.add.Goals as goal
 
 pub returns-then-count-eq0-clause-added : goal.returns-then-count-eq0-clause-added
@@ -92,3 +94,27 @@ returns-clause-pieces g c =
     c.push.ensures.items ∙ ap (λ (l : List (Option Segment)). l ++ c.in-Ok.grown.place ∷ []) c.truncate.ensures.items in
     rw (← c.self.view_is)
     (ap pieces_in segments ∙ pieces_grown stop v.segments.items (documents_under stop texts) c.in-Ok.grown.left c.in-Ok.grown.place grows ∙ ap (λ (n : ℕ). after_adding n (pieces_in v.segments.items)) (documents_counted stop texts))
+
+pub returns-then-count-eq0-clause-few : goal.returns-then-count-eq0-clause-few
+returns-then-count-eq0-clause-few g c =
+    let v = c.self.inside in
+    rw (← c.self.view_is)
+    (few_enough (arc_value v.stop) v.segments.items v.entries.items v.removed.items v.count v.tokens (operations_of v.past) c.self.invariant (length c.args.documents.now) (length c.docs-count.result.now)
+    (omega (arith, ap length c.docs-count.ensures.documents, length-map c.docs-count.result.now named_text)) (omega (arith, c.if-count-self.false, c.self.invariant.few)))
+
+pub returns-clause-few : goal.returns-clause-few
+returns-clause-few g c =
+    let v = c.self.inside in
+    rw (← c.self.view_is)
+    (few_enough (arc_value v.stop) v.segments.items v.entries.items v.removed.items v.count v.tokens (operations_of v.past) c.self.invariant (length c.args.documents.now) (length c.docs-count.result.now)
+    (omega (arith, ap length c.docs-count.ensures.documents, length-map c.docs-count.result.now named_text)) (omega (arith, c.if-count-self.false, c.self.invariant.few)))
+
+pub returns-in_err-reserve-clause-error : goal.returns-in_err-reserve-clause-error
+returns-in_err-reserve-clause-error g c =
+    let v = c.self.inside in
+    let stop = arc_value v.stop in
+    let texts = c.args.documents.now in
+    let size : length c.docs-count.result.now ≡ length (documents_under stop texts) = omega (arith, documents_counted stop texts, ap length c.docs-count.ensures.documents, length-map c.docs-count.result.now named_text) in
+    let few = few_enough stop v.segments.items v.entries.items v.removed.items v.count v.tokens (operations_of v.past) c.self.invariant (length (documents_under stop texts)) (length c.docs-count.result.now) size (omega (arith, c.if-count-self.false, c.self.invariant.few)) in
+    rw (← c.self.view_is)
+    (passed_on (RefusesAddition c.args.plan.now.workers (operations_of v.past) (documents_under stop texts)) c.from_residual.result Memory c.from_residual.ensures.1 few)

@@ -1,12 +1,14 @@
-use Rattle.std.proofs.Common.{rules, ◌≡◌, ◌⊎◌, ◌∙◌, List, ℕ, [], ◌∷◌, ◌++◌, ap, arith, refl, subst}
+use Rattle.std.proofs.Common.{rules, ◌≡◌, ◌⊎◌, ◌∙◌, List, ℕ, [], ◌∷◌, ◌++◌, ap, arith, length, refl, subst}
 use Rattle.std.specs.Arc.{arc_value}
 use Rattle.std.specs.Prelude.{◌↔◌, Contains}
 use Rattle.ix_live.specs.declared.entry.Entry.{Entry}
 use Rattle.ix_live.specs.declared.entry.Entry.TheVariants.{Removed}
 use Rattle.ix_live.specs.Histories.{operations_of}
-use Rattle.ix_live.specs.Operations.{Remove}
+use Rattle.ix_live.specs.LiveErrors.{RefusesRemoval}
+use Rattle.ix_live.specs.declared.live_error.LiveError.TheVariants.{Memory}
+use Rattle.ix_live.specs.Operations.{Remove, documents_added}
 use Rattle.ix_live.proofs.Pasts.{operations_waiting}
-use Rattle.ix_live.proofs.StoredLemmas.{count_stored, stored_is, stored_removed}
+use Rattle.ix_live.proofs.StoredLemmas.{count_stored, passed_on, stored_is, stored_removed}
 use Rattle.ix_live.proofs.version.Version.remove.Goals as goal
 
 pub returns-then-number-self-clause-error : goal.returns-then-number-self-clause-error
@@ -34,3 +36,18 @@ returns-clause-there c =
     let v = c.self.inside in
     let count = count_stored (arc_value v.stop) v.segments.items v.entries.items v.removed.items v.count v.tokens (operations_of v.past) c.self.invariant in
     rw (← c.self.view_is) (omega (arith, count, c.if-number-self.false))
+
+pub returns-in_err-reserve-clause-error : goal.returns-in_err-reserve-clause-error
+returns-in_err-reserve-clause-error c =
+    let v = c.self.inside in
+    let count = count_stored (arc_value v.stop) v.segments.items v.entries.items v.removed.items v.count v.tokens (operations_of v.past) c.self.invariant in
+    rw (← c.self.view_is)
+    (passed_on (RefusesRemoval (length (documents_added (operations_of v.past))) c.args.number) c.from_residual.result Memory c.from_residual.ensures.1 (omega (arith, count, c.if-number-self.false)))
+
+pub returns-in_err-reserve-2-clause-error : goal.returns-in_err-reserve-2-clause-error
+returns-in_err-reserve-2-clause-error c =
+    let v = c.self.inside in
+    let count = count_stored (arc_value v.stop) v.segments.items v.entries.items v.removed.items v.count v.tokens (operations_of v.past) c.self.invariant in
+    rw (← c.self.view_is)
+    (passed_on (RefusesRemoval (length (documents_added (operations_of v.past))) c.args.number) c.from_residual-in_err-reserve-2.result Memory c.from_residual-in_err-reserve-2.ensures.1
+    (omega (arith, count, c.if-number-self.false)))
