@@ -281,7 +281,7 @@ def trusting():
     done = run("check", "cut", "c.ix", "none", "spoiled")
     told = done.stdout.splitlines()
     check("check of faulty files", (done.returncode, done.stderr, told[:2], len(told)) ==
-          (2, b"", [b"cut\tindex 3: Trailer", b"none\tfile 1: Read(none)"], 3) and told[2].startswith(b"spoiled\tindex "), done)
+          (2, b"", [b"cut\tindex 3: Trailer", b"none\tfile 1: Read"], 3) and told[2].startswith(b"spoiled\tindex "), done)
 
 
 def plans():
