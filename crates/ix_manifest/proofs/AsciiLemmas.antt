@@ -1,5 +1,5 @@
 -- The text of a lawful manifest is ASCII.
-use Rattle.std.proofs.Common.{◌≡◌, ℕ, ◌+◌, ◌^◌, ◌<◌, ◌≤◌, Bool, true, ◌&&◌, nat_lt, List, [], ◌∷◌, ◌++◌, All, Option, Some, None, refl, arith}
+use Rattle.std.proofs.Common.{◌≡◌, ℕ, ◌^◌, ◌<◌, Bool, true, ◌&&◌, nat_lt, List, [], ◌∷◌, ◌++◌, All, Option, Some, None, refl, ◌∙◌, arith}
 use Rattle.std.specs.Prelude.{IfSome, IsAscii, IsUtf8, codes, decimal}
 use Rattle.std.specs.List.{flat_map}
 use Rattle.std.proofs.lemmas.Bool.{and_parts, ltb-true}
@@ -75,5 +75,9 @@ pub manifest_utf8 : (view : ManifestView) → IsManifest view → IsUtf8 (manife
 unfolding manifest_text body_text
 manifest_utf8 view is =
     let front = IsAscii-append (head_text view.next) (flat_map segment_text view.segments) (head_ascii view.next is.bound) (segments_ascii view.next view.segments is.bound is.segments.each) in
-    let body = IsAscii-append _ (removals_text view.removals) front (removals_ascii view.next view.segments view.removals is.bound is.removals) in
+    let body = IsAscii-append (head_text view.next ++ flat_map segment_text view.segments) (removals_text view.removals) front (removals_ascii view.next view.segments view.removals is.bound is.removals) in
     IsUtf8-from_ascii (manifest_text view) (IsAscii-append (body_text view) (end_text (body_text view)) body (end_ascii (body_text view)))
+
+-- the longest front of the text that is UTF-8 is all of it
+pub front_whole : (bytes front : List ℕ) (view : ManifestView) → IsManifest view → bytes ≡ manifest_text view → (IsUtf8 bytes → front ≡ bytes) → front ≡ manifest_text view
+front_whole bytes front view lawful is whole = whole (rw is (manifest_utf8 view lawful)) ∙ is

@@ -1,8 +1,7 @@
 -- The parts of a manifest's text, one behind another.
-use Rattle.std.proofs.Common.{◌≡◌, ◌≢◌, ℕ, ◌^◌, ◌<◌, List, [], ◌∷◌, ◌++◌, All, get_or, Option, Some, None, Result, Ok, refl, sym, ap, subst, ◌∙◌, arith, append_assoc}
+use Rattle.std.proofs.Common.{◌≡◌, ℕ, List, [], ◌∷◌, ◌++◌, get_or, Option, Some, None, Result, Ok, refl, sym, ap, ◌∙◌, arith, append_assoc}
 use Rattle.std.specs.Prelude.{IfSome, codes}
 use Rattle.std.specs.List.{flat_map}
-use Rattle.std.proofs.lemmas.List.{append-nil}
 use Rattle.std.proofs.lemmas.List.Elements.{All-head, All-tail}
 use Rattle.ix_manifest.specs.ManifestParts.{AreSegmentsOf, IsBehind}
 use Rattle.ix_manifest.specs.ManifestText.{AreFields, IsManifest, IsRemovals, IsSegment, ManifestView, body_text, end_text, fields_text, head_text, manifest_text, removals_text, segment_fields, segment_text}
@@ -42,12 +41,11 @@ no_segment next text (one ∷ others) rest are behind = absurd (behind ((segment
 pub segment_read : (next : ℕ) (all done : List Segment) (left : List Segment) (segment : Segment) (text fields rest : List ℕ) (more : HasSegment next left fields rest) → all ≡ done ++ left
     → segment ≡ more.one → text ≡ flat_map segment_text more.others ++ rest
     → (others : List Segment) × (all ≡ (done ++ segment ∷ []) ++ others) × AreSegmentsOf next text others rest
-segment_read next all done left segment text fields rest more joined same follows =
-    (
-      more.others,
-      joined ∙ ap (λ l. done ++ l) (more.are ∙ ap (λ (one : Segment). one ∷ more.others) (sym same)) ∙ sym (append_assoc done (segment ∷ []) more.others),
-      rw follows more.after,
-    )
+segment_read next all done left segment text fields rest more joined same follows = (
+  more.others,
+  joined ∙ ap (λ l. done ++ l) (more.are ∙ ap (λ (one : Segment). one ∷ more.others) (sym same)) ∙ sym (append_assoc done (segment ∷ []) more.others),
+  rw follows more.after,
+)
 
 -- ---- the removals
 

@@ -66,7 +66,12 @@ fn unlawful_segment(segments: &[Segment], next: u64) -> Option<usize>
 fn is_lawful_segment(segment: &Segment, next: u64) -> bool
     ensures { IsTrue result ↔ IsSegment next segment.now }
 {
-    let Segment { file, documents, bytes, digest } = segment;
+    let Segment {
+        file,
+        documents,
+        bytes,
+        digest,
+    } = segment;
     let count = u64::from(*documents);
     *documents <= MAX_DOCUMENTS && are_lawful_fields(*file, count, *bytes, digest, next)
 }
@@ -75,7 +80,12 @@ fn is_lawful_segment(segment: &Segment, next: u64) -> bool
 fn is_lawful_removals(removals: &Removals, segments: &[Segment], next: u64) -> bool
     ensures { IsTrue result ↔ IsRemovals next segments.now removals.now }
 {
-    let Removals { file, count, bytes, digest } = removals;
+    let Removals {
+        file,
+        count,
+        bytes,
+        digest,
+    } = removals;
     are_lawful_fields(*file, *count, *bytes, digest, next) && !has_file(segments, *file)
 }
 
@@ -87,8 +97,7 @@ fn are_lawful_fields(file: u64, _count: u64, _bytes: u64, digest: &[u8; 32], nex
     file < next
 }
 
-/// Tells a caller that the elements of a digest are bytes: a proof has the range of an array's elements where the array
-/// is passed on.
+/// States that the elements of a digest are bytes. A proof has this fact at a call that takes the array.
 fn note_octets(_digest: &[u8; 32])
     requires { IsBytes _digest.now }
     ensures { IsBytes _digest.now }

@@ -6,10 +6,10 @@
 //! ```text
 //! ix archive 1
 //! next 5
-//! segment 3 1000 52431 6e340b9cffb37a989ca544e6bb780a2c78901d3fb33738768511a30617afa01d
-//! segment 4 20 1187 4bf5122f344554c53bde2ebb8cd2b7e3d1600ad631c385a5d7cce23c7785459a
-//! removals 2 17 64 dbc1b4c900ffe48d575b5da5c638040125f65db0fe3e24494b76ea986457d986
-//! end 46ecd42cc29cdf7ed7f0b6f04a3b0c4c59a75ce3a3b1dc0fdb0ddf0b0f6f9d93
+//! segment 3 1000 52431 7692c3ad3540bb803c020b3aee66cd8887123234ea0c6e7143c0add73ff431ed
+//! segment 4 20 1187 3fc4ccfe745870e2c0d99f71f30ff0656c8dedd41cc1d7d3d376b0dbe685e2f3
+//! removals 2 17 64 8b5b9db0c13db24256c829aa364aa90c6d2eba318b9232a4ab9313b954d3555f
+//! end 24ae8d956ad82d028d870bf2f726f0a528e7afd7b456dc8d74f39874cf0bb050
 //! ```
 //!
 //! Each line ends in LF. `next` is the number of the next file that is written, above those of all files here. A segment
@@ -20,10 +20,12 @@
 //!
 //! [`Manifest::text`] writes a manifest, and [`read`] reads one.
 //!
-//! Proved: a manifest is written as the text above, and `read` returns exactly the lawful manifest that the bytes are
-//! the text of: no two of its files have the same number, each number is below `next`, and a segment has at most 2^28
-//! documents. `read` returns an error for all other bytes, and for the text of a lawful manifest only if out of memory.
-//! Which line an error names is only tested.
+//! A manifest is lawful if no two of its files have the same number, each of these numbers is below `next`, and each
+//! segment has at most 2^28 documents ([`Manifest::is_lawful`]).
+//!
+//! Proved: a manifest is written as the text above. If the bytes are the text of a lawful manifest, `read` returns that
+//! manifest, or `Memory` if out of memory. For all other bytes it returns an error, so a byte that was changed is
+//! reported unless two texts have the same SHA-256. Which line an error names is only tested.
 #![tactic(auto)]
 
 mod lawful;

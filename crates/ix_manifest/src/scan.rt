@@ -54,7 +54,11 @@ pub fn scan_fields(text: &str) -> Option<(Removals, &str)>
         → next < 2 ^ 64 → AreFields next file count bytes digest
         → text.entry.now ≡ fields_text file count bytes digest ++ rest
         → IsSomeAnd result (λ found. (found.0 ≡ record {
-        file = file; count = count; bytes = bytes; digest = digest })
+          file = file;
+          count = count;
+          bytes = bytes;
+          digest = digest;
+        })
         × (found.1.now ≡ rest)) }
     ensures shorter { IfSome result (λ found. length found.1.now < length text.entry.now) }
 {
@@ -62,5 +66,13 @@ pub fn scan_fields(text: &str) -> Option<(Removals, &str)>
     let (count, left) = scan_number(left, ' ')?;
     let (bytes, left) = scan_number(left, ' ')?;
     let (digest, left) = scan_digest(left)?;
-    Some((Removals { file, count, bytes, digest }, left))
+    Some((
+        Removals {
+            file,
+            count,
+            bytes,
+            digest,
+        },
+        left,
+    ))
 }

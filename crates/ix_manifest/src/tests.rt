@@ -76,10 +76,16 @@ fn a_changed_byte_is_an_error_that_names_a_line(rt: HostRuntime) -> Result<(), F
         for mask in [1u8, 0x20, 0x80] {
             changed[place] = bytes[place] ^ mask;
             let fault = fault(rt.alloc(), &changed);
-            assert!(rt; matches!(fault, Some(ManifestError::Line(1..=7))), "{place}");
+            assert!(rt;
+                matches!(fault, Some(ManifestError::Line(1..=7))),
+                "{place}"
+            );
         }
         let prefix = fault(rt.alloc(), &bytes[..place]);
-        assert!(rt; matches!(prefix, Some(ManifestError::Line(1..=6))), "{place}");
+        assert!(rt;
+            matches!(prefix, Some(ManifestError::Line(1..=6))),
+            "{place}"
+        );
     }
     Ok(())
 }
@@ -115,7 +121,11 @@ fn an_unlawful_manifest_is_an_error(rt: HostRuntime) -> Result<(), Fail> {
         last.documents = documents;
         let text = manifest.text(rt.alloc())?;
         let fault = fault(rt.alloc(), text.as_bytes());
-        assert_eq!(rt; fault, Some(ManifestError::Line(line)), "{file} {documents}");
+        assert_eq!(rt;
+            fault,
+            Some(ManifestError::Line(line)),
+            "{file} {documents}"
+        );
         assert!(rt; !manifest.is_lawful());
     }
     Ok(())

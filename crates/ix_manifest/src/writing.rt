@@ -45,7 +45,13 @@ fn push_segments(text: &mut String, segments: &[Segment]) -> Result<(), AllocErr
     for segment in segments {
         text.push_str("segment ")?;
         let documents = u64::from(segment.documents);
-        push_fields(text, segment.file, documents, segment.bytes, &segment.digest)?;
+        push_fields(
+            text,
+            segment.file,
+            documents,
+            segment.bytes,
+            &segment.digest,
+        )?;
     }
     Ok(())
 }
@@ -57,7 +63,13 @@ fn push_removals(text: &mut String, removals: &Option<Removals>) -> Result<(), A
 {
     if let Some(removals) = removals {
         text.push_str("removals ")?;
-        push_fields(text, removals.file, removals.count, removals.bytes, &removals.digest)?;
+        push_fields(
+            text,
+            removals.file,
+            removals.count,
+            removals.bytes,
+            &removals.digest,
+        )?;
     }
     Ok(())
 }

@@ -1,5 +1,5 @@
 -- The head, the segments and the removals are read, each from what is left behind the part before it.
-use Rattle.std.proofs.Common.{◌≡◌, ◌∙◌, refl}
+use Rattle.std.proofs.Common.{◌∙◌, refl}
 use Rattle.std.proofs.lemmas.Result.{err_from_is_err_and}
 use Rattle.ix_manifest.specs.ManifestText.{body_text}
 use Rattle.ix_manifest.proofs.ReadingLemmas.{behind_segments, end_behind, manifest_parts, same_view, segments_there}

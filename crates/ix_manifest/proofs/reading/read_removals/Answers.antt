@@ -1,5 +1,5 @@
 -- The text begins with the line of the removals, so that line is read.
-use Rattle.std.proofs.Common.{◌≡◌, ◌∙◌, ap, sym}
+use Rattle.std.proofs.Common.{◌≡◌}
 use Rattle.ix_manifest.proofs.ReadingLemmas.{removals_there}
 use Rattle.ix_manifest.proofs.reading.read_removals.Goals as goal
 

@@ -1,5 +1,5 @@
 -- As long as the text begins with the line of a segment, the next segment is read.
-use Rattle.std.proofs.Common.{◌≡◌, ◌∙◌, ◌++◌, [], ap, rules, sym}
+use Rattle.std.proofs.Common.{◌∙◌, ◌++◌, ap, rules, sym}
 use Rattle.std.proofs.lemmas.List.{append-nil}
 use Rattle.ix_manifest.proofs.ReadingLemmas.{next_segment, no_segment, segment_read}
 use Rattle.ix_manifest.proofs.reading.read_segments.Goals as goal

@@ -1,5 +1,5 @@
 -- The digits of the digest are before the LF, and are read as it.
-use Rattle.std.proofs.Common.{◌≡◌, ◌∙◌, ap, Option, Some, None, Ok, Err}
+use Rattle.std.proofs.Common.{◌≡◌, ◌∙◌, ap, Some, None, Ok, Err}
 use Rattle.hex.specs.Hex.{decode_sized}
 use Rattle.ix_manifest.proofs.ScanLemmas.{digest_before_feed, digest_of_digits}
 use Rattle.ix_manifest.proofs.scan.scan_digest.Goals as goal

@@ -1,5 +1,5 @@
 -- Each field is read, and what is behind it is the fields that follow.
-use Rattle.std.proofs.Common.{◌≡◌, ◌^◌, ◌<◌, ◌∙◌, arith}
+use Rattle.std.proofs.Common.{◌^◌, ◌<◌, ◌∙◌, arith}
 use Rattle.ix_manifest.proofs.ScanLemmas.{fields_before}
 use Rattle.ix_manifest.proofs.scan.scan_fields.Goals as goal
 

@@ -1,5 +1,5 @@
 -- The digits of the number are before the mark, and are read as it.
-use Rattle.std.proofs.Common.{◌≡◌, Option, Some, None, Ok, Err}
+use Rattle.std.proofs.Common.{◌≡◌, Some, None, Ok, Err}
 use Rattle.std.proofs.lemmas.Fmt.{parse-decimal}
 use Rattle.ix_manifest.proofs.ScanLemmas.{number_before_mark}
 use Rattle.ix_manifest.proofs.scan.scan_number.Goals as goal
