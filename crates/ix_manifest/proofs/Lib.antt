@@ -1,0 +1,4 @@
+pub mod AsciiLemmas
+pub mod LawfulLemmas
+pub mod ReadingLemmas
+pub mod ScanLemmas

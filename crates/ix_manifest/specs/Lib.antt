@@ -1,0 +1,2 @@
+pub mod ManifestParts
+pub mod ManifestText
