@@ -80,6 +80,15 @@ extern "C" {
         out_size: usize,
         found: *mut Found,
     ) -> u32;
+    fn ix_search_trusting(
+        index: *const u8,
+        index_size: usize,
+        query: *const u8,
+        query_size: usize,
+        out: *mut u8,
+        out_size: usize,
+        found: *mut Found,
+    ) -> u32;
     fn ix_index_open(
         index: *mut Handle,
         text: *const u8,
@@ -114,6 +123,7 @@ pub(crate) enum Call<'a> {
     Build(&'a [u8], &'a [u8]),
     Run(&'a [u8], &'a [u8], u32),
     Merge(&'a [u8], &'a [usize]),
+    SearchTrusting(&'a [u8], &'a [u8]),
     Open(&'a mut Handle, &'a [u8]),
     Search(&'a mut Handle, &'a [u8]),
     Terms(&'a mut Handle, &'a [u8]),
@@ -147,6 +157,9 @@ impl Call<'_> {
                 }
                 Call::Merge(runs, sizes) => {
                     ix_merge(runs.as_ptr(), runs.len(), sizes.as_ptr(), sizes.len(), to, room, found)
+                }
+                Call::SearchTrusting(text, query) => {
+                    ix_search_trusting(text.as_ptr(), text.len(), query.as_ptr(), query.len(), to, room, found)
                 }
                 Call::Open(index, text) => {
                     ix_index_open(*index, text.as_ptr(), text.len(), to, room, found)

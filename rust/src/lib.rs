@@ -144,6 +144,21 @@ impl Index {
         Ok(Index { text, handle })
     }
 
+    /// What [`Index::search`] gives of an index text, reading only what the query needs: a few pages of a file that is
+    /// mapped into memory. What is read is checked; a fault in another part of the text is not noticed. For index texts that
+    /// ix wrote and that are kept well.
+    ///
+    /// ```
+    /// let documents: ix::Collection = [("a", "fox"), ("b", "dog")].into_iter().collect();
+    /// let index = ix::Index::build(&documents)?;
+    /// assert_eq!(ix::Index::search_trusting(index.as_bytes(), "fox OR wolf")?.to_string(), "a\n");
+    /// # Ok::<(), ix::Error>(())
+    /// ```
+    pub fn search_trusting(text: &[u8], query: &str) -> Result<Names, Error> {
+        let (names, count) = call(Call::SearchTrusting(text, query.as_bytes()), 1 << 16)?;
+        Ok(Names { text: lines(names), count })
+    }
+
     /// The same index opened once more, for another thread. The index text is shared.
     ///
     /// ```
