@@ -7,3 +7,4 @@ pub mod Listing
 pub mod Merging
 pub mod NameLines
 pub mod Searching
+pub mod Trusting

@@ -13,6 +13,7 @@ mod names;
 mod output;
 mod refusal;
 mod search_index;
+mod trusting;
 
 pub use alone::{ask_alone, index_alone};
 pub use ask_collection::ask;
@@ -25,3 +26,4 @@ pub use names::list_names;
 pub use output::Lines;
 pub use refusal::{Area, EngineRefusal};
 pub use search_index::{find_names, search};
+pub use trusting::{TrustError, list_terms_trusting, search_trusting};
