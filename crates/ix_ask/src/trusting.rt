@@ -8,6 +8,7 @@ ghost use Rattle.ix_ask.specs.Listing.{IsPrinted};
 ghost use Rattle.ix_ask.specs.Searching.{IsSearched};
 ghost use Rattle.ix_ask.specs.Trusting.{LeavesTrusting, LeavesTrustingListing};
 ghost use Rattle.ix_ask.specs.declared.ask_error.AskError.TheVariants as asking;
+ghost use Rattle.ix_ask.specs.declared.trusting.TrustError.TheVariants as trusting;
 
 use crate::ask_error::AskError;
 use ix_files::ReadAt;
@@ -38,7 +39,7 @@ pub fn search_trusting<S: ReadAt, W: Write>(
     ensures refused { IfErr result (λ error. (version : Version) (collection : Collection)
         → HasIndexText (S.contents _source.now) version collection
         → LeavesTrusting collection query.now (W.contents out.old) (W.contents out.new) error) }
-    ensures kept { IfErr result (λ error. (error ≢ Ask asking.Write)
+    ensures kept { IfErr result (λ error. (error ≢ trusting.Ask asking.Write)
         → Keeps (W.contents out.old) (W.contents out.new)) }
 {
     Err(TrustError::Read)
@@ -59,7 +60,7 @@ pub fn list_terms_trusting<S: ReadAt, W: Write>(
     ensures refused { IfErr result (λ error. (version : Version) (collection : Collection)
         → HasIndexText (S.contents _source.now) version collection
         → LeavesTrustingListing collection pattern.now (W.contents out.old) (W.contents out.new) error) }
-    ensures kept { IfErr result (λ error. (error ≢ Ask asking.Write)
+    ensures kept { IfErr result (λ error. (error ≢ trusting.Ask asking.Write)
         → Keeps (W.contents out.old) (W.contents out.new)) }
 {
     Err(TrustError::Read)

@@ -1,5 +1,5 @@
 -- What `check` finds of index files, and what it prints.
-use Rattle.std.specs.Prelude.{◌≡◌, ℕ, List, [], ◌∷◌, ◌++◌, count_by, flat_map, is_some, Option, None, Some, IfSome, codes}
+use Rattle.std.specs.Prelude.{◌≡◌, ◌+◌, ℕ, List, [], ◌∷◌, ◌++◌, count_by, flat_map, is_some, Option, None, Some, IfSome, codes}
 use Rattle.std.specs.List.{AllZip}
 use Rattle.std.specs.Io.KnownBytes.{Appends, Keeps}
 use Rattle.clap.specs.Walk.{Text}
@@ -10,6 +10,7 @@ use Rattle.ix_files.specs.Reading.{Holding}
 use Rattle.ix_output.specs.Sinks.{AppendsFront}
 use Rattle.ix_command.specs.IndexFiles.{IsIndexHeld, RefusesIndex}
 use Rattle.ix_command.specs.Refusals.{shown, text_of}
+use Rattle.ix_ask.specs.declared.output.Lines.{Lines}
 use Rattle.ix_ask.specs.declared.refusal.EngineRefusal.TheVariants as engine
 use Rattle.ix_command.specs.declared.refusal.Refusal.{Refusal}
 use Rattle.ix_command.specs.declared.refusal.Refusal.TheVariants as refusal
@@ -56,6 +57,18 @@ IsLookedAt holds path (Some line) = IsFaulty holds path line
 abbrev pub line_or_none : Option Text → Text
 line_or_none None = []
 line_or_none (Some line) = line
+
+-- how many files have a fault, with that of which this was found
+abbrev pub count_with : Option Text → ℕ → ℕ
+count_with None count = count
+count_with (Some line) count = count + 1
+
+-- The lines gained that of the file of this path, if it has a fault.
+pub record LooksAt (holds : Holding) (path : Text) (old new : Lines) : Type 0 where
+  pub found : Option Text
+  pub looked_at : IsLookedAt holds path found
+  pub gained : new.bytes.items ≡ old.bytes.items ++ line_or_none found
+  pub counted : new.count ≡ count_with found old.count
 
 -- What was found of the files of these paths, in their order, is spelled in these lines, and so many files have a fault.
 pub record AreLookedAt (holds : Holding) (paths : List Text) (lines : Text) (count : ℕ) : Type 0 where

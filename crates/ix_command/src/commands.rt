@@ -222,7 +222,6 @@ fn do_line<'a, R: Threads + Wait + Sync, F: Files, V: Watch, W: Write>(
             pattern,
             trust,
         } => terms::run(rt, alloc, files, index, pattern, trust, out),
-        Line::Check { paths } => check::run(rt, alloc, files, &paths, out),
         Line::Build {
             stop,
             plan,
@@ -243,6 +242,7 @@ fn do_line<'a, R: Threads + Wait + Sync, F: Files, V: Watch, W: Write>(
         } => one_file(run_file::run(alloc, files, stop, first, collection, run)),
         Line::Merge { index, inputs } => one_file(merge::run(rt, alloc, files, index, &inputs)),
         Line::Upgrade { old, new } => one_file(upgrade::run(rt, alloc, files, old, new)),
+        Line::Check { paths } => check::run(rt, alloc, files, &paths, out),
     }
 }
 

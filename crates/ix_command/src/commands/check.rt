@@ -1,11 +1,11 @@
 //! `ix check`: looks for faults in index files.
 
-ghost use Rattle.std.specs.Prelude.{◌≡◌, ◌↔◌, ◌++◌, IfErr, IfOk, IsTrue, OnOk};
+ghost use Rattle.std.specs.Prelude.{◌≡◌, ◌↔◌, ◌<◌, ◌+◌, ◌^◌, ◌++◌, IfErr, IfOk, IsTrue, OnOk};
 ghost use Rattle.std.specs.Io.KnownBytes.{Appends};
 ghost use Rattle.ix_files.specs.Reading.{held_in};
 ghost use Rattle.ix_line.specs.Lines.{texts_of};
 ghost use Rattle.ix_command.specs.CheckedFiles.{AreChecked, AreLookedAt, GainsFault, IsCheckRefused};
-ghost use Rattle.ix_command.specs.CheckedFiles.{IsJudged, TellsMemory, fault_line};
+ghost use Rattle.ix_command.specs.CheckedFiles.{IsJudged, LooksAt, TellsMemory, fault_line};
 
 use super::print_whole;
 use crate::index_file::open_index;
@@ -52,15 +52,40 @@ fn find_faults<'a, R: Threads + Sync, F: Files>(
         (texts_of paths.now) lines.bytes.items lines.count) }
     ensures memory { IfErr result TellsMemory }
 {
-    let mut bytes = Vec::new(alloc);
-    let mut count = 0;
+    let mut lines = Lines {
+        bytes: Vec::new(alloc),
+        count: 0,
+    };
     for path in paths {
-        if let Some(fault) = find_fault(rt, alloc, files, path)? {
-            put_fault(alloc, &mut bytes, path, &fault)?;
-            count += 1;
-        }
+        look_at(rt, alloc, files, path, &mut lines)?;
     }
-    Ok(Lines { bytes, count })
+    Ok(lines)
+}
+
+/// Looks at the index file of this path, and appends its line if it has a fault.
+///
+/// # Errors
+/// Memory ran out.
+fn look_at<'a, R: Threads + Sync, F: Files>(
+    rt: &R,
+    alloc: Global,
+    files: &F,
+    path: &'a str,
+    lines: &mut Lines,
+) -> Result<(), Refusal<'a>>
+    requires { lines.old.count + 1 < 2 ^ 64 }
+    ensures looked_at { OnOk result (LooksAt (held_in (F.view files.now)) path.entry.now
+        lines.old lines.new) }
+    ensures memory { IfErr result TellsMemory }
+{
+    match find_fault(rt, alloc, files, path)? {
+        Some(fault) => {
+            put_fault(alloc, &mut lines.bytes, path, &fault)?;
+            lines.count += 1;
+            Ok(())
+        }
+        None => Ok(()),
+    }
 }
 
 /// Why the file of this path is no index file that can be read; none if it is one.
