@@ -1,4 +1,5 @@
 pub mod BuildLemmas
+pub mod CheckLemmas
 pub mod Doing
 pub mod FileLemmas
 pub mod LineLemmas
@@ -8,4 +9,6 @@ pub mod RunFileLemmas
 pub mod RunLemmas
 pub mod Runs
 pub mod Saving
+pub mod StatusLemmas
+pub mod TrustedLemmas
 pub mod Upgrading

@@ -1,6 +1,7 @@
 pub mod AskedFiles
 pub mod BuiltIndexes
 pub mod BuiltRuns
+pub mod CheckedFiles
 pub mod Files
 pub mod IndexFiles
 pub mod LiveScripts
@@ -10,5 +11,6 @@ pub mod Refusals
 pub mod SavedIndexes
 pub mod StandardInput
 pub mod Statuses
+pub mod TrustedFiles
 pub mod Upgrades
 pub mod WrittenRuns

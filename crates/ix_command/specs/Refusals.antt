@@ -9,6 +9,8 @@ use Rattle.ix_ask.specs.declared.ask_error.AskError.{AskError}
 use Rattle.ix_ask.specs.declared.ask_error.AskError.TheVariants as asking
 use Rattle.ix_ask.specs.EngineRefusals.{error_text, line_of}
 use Rattle.ix_ask.specs.declared.refusal.EngineRefusal.TheVariants as engine
+use Rattle.ix_ask.specs.declared.trust_error.TrustError.{TrustError}
+use Rattle.ix_ask.specs.declared.trust_error.TrustError.TheVariants as trusting
 use Rattle.ix_build.specs.Plans.{PlanValue}
 use Rattle.ix_live.specs.LiveErrors.{live_error_name, live_error_number}
 use Rattle.ix_live.specs.declared.live_error.LiveError.{LiveError}
@@ -33,6 +35,12 @@ Tells (asking.Open error) told = told ≡ refusal.Engine (engine.Index error)
 Tells asking.Write (refusal.Write path) = path.now ≡ codes "-"
 Tells asking.Write _ = ⊥
 Tells asking.Memory told = told ≡ refusal.Engine engine.Memory
+
+-- the same of a question that trusts the index file of this path
+abbrev pub TellsTrusting : Text → TrustError → Refusal → Type 0
+TellsTrusting path trusting.Read (refusal.Read named) = named.now ≡ path
+TellsTrusting path trusting.Read _ = ⊥
+TellsTrusting path (trusting.Ask error) told = Tells error told
 
 -- the same of a live index: what was not built is told as it is of `build`
 abbrev pub TellsLive : LiveError → Refusal → Type 0

@@ -3,7 +3,7 @@ use Rattle.std.specs.Prelude.{◌≡◌, ◌<◌, Bool, Option, None, Some, byte
 use Rattle.std.specs.Borrow.{Bor}
 use Rattle.clap.specs.Walk.{Text}
 use Rattle.ix_line.specs.declared.line.Line.{Line}
-use Rattle.ix_line.specs.declared.line.Line.TheVariants.{Ask, Build, Live, Merge, Run}
+use Rattle.ix_line.specs.declared.line.Line.TheVariants.{Ask, Build, Check, Live, Merge, Run}
 
 -- the path is that of the standard input
 abbrev pub is_input : Bor Text → Bool
@@ -21,4 +21,5 @@ ReadsInputTwice (Build stop_file plan collection index) = AreBothInput stop_file
 ReadsInputTwice (Live stop_file plan searchers script) = AreBothInput stop_file script.now
 ReadsInputTwice (Run stop_file first collection run) = AreBothInput stop_file collection.now
 ReadsInputTwice (Merge index inputs) = 1 < count_by is_input inputs.items
+ReadsInputTwice (Check paths) = 1 < count_by is_input paths.items
 ReadsInputTwice _ = ⊥

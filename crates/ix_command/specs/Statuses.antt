@@ -1,6 +1,6 @@
 -- What an exit status says: that help was printed, that a command was done, or why it was refused. The words are those of
 -- the command line with `help X` spelled as `X --help`.
-use Rattle.std.specs.Prelude.{◌≡◌, ◌≢◌, ℕ, ◌⊎◌, ◌<◌, List, Option, codes, ⊤}
+use Rattle.std.specs.Prelude.{◌≡◌, ◌≢◌, ℕ, zero, suc, Bool, true, false, ◌⊎◌, ◌<◌, List, Option, codes, ⊤}
 use Rattle.std.specs.Borrow.{Bor}
 use Rattle.std.specs.Io.KnownBytes.{Appends, Keeps}
 use Rattle.clap.specs.Walk.{Text}
@@ -12,6 +12,7 @@ use Rattle.ix_output.specs.Sinks.{AppendsFront}
 use Rattle.ix_command.specs.AskedFiles.{IsAnsweredFromFiles, IsAskRefused}
 use Rattle.ix_command.specs.BuiltIndexes.{IsBuilt, IsBuildRefused}
 use Rattle.ix_command.specs.BuiltRuns.{LeavesNoRuns}
+use Rattle.ix_command.specs.CheckedFiles.{AreChecked, IsCheckRefused}
 use Rattle.ix_line.specs.Commands.{ix_app}
 use Rattle.ix_command.specs.Files.{Keeping}
 use Rattle.ix_files.specs.Outputs.{LeavesOthers, LeavesTarget, now_in}
@@ -19,16 +20,16 @@ use Rattle.ix_files.specs.Reading.{Holding}
 use Rattle.ix_files.specs.Slots.{IsSame}
 use Rattle.ix_files.specs.Views.{View}
 use Rattle.ix_line.specs.Help.{AsksForHelp, as_flag, help_of}
-use Rattle.ix_command.specs.IndexFiles.{IsListingRefused, IsPrintedFromFile, IsSearchRefused, IsSearchedFromFile}
 use Rattle.ix_line.specs.Lines.{CutsTwice, Reads, texts_of}
 use Rattle.ix_command.specs.LiveScripts.{IsLiveRefused, IsLived}
 use Rattle.ix_command.specs.MergedRuns.{IsMerged, IsMergeRefused}
 use Rattle.ix_command.specs.Refusals.{IsTold}
 use Rattle.ix_command.specs.StandardInput.{ReadsInputTwice}
+use Rattle.ix_command.specs.TrustedFiles.{IsListingDone, IsListingUndone, IsSearchDone, IsSearchUndone}
 use Rattle.ix_command.specs.Upgrades.{IsUpgradeRefused, IsUpgraded}
 use Rattle.ix_command.specs.WrittenRuns.{IsRunRefused, IsRunSaved}
 use Rattle.ix_line.specs.declared.line.Line.{Line}
-use Rattle.ix_line.specs.declared.line.Line.TheVariants.{Ask, Build, Live, Merge, Run, Search, Terms, Upgrade}
+use Rattle.ix_line.specs.declared.line.Line.TheVariants.{Ask, Build, Check, Live, Merge, Run, Search, Terms, Upgrade}
 use Rattle.ix_ask.specs.declared.refusal.EngineRefusal.TheVariants as engine
 use Rattle.ix_command.specs.declared.refusal.Refusal.{Refusal}
 use Rattle.ix_command.specs.declared.refusal.Refusal.TheVariants as refusal
@@ -42,14 +43,16 @@ pub record IsHelped (words : List Text) (old new : Option Text) : Type 0 where
   pub asked : AsksForHelp words
   pub printed : Appends old new (help_of words)
 
--- What the line asks for was done, and so much was found; where it asks for a file, one was saved, and nothing was printed.
+-- What the line asks for was done, and so much was found, or so many files have a fault; where it asks for a file, one was saved,
+-- and nothing was printed.
 abbrev pub IsDone : Holding → Holding → Keeping → Line → Option Text → Option Text → ℕ → Type 0
 IsDone holds saves kept (Ask stop_file plan collection query) old new count = IsAnsweredFromFiles holds stop_file collection.now query.now old new count
 IsDone holds saves kept (Build stop_file plan collection index) old new count =
     IsBuilt holds saves kept stop_file plan collection.now index.now × Keeps old new × (count ≡ 1)
 IsDone holds saves kept (Live stop_file plan searchers script) old new count = IsLived holds stop_file script.now old new count
-IsDone holds saves kept (Search index query) old new count = IsSearchedFromFile holds index.now query.now old new count
-IsDone holds saves kept (Terms index pattern) old new count = IsPrintedFromFile holds index.now pattern.now old new count
+IsDone holds saves kept (Search index query trust) old new count = IsSearchDone trust holds index.now query.now old new count
+IsDone holds saves kept (Terms index pattern trust) old new count = IsListingDone trust holds index.now pattern.now old new count
+IsDone holds saves kept (Check paths) old new count = AreChecked holds (texts_of paths.items) old new count
 IsDone holds saves kept (Run stop_file first collection run) old new count =
     IsRunSaved holds saves stop_file first collection.now run.now × Keeps old new × (count ≡ 1)
 IsDone holds saves kept (Merge index inputs) old new count =
@@ -93,12 +96,26 @@ IsLineRefused holds (Ask stop_file plan collection query) old new told =
 IsLineRefused holds (Build stop_file plan collection index) old new told =
     IsBuildRefused holds stop_file plan collection.now index.now told × Keeps old new
 IsLineRefused holds (Live stop_file plan searchers script) old new told = IsLiveRefused holds stop_file plan.workers script.now old new told
-IsLineRefused holds (Search index query) old new told = IsSearchRefused holds index.now query.now old new told
-IsLineRefused holds (Terms index pattern) old new told = IsListingRefused holds index.now pattern.now old new told
+IsLineRefused holds (Search index query trust) old new told = IsSearchUndone trust holds index.now query.now old new told
+IsLineRefused holds (Terms index pattern trust) old new told = IsListingUndone trust holds index.now pattern.now old new told
+IsLineRefused holds (Check paths) old new told = IsCheckRefused holds (texts_of paths.items) old new told
 IsLineRefused holds (Run stop_file first collection run) old new told = IsRunRefused holds stop_file first collection.now run.now told × Keeps old new
 IsLineRefused holds (Merge index inputs) old new told =
     IsMergeRefused holds (texts_of inputs.items) index.now told × Keeps old new
 IsLineRefused holds (Upgrade old_file new_file) old new told = IsUpgradeRefused holds old_file.now new_file.now told × Keeps old new
+
+-- the line is one of `check`
+abbrev pub IsCheck : Line → Type 0
+IsCheck (Check paths) = Unit {0}
+IsCheck _ = ⊥
+
+-- The exit status of a line that found so much: 0, or 1 if that is nothing. Of a line of `check`, if so many files have a fault:
+-- 2, or 0 if none has one.
+abbrev pub status_of : Bool → ℕ → ℕ
+status_of false zero = 1
+status_of false (suc count) = 0
+status_of true zero = 0
+status_of true (suc count) = 2
 
 -- the words are a line that was done, and something was found
 pub record FindsSome (holds saves : Holding) (kept : Keeping) (words : List Text) (old new : Option Text) : Type 0 where
@@ -106,6 +123,7 @@ pub record FindsSome (holds saves : Holding) (kept : Keeping) (words : List Text
   pub count : ℕ
   pub read : Reads words line
   pub once : ¬ (ReadsInputTwice line)
+  pub asks : ¬ (IsCheck line)
   pub some : 0 < count
   pub done : IsDone holds saves kept line old new count
 
@@ -114,6 +132,25 @@ pub record FindsNone (holds saves : Holding) (kept : Keeping) (words : List Text
   pub line : Line
   pub read : Reads words line
   pub once : ¬ (ReadsInputTwice line)
+  pub asks : ¬ (IsCheck line)
+  pub done : IsDone holds saves kept line old new 0
+
+-- the words are a line of `check` that was done, and some files have a fault
+pub record FindsFaults (holds saves : Holding) (kept : Keeping) (words : List Text) (old new : Option Text) : Type 0 where
+  pub line : Line
+  pub count : ℕ
+  pub read : Reads words line
+  pub once : ¬ (ReadsInputTwice line)
+  pub checks : IsCheck line
+  pub some : 0 < count
+  pub done : IsDone holds saves kept line old new count
+
+-- the words are a line of `check` that was done, and no file has a fault
+pub record FindsNoFault (holds saves : Holding) (kept : Keeping) (words : List Text) (old new : Option Text) : Type 0 where
+  pub line : Line
+  pub read : Reads words line
+  pub once : ¬ (ReadsInputTwice line)
+  pub checks : IsCheck line
   pub done : IsDone holds saves kept line old new 0
 
 -- the words have a fault, and not only that they ask for help, or they cut into blocks in two ways

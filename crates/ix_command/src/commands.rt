@@ -3,11 +3,12 @@
 //! A command is a file below, with its own contract; here is what all of them share: the words are
 //! read, help is printed, and a refusal is told.
 
-ghost use Rattle.std.specs.Prelude.{◌≡◌, ◌≢◌, ◌≤◌, ◌⊎◌, IfOk, IfErr, OnErr, OnOk};
+ghost use Rattle.std.specs.Prelude.{◌≡◌, ◌≢◌, ◌≤◌, ◌↔◌, ◌⊎◌, IfOk, IfErr, IsTrue, OnErr, OnOk};
 ghost use Rattle.std.specs.Io.KnownBytes.{Appends, Keeps};
 ghost use Rattle.ix_command.specs.Files.{keeping_of};
 ghost use Rattle.ix_line.specs.Lines.{Refuses, texts_of};
-ghost use Rattle.ix_command.specs.Statuses.{AreUndone, FindsNone, FindsSome, IsDone, IsHelped, IsLineRefused};
+ghost use Rattle.ix_command.specs.Statuses.{AreUndone, FindsFaults, FindsNoFault, FindsNone, FindsSome, IsCheck};
+ghost use Rattle.ix_command.specs.Statuses.{IsDone, IsHelped, IsLineRefused, status_of};
 ghost use Rattle.ix_command.specs.Statuses.{LeavesFilesOf, spelled};
 ghost use Rattle.ix_files.specs.Outputs.{saved_in};
 ghost use Rattle.ix_files.specs.Reading.{held_in};
@@ -15,6 +16,7 @@ ghost use Rattle.ix_command.specs.Statuses.{IsLineless, IsUndone, IsUnwritten, I
 
 mod ask;
 mod build;
+mod check;
 mod live;
 mod merge;
 mod run_file;
@@ -36,22 +38,25 @@ use std::io::Write;
 use std::sync::Wait;
 use std::thread::Threads;
 
-/// Something was found or written, or help was asked for.
+/// Something was found or written, no index file has a fault, or help was asked for.
 const FOUND: u8 = 0;
 
 /// Nothing was found.
 const NOTHING: u8 = 1;
 
+/// Some index files have a fault.
+const FAULTY: u8 = 2;
+
 /// How much a command that writes a file has done.
 const ONE_FILE: usize = 1;
 
 /// Does what the words after the program's name ask for, with the files that they name, and answers
-/// the exit status: 0 where something was found, a file was written or help was printed, 1 where
-/// nothing was found, 2 where it was refused. A folder in which runs are to be kept is one of `runs`, and
-/// `watch` is told of each block of the command `build`.
+/// the exit status: 0 where something was found, a file was written, no index file has a fault or help was
+/// printed, 1 where nothing was found, 2 where it was refused or an index file has a fault. A folder in which
+/// runs are to be kept is one of `runs`, and `watch` is told of each block of the command `build`.
 ///
 /// What was found goes to `out`, and so does help, and nothing else does. A refusal is one line on
-/// `err`, and whether that line could be written is not answered. A refusal leaves `out` as it was,
+/// `err`, and whether that line could be written is not answered. The faults of index files are no refusal. A refusal leaves `out` as it was,
 /// but where a write was refused: a beginning of the names, or of the help that was asked for, is
 /// out then.
 pub fn command_over<R: Threads + Wait + Sync, F: Files, V: Watch, W: Write, E: Write>(
@@ -69,6 +74,10 @@ pub fn command_over<R: Threads + Wait + Sync, F: Files, V: Watch, W: Write, E: W
         ⊎ FindsSome (held_in (F.view files.old))
         (saved_in (F.sent files.new) (F.view files.old) (F.view files.new))
         (keeping_of F.Shared.Reader.remaining F.Shared.shared F.Shared.back) (spelled words.now)
+        (W.contents out.old) (W.contents out.new)
+        ⊎ FindsNoFault (held_in (F.view files.old))
+        (saved_in (F.sent files.new) (F.view files.old) (F.view files.new))
+        (keeping_of F.Shared.Reader.remaining F.Shared.shared F.Shared.back) (spelled words.now)
         (W.contents out.old) (W.contents out.new) }
     ensures nothing { result ≡ 1 →
         FindsNone (held_in (F.view files.old))
@@ -78,7 +87,11 @@ pub fn command_over<R: Threads + Wait + Sync, F: Files, V: Watch, W: Write, E: W
     ensures quiet { result ≢ 2 → Keeps (E.contents err.old) (E.contents err.new) }
     ensures refused { result ≡ 2 →
         IsRefused (held_in (F.view files.old)) (spelled words.now)
-        (W.contents out.old) (W.contents out.new) (E.contents err.old) (E.contents err.new) }
+        (W.contents out.old) (W.contents out.new) (E.contents err.old) (E.contents err.new)
+        ⊎ (FindsFaults (held_in (F.view files.old))
+        (saved_in (F.sent files.new) (F.view files.old) (F.view files.new))
+        (keeping_of F.Shared.Reader.remaining F.Shared.shared F.Shared.back) (spelled words.now)
+        (W.contents out.old) (W.contents out.new) × Keeps (E.contents err.old) (E.contents err.new)) }
 
     // Only the file that the line asks for changes; if it was not saved, there is what was there.
     ensures files { (F.view files.new).honest
@@ -106,10 +119,19 @@ fn run<'a, R: Threads + Wait + Sync, F: Files, V: Watch, W: Write>(
     words: &'a [&'a str],
     out: &mut W,
 ) -> Result<u8, Refusal<'a>>
-    ensures status { IfOk result (λ status. status ≤ 1) }
+    ensures status { IfOk result (λ status. status ≤ 2) }
     ensures found { IfOk result (λ status. status ≡ 0 →
         IsHelped (texts_of words.entry.now) (W.contents out.old) (W.contents out.new)
         ⊎ FindsSome (held_in (F.view files.old))
+        (saved_in (F.sent files.new) (F.view files.old) (F.view files.new))
+        (keeping_of F.Shared.Reader.remaining F.Shared.shared F.Shared.back) (texts_of words.entry.now)
+        (W.contents out.old) (W.contents out.new)
+        ⊎ FindsNoFault (held_in (F.view files.old))
+        (saved_in (F.sent files.new) (F.view files.old) (F.view files.new))
+        (keeping_of F.Shared.Reader.remaining F.Shared.shared F.Shared.back) (texts_of words.entry.now)
+        (W.contents out.old) (W.contents out.new)) }
+    ensures faults { IfOk result (λ status. status ≡ 2 →
+        FindsFaults (held_in (F.view files.old))
         (saved_in (F.sent files.new) (F.view files.old) (F.view files.new))
         (keeping_of F.Shared.Reader.remaining F.Shared.shared F.Shared.back) (texts_of words.entry.now)
         (W.contents out.old) (W.contents out.new)) }
@@ -132,8 +154,9 @@ fn run<'a, R: Threads + Wait + Sync, F: Files, V: Watch, W: Write>(
             if reads_input_twice(&line) {
                 return Err(Refusal::Arguments);
             }
+            let checks = is_check(&line);
             let count = do_line(rt, alloc, files, watch, line, out)?;
-            Ok(if count == 0 { NOTHING } else { FOUND })
+            Ok(status_of(checks, count))
         }
         Err(error) => {
             answer_without_line(words, error, out)?;
@@ -142,7 +165,26 @@ fn run<'a, R: Threads + Wait + Sync, F: Files, V: Watch, W: Write>(
     }
 }
 
-/// Does a line that was read, and answers how much was found.
+/// Whether a line is one of `check`.
+fn is_check(line: &Line<'_>) -> bool
+    ensures { IsTrue result ↔ IsCheck line.now }
+{
+    matches!(line, Line::Check { .. })
+}
+
+/// The exit status of a command that found so much, or of `check` if so many files have a fault.
+fn status_of(checks: bool, count: usize) -> u8
+    ensures { result ≡ status_of checks count }
+{
+    match (checks, count) {
+        (false, 0) => NOTHING,
+        (false, _) => FOUND,
+        (true, 0) => FOUND,
+        (true, _) => FAULTY,
+    }
+}
+
+/// Does a line that was read, and answers how much was found, or how many files have a fault.
 fn do_line<'a, R: Threads + Wait + Sync, F: Files, V: Watch, W: Write>(
     rt: &R,
     alloc: Global,
@@ -170,8 +212,16 @@ fn do_line<'a, R: Threads + Wait + Sync, F: Files, V: Watch, W: Write>(
             collection,
             query,
         } => ask::run(rt, alloc, files, stop, &plan, collection, query, out),
-        Line::Search { index, query } => { search::run(rt, alloc, files, index, query, out) },
-        Line::Terms { index, pattern } => { terms::run(rt, alloc, files, index, pattern, out) },
+        Line::Search {
+            index,
+            query,
+            trust,
+        } => search::run(rt, alloc, files, index, query, trust, out),
+        Line::Terms {
+            index,
+            pattern,
+            trust,
+        } => terms::run(rt, alloc, files, index, pattern, trust, out),
         Line::Build {
             stop,
             plan,
@@ -192,6 +242,7 @@ fn do_line<'a, R: Threads + Wait + Sync, F: Files, V: Watch, W: Write>(
         } => one_file(run_file::run(alloc, files, stop, first, collection, run)),
         Line::Merge { index, inputs } => one_file(merge::run(rt, alloc, files, index, &inputs)),
         Line::Upgrade { old, new } => one_file(upgrade::run(rt, alloc, files, old, new)),
+        Line::Check { paths } => check::run(rt, alloc, files, &paths, out),
     }
 }
 
@@ -219,7 +270,7 @@ fn answer_without_line<'a, W: Write>(
         (IsLineless (texts_of words.now) (W.contents out.old) (W.contents out.new)) }
 {
     if error.help().is_some() {
-        return print_help(help_on(words), out);
+        return print_whole(help_on(words).as_bytes(), out);
     }
     match error {
         LineError::Clap(_) => Err(Refusal::Arguments),
@@ -228,13 +279,13 @@ fn answer_without_line<'a, W: Write>(
     }
 }
 
-/// Prints a help text, and flushes.
-fn print_help<'a, W: Write>(text: &str, out: &mut W) -> Result<(), Refusal<'a>>
-    ensures printed { OnOk result (Appends (W.contents out.old) (W.contents out.new) text.now) }
+/// Prints bytes on the standard output, and flushes.
+fn print_whole<'a, W: Write>(bytes: &[u8], out: &mut W) -> Result<(), Refusal<'a>>
+    ensures printed { OnOk result (Appends (W.contents out.old) (W.contents out.new) bytes.now) }
     ensures refused { IfErr result
-        (IsUnwritten text.now (W.contents out.old) (W.contents out.new)) }
+        (IsUnwritten bytes.now (W.contents out.old) (W.contents out.new)) }
 {
-    if put_all(out, text.as_bytes()).is_ok() && flush(out).is_ok() {
+    if put_all(out, bytes).is_ok() && flush(out).is_ok() {
         Ok(())
     } else {
         Err(Refusal::Write("-"))

@@ -1,12 +1,13 @@
 //! Index files, opened.
-ghost use Rattle.std.specs.Prelude.{IfOk, IfErr};
-ghost use Rattle.ix_files.specs.Reading.{held_in};
+ghost use Rattle.std.specs.Prelude.{IfOk, IfErr, IfSome};
+ghost use Rattle.ix_files.specs.Reading.{AreKnownOf, held_in};
 ghost use Rattle.ix_command.specs.IndexFiles.{IsOpened, RefusesIndex};
+ghost use Rattle.ix_command.specs.Refusals.{IsUnread};
 
 use crate::refusal::Refusal;
 use ix_ask::EngineRefusal;
 use ix_file::Volume;
-use ix_files::{Files, read_front};
+use ix_files::{Files, Kind, read_front};
 use std::alloc::Global;
 use std::thread::Threads;
 
@@ -26,6 +27,26 @@ pub fn open_index<'a, R: Threads + Sync, F: Files>(
             Ok(volume) => Ok(volume),
             Err(error) => Err(Refusal::Engine(EngineRefusal::Index(error))),
         },
+        Err(error) => Err(Refusal::unread(path, error)),
+    }
+}
+
+/// The file of this path, open to be read by ranges, or none if it is no regular file: what is read once, from its front to its
+/// end, has no ranges.
+pub fn open_ranges<'a, F: Files>(
+    files: &F,
+    path: &'a str,
+) -> Result<Option<F::Ranges>, Refusal<'a>>
+    ensures opened { IfOk result (λ opened. IfSome opened (λ ranges.
+        AreKnownOf (held_in (F.view files.now) path.entry.now) (F.Ranges.contents ranges))) }
+    ensures refused { IfErr result (IsUnread path.entry.now) }
+{
+    match files.kind(path) {
+        Ok(Kind::File) => match files.open_ranges(path) {
+            Ok(ranges) => Ok(Some(ranges)),
+            Err(error) => Err(Refusal::unread(path, error)),
+        },
+        Ok(_) => Ok(None),
         Err(error) => Err(Refusal::unread(path, error)),
     }
 }

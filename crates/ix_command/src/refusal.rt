@@ -1,6 +1,6 @@
 //! The one line by which the program says why it refused.
 
-use ix_ask::{AskError, EngineRefusal};
+use ix_ask::{AskError, EngineRefusal, TrustError};
 use ix_files::FileError;
 use ix_live::LiveError;
 use ix_script::{RunError, ScriptError};
@@ -34,7 +34,8 @@ pub enum Refusal<'a> {
 }
 
 impl<'a> Refusal<'a> {
-    ghost use Rattle.ix_command.specs.Refusals.{IsUnread, IsUnsaved, TellsLive, TellsStep, TellsUnread, TellsUnsaved};
+    ghost use Rattle.ix_command.specs.Refusals.{IsUnread, IsUnsaved, TellsLive, TellsStep, TellsTrusting};
+    ghost use Rattle.ix_command.specs.Refusals.{TellsUnread, TellsUnsaved};
 
     /// The error of a file that was not written: `Memory`, or `Write` of its path.
     pub fn unsaved(path: &'a str, error: FileError) -> Refusal<'a>
@@ -55,6 +56,16 @@ impl<'a> Refusal<'a> {
         match error {
             FileError::Memory => Refusal::Engine(EngineRefusal::Memory),
             FileError::Failed | FileError::Exists | FileError::Locked => Refusal::Read(path),
+        }
+    }
+
+    /// The error of a question that trusts the index file of this path.
+    pub fn of_trusting(path: &'a str, error: TrustError) -> Refusal<'a>
+        ensures { TellsTrusting path.entry.now error result }
+    {
+        match error {
+            TrustError::Read => Refusal::Read(path),
+            TrustError::Ask(error) => Refusal::from(error),
         }
     }
 

@@ -76,7 +76,7 @@ fn put_line<E: Write>(err: &mut E, head: &str, path: &str, tail: &str) -> Result
 }
 
 /// Writes a text with its control characters shown; one without them in one piece.
-fn put_shown<E: Write>(err: &mut E, text: &str) -> Result<(), WriteError>
+pub fn put_shown<E: Write>(err: &mut E, text: &str) -> Result<(), WriteError>
     ensures whole { OnOk result
         (Appends (E.contents err.old) (E.contents err.new) (shown text.now)) }
     ensures front { OnErr result

@@ -6,6 +6,8 @@
 #[cfg(test)]
 mod building;
 #[cfg(test)]
+mod checking;
+#[cfg(test)]
 mod disk;
 #[cfg(test)]
 mod failing;

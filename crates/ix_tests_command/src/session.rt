@@ -7,6 +7,7 @@
 //! lets the call of files of number N fail, `$ fail N Memory` for want of memory, and `$ room N` lets a writer take N bytes.
 
 use super::building::BUILDING;
+use super::checking::{CHECKING, TRUSTING};
 use super::disk::{Disk, Narrow};
 use super::live::LIVE;
 use super::merging::{MERGING, UPGRADING};
@@ -71,6 +72,7 @@ fn status_line(status: u8, is_refused: bool) -> &'static str {
     match (status, is_refused) {
         (0, false) | (2, true) => "",
         (1, false) => "[1]\n",
+        (2, false) => "[2]\n",
         _ => "[another status]\n",
     }
 }
@@ -165,7 +167,9 @@ $ put cut-head.run PIIXRUN1\0\0\0\0
 
 #[test]
 fn sessions(rt: HostRuntime) -> Result<(), Fail> {
-    for session in [WORKED, TERMS, REFUSED, BUILDING, MERGING, UPGRADING, LIVE] {
+    for session in [
+        WORKED, TERMS, REFUSED, TRUSTING, CHECKING, BUILDING, MERGING, UPGRADING, LIVE,
+    ] {
         let mut disk = Disk::new(rt.alloc())?;
         play(&rt, &mut disk, "", FILES)?;
         play(&rt, &mut disk, "", session)?;
@@ -177,7 +181,13 @@ fn sessions(rt: HostRuntime) -> Result<(), Fail> {
 fn queries_of_five_documents(rt: HostRuntime) -> Result<(), Fail> {
     let mut disk = Disk::new(rt.alloc())?;
     play(&rt, &mut disk, "", FILES)?;
-    for before in ["ask five", "search five.ix", "search five2.ix"] {
+    for before in [
+        "ask five",
+        "search five.ix",
+        "search five2.ix",
+        "search --trust five.ix",
+        "search --trust five2.ix",
+    ] {
         play(&rt, &mut disk, before, OF_FIVE)?;
     }
     Ok(())
@@ -211,6 +221,10 @@ fn writes_that_are_refused(rt: HostRuntime) -> Result<(), Fail> {
         "ask five y",
         "search five.ix y",
         "terms five.ix y*",
+        "search --trust five.ix y",
+        "terms --trust five.ix y*",
+        "check cut.ix",
+        "check five.ix",
         "live script",
         "--help",
     ] {

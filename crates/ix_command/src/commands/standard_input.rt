@@ -30,6 +30,7 @@ pub fn reads_input_twice(line: &Line<'_>) -> bool
             ..
         } => are_both_input(*stop, collection),
         Line::Merge { inputs, .. } => are_some_input(inputs),
+        Line::Check { paths } => are_some_input(paths),
         Line::Search { .. } | Line::Terms { .. } | Line::Upgrade { .. } => false,
     }
 }

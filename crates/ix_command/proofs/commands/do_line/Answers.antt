@@ -70,3 +70,14 @@ returns-in-Upgrade g c = record {
   files = leaves_of _ _ _ _ c.in-Upgrade.is c.run-in-Upgrade.ensures.others;
   undone = undone_of _ _ _ _ c.in-Upgrade.is _ _ c.one_file-in-Upgrade.result (file_undone _ c.run-in-Upgrade.result c.one_file-in-Upgrade.result c.one_file-in-Upgrade.ensures.done c.run-in-Upgrade.ensures.undone);
 }
+
+pub returns-in-Check : goal.returns-in-Check
+returns-in-Check g c =
+    let checked = rw c.deref-in-Check.ensures.value at c.run-in-Check.ensures.checked in
+    let because = rw c.deref-in-Check.ensures.value at c.run-in-Check.ensures.refused in
+    record {
+      done = done_of _ _ _ _ _ _ _ c.in-Check.is c.run-in-Check.result checked;
+      refused = refused_of _ _ _ _ _ c.in-Check.is c.run-in-Check.result because;
+      files = leaves_of _ _ _ _ c.in-Check.is (λ _ place. refl);
+      undone = undone_of _ _ _ _ c.in-Check.is _ _ c.run-in-Check.result (after_error _ c.run-in-Check.result (λ _. tt));
+    }

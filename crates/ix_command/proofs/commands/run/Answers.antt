@@ -3,6 +3,7 @@ use Rattle.std.proofs.Common.{refl}
 use Rattle.ix_command.specs.Statuses.{twice, undone}
 use Rattle.ix_command.proofs.Doing.{keeps_itself}
 use Rattle.ix_command.proofs.FileLemmas.{handed_up}
+use Rattle.ix_command.proofs.StatusLemmas.{status_faults, status_found, status_nothing, status_small}
 use Rattle.ix_command.proofs.commands.run.Goals as goal
 
 pub returns-then-reads_input_twice-clause-refused : goal.returns-then-reads_input_twice-clause-refused

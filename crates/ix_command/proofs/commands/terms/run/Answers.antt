@@ -1,32 +1,38 @@
--- What the volume lends is the index of the file's collection.
-use Rattle.std.proofs.Common.{rules, subst, sym}
-use Rattle.ix_file.specs.Opened.{IsIndexOf, Opened}
-use Rattle.ix_command.specs.IndexFiles.{no_listed_index, no_lines}
-use Rattle.ix_command.specs.Refusals.{Tells}
-use Rattle.ix_command.proofs.FileLemmas.{handed_up, told_up}
+-- With trust a regular file is read by ranges; what is so of a file that was read as a whole is so of one that is trusted.
+use Rattle.ix_files.specs.Reading.{AreKnownOf, held_in}
+use Rattle.ix_command.proofs.Doing.{keeps_itself}
+use Rattle.ix_command.proofs.FileLemmas.{handed_up}
+use Rattle.ix_command.proofs.TrustedLemmas.{err_at, err_not, from_some, ok_at, ok_not, listing_done, listing_ranged, listing_undone, listing_unranged, listing_unread}
 use Rattle.ix_command.proofs.commands.terms.run.Goals as goal
+use Rattle.ix_command.proofs.commands.terms.run.Goals.{in-Ok, in-Err}
 
-pub returns-in_err-volume-clause-refused : goal.returns-in_err-volume-clause-refused
-returns-in_err-volume-clause-refused g c = handed_up _ c.from_residual.result c.in_err-volume.field-0.0 c.from_residual.ensures.1 (no_listed_index c.in_err-volume.ensures.refused (search rules))
+pub returns-in_err-ranges-clause-refused : goal.returns-in_err-ranges-clause-refused
+returns-in_err-ranges-clause-refused g c =
+    handed_up _ c.from_residual.result c.in_err-ranges.field-0.0 c.from_residual.ensures.1
+    (listing_unread c.args.trust (held_in (g.F.Files.view c.args.files.now)) c.args.index.now c.args.pattern.now _ _ c.in_err-ranges.field-0.0 c.if-trust.true c.in_err-ranges.ensures.refused (keeps_itself _))
 
-pub returns-in_err-list_terms-clause-refused : goal.returns-in_err-list_terms-clause-refused
-returns-in_err-list_terms-clause-refused g c =
-    let opened = c.in_ok-volume.ensures.opened in
-    let index = subst (λ (o : Opened). IsIndexOf o opened.version opened.collection) (sym c.index.ensures) opened.index in
-    told_up Tells _ c.from_residual-in_err-list_terms.result c.in_err-list_terms.field-0.0 c.from_residual-in_err-list_terms.ensures.1
-    (λ told tells. no_lines opened.version opened.collection opened.held (record {
-      error = c.in_err-list_terms.field-0.0;
-      tells = tells;
-      leaves = c.in_err-list_terms.ensures.refused opened.version opened.collection index;
-    }))
+pub returns-in-Some-clause-printed : goal.returns-in-Some-clause-printed
+returns-in-Some-clause-printed g c =
+    let holds = held_in (g.F.Files.view c.args.files.now) in
+    let known = from_some (λ ranges. AreKnownOf (holds c.args.index.now) (g.F.Ranges.ReadAt.contents ranges)) _ c.in-Some.ranges c.in-Some.is c.in_ok-ranges.ensures.opened in
+    elim c.match-list_terms_trusting.branch [
+      | in-Ok w ↦ ok_at _ c.match-list_terms_trusting.result w.in-Ok.count w.result-is
+          (listing_ranged c.args.trust holds c.args.index.now c.args.pattern.now _ _ w.in-Ok.count _ c.if-trust.true known w.in-Ok.ensures.printed w.in-Ok.ensures.lawful)
+      | in-Err w ↦ ok_not _ c.match-list_terms_trusting.result _ w.result-is
+    ]
+
+pub returns-in-Some-clause-refused : goal.returns-in-Some-clause-refused
+returns-in-Some-clause-refused g c =
+    let holds = held_in (g.F.Files.view c.args.files.now) in
+    let known = from_some (λ ranges. AreKnownOf (holds c.args.index.now) (g.F.Ranges.ReadAt.contents ranges)) _ c.in-Some.ranges c.in-Some.is c.in_ok-ranges.ensures.opened in
+    elim c.match-list_terms_trusting.branch [
+      | in-Ok w ↦ err_not _ c.match-list_terms_trusting.result w.in-Ok.count w.result-is
+      | in-Err w ↦ err_at _ c.match-list_terms_trusting.result w.of_trusting.result w.result-is
+          (listing_unranged c.args.trust holds c.args.index.now c.args.pattern.now _ _ _ w.in-Err.error w.of_trusting.result c.if-trust.true known w.of_trusting.ensures w.in-Err.ensures.refused w.in-Err.ensures.kept)
+    ]
 
 pub returns-clause-printed : goal.returns-clause-printed
-returns-clause-printed g c =
-    let opened = c.in_ok-volume.ensures.opened in
-    let index = subst (λ (o : Opened). IsIndexOf o opened.version opened.collection) (sym c.index.ensures) opened.index in
-    record {
-      version = opened.version;
-      collection = opened.collection;
-      held = opened.held;
-      printed = c.in_ok-list_terms.ensures.printed opened.version opened.collection index;
-    }
+returns-clause-printed g c = listing_done c.args.trust _ _ _ _ _ c.list_whole.result c.list_whole.ensures.printed
+
+pub returns-clause-refused : goal.returns-clause-refused
+returns-clause-refused g c = listing_undone c.args.trust _ _ _ _ _ c.list_whole.result c.list_whole.ensures.refused
