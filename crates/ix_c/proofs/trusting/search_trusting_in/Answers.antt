@@ -1,5 +1,5 @@
 -- The bytes are a source that tells them.
-use Rattle.std.proofs.Common.{◌≡◌, ◌∙◌, ap, refl, subst}
+use Rattle.std.proofs.Common.{◌∙◌, ap, refl, subst}
 use Rattle.ix_ask.specs.Searching.{RefusesQuery}
 use Rattle.ix_ask.specs.Trusting.{RefusesTrusting}
 use Rattle.ix_ask.specs.declared.trust_error.TrustError.TheVariants.{Ask}
