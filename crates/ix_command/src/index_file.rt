@@ -33,10 +33,7 @@ pub fn open_index<'a, R: Threads + Sync, F: Files>(
 
 /// The file of this path, open to be read by ranges, or none if it is no regular file: what is read once, from its front to its
 /// end, has no ranges.
-pub fn open_ranges<'a, F: Files>(
-    files: &F,
-    path: &'a str,
-) -> Result<Option<F::Ranges>, Refusal<'a>>
+pub fn open_ranges<'a, F: Files>(files: &F, path: &'a str) -> Result<Option<F::Ranges>, Refusal<'a>>
     ensures opened { IfOk result (λ opened. IfSome opened (λ ranges.
         AreKnownOf (held_in (F.view files.now) path.entry.now) (F.Ranges.contents ranges))) }
     ensures refused { IfErr result (IsUnread path.entry.now) }

@@ -30,7 +30,8 @@ $ ix search --trust --trust five.ix y
 ";
 
 /// Index files with a fault and without one.
-pub const CHECKING: &str = r"$ put text a\tThis text is no index, and it has more than sixty-four bytes.\n
+pub const CHECKING: &str =
+    r"$ put text a\tThis text is no index, and it has more than sixty-four bytes.\n
 $ ix check five.ix
 $ ix check one.ix five.ix five2.ix empty.ix
 $ ix check five
