@@ -1,19 +1,16 @@
 -- What was found of files, one after another, and the lines of their faults.
-use Rattle.std.proofs.Common.{◌≡◌, ◌∙◌, ℕ, ◌+◌, ◌<◌, ◌≤◌, sym, subst, ap, refl, List, [], ◌∷◌, ◌++◌, length, take, get_or, Option, Some, None, append_assoc, append-nil, Bor, arith, length-append}
-use Rattle.std.specs.Prelude.{IfSome, OnOk, Result, Ok, Err, Bool, true, false, cond, codes, count_by, flat_map, is_some, map, sum_by}
+use Rattle.std.proofs.Common.{◌≡◌, ◌∙◌, ℕ, ◌+◌, ◌<◌, ◌≤◌, sym, subst, ap, refl, List, [], ◌∷◌, ◌++◌, length, take, get_or, Option, Some, None, append-nil, Bor, arith}
+use Rattle.std.specs.Prelude.{IfSome, cond, count_by, flat_map, is_some}
 use Rattle.std.proofs.lemmas.Grind.{flat_map-append}
 use Rattle.std.proofs.lemmas.List.Sums.{sum_by-append}
 use Rattle.std.proofs.lemmas.List.{take_all, take_more, map-append}
-use Rattle.std.specs.Io.KnownBytes.{Appends, Keeps}
+use Rattle.std.specs.Io.KnownBytes.{Keeps}
 use Rattle.std.specs.List.{AllZip}
 use Rattle.clap.specs.Walk.{Text}
 use Rattle.ix_files.specs.Reading.{Holding}
 use Rattle.ix_line.specs.Lines.{texts_of}
-use Rattle.ix_output.specs.Sinks.{AppendsFront}
 use Rattle.ix_ask.specs.declared.output.Lines.{Lines}
-use Rattle.ix_ask.specs.declared.refusal.EngineRefusal.{EngineRefusal}
-use Rattle.ix_command.specs.CheckedFiles.{AreChecked, AreLookedAt, GainsFault, IsCheckRefused, IsFaulty, IsJudged, IsLookedAt, LooksAt, TellsMemory, count_with, fault_line, fault_of, line_or_none}
-use Rattle.ix_command.specs.IndexFiles.{RefusesIndex}
+use Rattle.ix_command.specs.CheckedFiles.{AreLookedAt, GainsFault, IsCheckRefused, IsJudged, IsLookedAt, LooksAt, TellsMemory, count_with, fault_line, fault_of, line_or_none}
 use Rattle.ix_command.specs.Statuses.{IsUnwritten}
 use Rattle.ix_command.specs.Refusals.{text_of}
 use Rattle.ix_command.specs.declared.refusal.Refusal.{Refusal}

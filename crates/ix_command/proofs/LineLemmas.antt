@@ -1,5 +1,5 @@
 -- The line of an error, written in pieces.
-use Rattle.std.proofs.Common.{◌≡◌, ◌∙◌, ◌+◌, ◌<◌, ◌/◌, ◌%◌, ℕ, true, List, [], ◌∷◌, ◌++◌, Option, Result, Ok, Err, refl, sym, ap, ap₂, length, map, take, drop, get_or, append_assoc, append-nil, take-append-drop}
+use Rattle.std.proofs.Common.{◌≡◌, ◌∙◌, ◌+◌, ◌<◌, ◌/◌, ◌%◌, ℕ, true, List, [], ◌∷◌, ◌++◌, Option, Result, Ok, Err, refl, sym, ap, ap₂, length, map, take, drop, get_or, append_assoc, take-append-drop}
 use Rattle.std.specs.Prelude.{OnErr, OnOk, codes, encode_utf8, flat_map, if◌then◌else◌}
 use Rattle.std.specs.Char.{digit_char, is_control}
 use Rattle.std.specs.Io.KnownBytes.{Appends}

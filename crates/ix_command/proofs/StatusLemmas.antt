@@ -1,5 +1,5 @@
 -- What the exit status says of a line that was done.
-use Rattle.std.proofs.Common.{◌≡◌, ◌<◌, ◌≤◌, ℕ, zero, suc, Bool, true, false, IsTrue, List, Option, sym, refl, arith, true≢false, inl, inr, ◌⊎◌}
+use Rattle.std.proofs.Common.{◌≡◌, ◌≤◌, ℕ, zero, suc, Bool, true, false, IsTrue, List, Option, sym, refl, arith, true≢false, inl, inr, ◌⊎◌}
 use Rattle.std.specs.Prelude.{◌↔◌}
 use Rattle.clap.specs.Walk.{Text}
 use Rattle.ix_command.specs.Files.{Keeping}

@@ -1,5 +1,5 @@
 -- What is so of an index file that was checked as a whole is so of one that is trusted, since an index text has one collection.
-use Rattle.std.proofs.Common.{◌≡◌, ◌≢◌, ◌∙◌, ℕ, ◌⊎◌, sym, subst, refl, ⊎_elim, true≢false, Option, Some, None, Result, Ok, Err, IfOk, IfErr, IfSome, Bool, true, false}
+use Rattle.std.proofs.Common.{◌≡◌, ◌≢◌, ℕ, ◌⊎◌, sym, subst, refl, ⊎_elim, true≢false, Option, Some, Result, Ok, Err, IfOk, IfErr, IfSome, Bool, true, false}
 use Rattle.std.specs.Io.KnownBytes.{Keeps}
 use Rattle.clap.specs.Walk.{Text}
 use Rattle.ix_text.specs.Collections.{Collection, IsLawful}
@@ -8,14 +8,12 @@ use Rattle.ix_index_text.specs.Sections.{Version}
 use Rattle.ix_index_text.proofs.IndexTold.{index_told}
 use Rattle.ix_extract.specs.Projections.{HasIndexText}
 use Rattle.ix_file.specs.declared.open_error.OpenError.{OpenError}
-use Rattle.ix_file.specs.declared.open_error.OpenError.TheVariants as open_error
 use Rattle.ix_files.specs.Reading.{AreKnownOf, Holding}
 use Rattle.ix_ask.specs.Listing.{IsPrinted, LeavesListing}
 use Rattle.ix_ask.specs.Searching.{IsSearched, LeavesSearch}
 use Rattle.ix_ask.specs.Trusting.{LeavesTrusting, LeavesTrustingListing}
 use Rattle.ix_ask.specs.declared.ask_error.AskError.{AskError}
 use Rattle.ix_ask.specs.declared.ask_error.AskError.TheVariants as asking
-use Rattle.ix_ask.specs.declared.refusal.EngineRefusal.{EngineRefusal}
 use Rattle.ix_ask.specs.declared.refusal.EngineRefusal.TheVariants as engine
 use Rattle.ix_ask.specs.declared.trust_error.TrustError.{TrustError}
 use Rattle.ix_ask.specs.declared.trust_error.TrustError.TheVariants as trusting

@@ -1,9 +1,9 @@
 -- A line that was refused was read.
-use Rattle.std.proofs.Common.{refl}
+use Rattle.std.proofs.Common.{◌∙◌, inr, refl, sym, true≢false}
 use Rattle.ix_command.specs.Statuses.{twice, undone}
 use Rattle.ix_command.proofs.Doing.{keeps_itself}
 use Rattle.ix_command.proofs.FileLemmas.{handed_up}
-use Rattle.ix_command.proofs.StatusLemmas.{status_faults, status_found, status_nothing, status_small}
+use Rattle.ix_command.proofs.StatusLemmas.{status_found}
 use Rattle.ix_command.proofs.commands.run.Goals as goal
 
 pub returns-then-reads_input_twice-clause-refused : goal.returns-then-reads_input_twice-clause-refused
@@ -13,3 +13,8 @@ returns-then-reads_input_twice-clause-refused g c =
 pub returns-in_err-count-in-Ok-clause-refused : goal.returns-in_err-count-in-Ok-clause-refused
 returns-in_err-count-in-Ok-clause-refused g c =
     handed_up _ c.from_residual.result c.in_err-count-in-Ok.field-0.0 c.from_residual.ensures.1 (undone c.in-Ok.line c.in-Ok.ensures.ok c.in_err-count-in-Ok.ensures.refused)
+
+pub returns-in_ok-count-in-Ok-clause-found : goal.returns-in_ok-count-in-Ok-clause-found
+returns-in_ok-count-in-Ok-clause-found g c = λ none.
+    inr (status_found _ _ _ _ _ _ c.in-Ok.line c.in-Ok.ensures.ok (λ reads. true≢false (sym (c.reads_input_twice.ensures.1 reads) ∙ c.if-reads_input_twice.false))
+    c.is_check-checks.result c.in_ok-count-in-Ok.count c.is_check-checks.ensures c.in_ok-count-in-Ok.ensures.done (sym c.status_of.ensures ∙ none))

@@ -1,5 +1,4 @@
 -- the characters so far are out
-use Rattle.std.proofs.Common.{◌≡◌}
 use Rattle.std.specs.Prelude.{flat_map}
 use Rattle.std.specs.Io.KnownBytes.{Appends}
 use Rattle.ix_command.specs.Refusals.{shown_char}
