@@ -6,6 +6,7 @@
 #include <fcntl.h>
 #include <malloc.h>
 #include <pthread.h>
+#include <stdbool.h>
 #include <signal.h>
 #include <stdarg.h>
 #include <stdatomic.h>
@@ -170,14 +171,23 @@ CHANGES(chmod, MODE, (const char *path, mode_t mode), syscall(SYS_chmod, path, m
 CHANGES(fchmod, MODE, (int file, mode_t mode), syscall(SYS_fchmod, file, mode))
 CHANGES(chown, OWNER, (const char *path, uid_t user, gid_t group), syscall(SYS_chown, path, user, group))
 
-ssize_t read(int file, void *to, size_t size) {
+/* Whether a read is refused; if not, how many bytes it gives at most. */
+static bool refuses_read(size_t *size) {
     if (is_refused(&met->reads, &met->reads_refused, at.read, 0)) {
         errno = (int)at.read_error;
-        return -1;
+        return true;
     }
-    if (counts_calls && at.read_size && size > (size_t)at.read_size)
-        size = (size_t)at.read_size;
-    return syscall(SYS_read, file, to, size);
+    if (counts_calls && at.read_size && *size > (size_t)at.read_size)
+        *size = (size_t)at.read_size;
+    return false;
+}
+
+ssize_t read(int file, void *to, size_t size) {
+    return refuses_read(&size) ? -1 : syscall(SYS_read, file, to, size);
+}
+
+ssize_t pread(int file, void *to, size_t size, off_t from) {
+    return refuses_read(&size) ? -1 : syscall(SYS_pread64, file, to, size, from);
 }
 
 static int write_refused(void) {
