@@ -161,8 +161,9 @@ uint32_t ix_search(const uint8_t *index, size_t index_size, const uint8_t *query
 ** ix_search_trusting: asks an index text without a check of the whole.
 **
 ** If the bytes are the index text of a collection, gives what ix_search gives. Only what the query needs is read: of a
-** large index text that is mapped into memory, a few pages. What is read is checked, but a fault in another part is not
-** noticed, and an answer may then be that of another collection. For index texts that ix wrote and that are kept well.
+** large index text that is mapped into memory, a few pages. The stop words, the names, the terms that are asked about and
+** their lists are checked; a fault elsewhere may not be noticed, and an answer may then be that of another collection. For
+** index texts that ix wrote and that are kept well.
 **
 ** Refuses with IX_INDEX, IX_QUERY and IX_MEMORY. IX_NOT_UTF8 with IX_QUERY.
 */

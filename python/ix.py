@@ -265,8 +265,9 @@ class Index:
     def ask_file(path: Union[str, os.PathLike[str]], query: str) -> list[str]:
         """The names of the documents of an index file that satisfy the query, without opening the index.
 
-        Only what the query needs is read, so one question to a large file takes milliseconds. What is read is checked; a
-        fault in another part of the file is not noticed. For a file that ix wrote and that is kept well.
+        Only what the query needs is read, so one question to a large file takes milliseconds. The names, the terms that are
+        asked about and their lists are checked; a fault elsewhere may not be noticed. For a file that ix wrote and that is
+        kept well.
 
         >>> with tempfile.TemporaryDirectory() as folder:
         ...     _ = build({"a": "fox", "b": "dog"}, f"{folder}/index")

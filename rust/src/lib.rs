@@ -145,8 +145,8 @@ impl Index {
     }
 
     /// What [`Index::search`] gives of an index text, reading only what the query needs: a few pages of a file that is
-    /// mapped into memory. What is read is checked; a fault in another part of the text is not noticed. For index texts that
-    /// ix wrote and that are kept well.
+    /// mapped into memory. The names, the terms that are asked about and their lists are checked; a fault elsewhere may not be
+    /// noticed. For index texts that ix wrote and that are kept well.
     ///
     /// ```
     /// let documents: ix::Collection = [("a", "fox"), ("b", "dog")].into_iter().collect();
