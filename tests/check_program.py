@@ -226,6 +226,12 @@ def merging():
     for inputs in (("front.ix", "rest.ix"), ("run-0", "rest.ix"), ("front.ix", "run-4", "run-2")):
         gives(f"merge {' '.join(inputs)}", ["merge", "c.ix", *inputs], 0)
         holds(f"the index that {' '.join(inputs)} make", "c.ix", FIVE_INDEX)
+    many = [f"many-{number}" for number in range(60)]
+    for number, path in enumerate(many):
+        Path("block.txt").write_bytes(b"d%d\tx%d\n" % (number, number))
+        gives(f"run --first {number} of one document", ["run", "--first", str(number), "block.txt", path], 0)
+    gives("a line of more than sixty words", ["merge", "c.ix", *many], 0)
+    gives("the last of sixty runs", ["search", "c.ix", "x59"], 0, b"d59\n")
     gives("an index behind a run that goes on", ["merge", "c.ix", "run-2", "front.ix"], 2, b"", b"ix: merge 1: Gap(0)")
     Path("short.ix").write_bytes(Path("rest.ix").read_bytes()[:-1])
     gives("an index without its last byte", ["merge", "c.ix", "run-0", "short.ix"], 2, b"", b"ix: index 3: Trailer")

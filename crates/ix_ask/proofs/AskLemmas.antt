@@ -8,6 +8,10 @@ use Rattle.ix_text.specs.Collections.{Collection, Document, NamedText, collectio
 use Rattle.ix_text.specs.TokenLists.{token_list}
 use Rattle.ix_query.specs.Tree.{Tree}
 use Rattle.ix_query.specs.Scans.{IsScan}
+use Rattle.ix_build.specs.BuildErrors.{IsBuildRefusal}
+use Rattle.ix_build.specs.declared.build_error.BuildError.{BuildError}
+use Rattle.ix_build.specs.declared.build_error.BuildError.TheVariants as build_error
+use Rattle.ix_ask.specs.Asking.{RefusesIndex, error_of_build}
 use Rattle.ix_ask.specs.Searching.{LeavesSearch, RefusesQuery}
 use Rattle.ix_ask.specs.declared.ask_error.AskError.{AskError}
 use Rattle.ix_ask.specs.declared.ask_error.AskError.TheVariants as asking
@@ -26,3 +30,10 @@ pub search_refused : (collection : Collection) (query : List ℕ) (known : Optio
 search_refused collection query known (asking.Query error) fails = (fails, Keeps-refl known)
 search_refused collection query known asking.Memory fails = Keeps-refl known
 search_refused collection query known _ fails = absurd fails
+
+-- why an index was not built is why there are no numbers
+pub build_refused : (workers : ℕ) (error : BuildError) → IsBuildRefusal workers error → RefusesIndex workers (error_of_build error)
+build_refused workers (build_error.Thread worker) refused = (refused, λ same. cc)
+build_refused workers (build_error.Spill place) refused = (refused, λ same. cc)
+build_refused workers build_error.Write refused = tt
+build_refused workers build_error.Memory refused = (refused, λ same. cc)

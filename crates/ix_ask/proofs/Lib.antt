@@ -4,4 +4,5 @@ pub mod HeadlineLemmas
 pub mod ListingLemmas
 pub mod MergingLemmas
 pub mod NameLemmas
+pub mod OneAnswer
 mod TrustLemmas

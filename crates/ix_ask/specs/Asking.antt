@@ -13,6 +13,7 @@ use Rattle.ix_text.specs.declared.collection.CollectionError.{CollectionError}
 use Rattle.ix_text.specs.declared.collection.CollectionError.TheVariants as collection
 use Rattle.ix_query.specs.QueryErrors.{Fails}
 use Rattle.ix_build.specs.BuildErrors.{IsBuildRefusal}
+use Rattle.ix_build.specs.declared.build_error.BuildError.{BuildError}
 use Rattle.ix_build.specs.declared.build_error.BuildError.TheVariants as build_error
 use Rattle.ix_file.specs.declared.open_error.OpenError.TheVariants as open_error
 use Rattle.ix_ask.specs.NameLines.{name_lines, names_read}
@@ -54,6 +55,11 @@ RefusesCollection text error = (error ≡ collection.Memory) ⊎ IsCollectionFau
 -- The bytes are a collection text.
 abbrev pub IsCollection : List ℕ → Type 0
 IsCollection text = (documents : List NamedText) × IsCollectionText text documents
+
+-- the error of a build of an index in memory, as that of a question
+abbrev pub error_of_build : BuildError → AskError
+error_of_build build_error.Write = asking.Memory
+error_of_build error = asking.Build error
 
 -- Why an index of documents gave no numbers: so many workers did not build it, for no refused write, or memory ran out.
 abbrev pub RefusesIndex : ℕ → AskError → Type 0

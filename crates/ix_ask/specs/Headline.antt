@@ -11,6 +11,7 @@ use Rattle.ix_query.specs.Tree.{Tree}
 use Rattle.ix_query.specs.Grammar.{Reads}
 use Rattle.ix_query.specs.Scans.{IsScan}
 use Rattle.ix_ask.specs.Asking.{IsAnswer, IsAnswered}
+use Rattle.ix_ask.specs.Listing.{IsListed}
 use Rattle.ix_ask.specs.NameLines.{name_lines, names_read}
 use Rattle.ix_ask.specs.Searching.{IsFound}
 
@@ -42,3 +43,14 @@ AskWritesTheNames = (text query old new : List ℕ) (stop : List (List ℕ)) (do
 abbrev pub SearchWritesTheSame : Type 0
 SearchWritesTheSame = (text query lines others : List ℕ) (stop : List (List ℕ)) (documents : List NamedText) (count number : ℕ) → IsCollectionText text documents → IsAnswer text stop query lines count
     → IsFound (collection_of stop documents) query others number → (lines ≡ others) × (count ≡ number)
+
+-- What a query finds in an index text is one list: whichever collection and version it is found to be of, by an exact reader
+-- or by one that reads only what the query needs.
+abbrev pub FindsOneList : Type 0
+FindsOneList = (version another : Version) (collection other : Collection) (bytes query lines others : List ℕ) (count number : ℕ) → IsIndexText version collection bytes → IsIndexText another other bytes
+    → IsFound collection query lines count → IsFound other query others number → (lines ≡ others) × (count ≡ number)
+
+-- What a pattern lists of it is one list, too.
+abbrev pub ListsOneList : Type 0
+ListsOneList = (version another : Version) (collection other : Collection) (bytes pattern lines others : List ℕ) (count number : ℕ) → IsIndexText version collection bytes → IsIndexText another other bytes
+    → IsListed collection pattern lines count → IsListed other pattern others number → (lines ≡ others) × (count ≡ number)

@@ -1,7 +1,8 @@
 -- The run text of a part of a collection, and why there is none.
-use Rattle.std.specs.Prelude.{ℕ, List}
+use Rattle.std.specs.Prelude.{◌≡◌, ◌⊎◌, ℕ, List, Result, Err}
 use Rattle.ix_text.specs.Collections.{Collection, NamedText, collection_of}
 use Rattle.ix_text.specs.CollectionText.{IsCollectionText}
+use Rattle.ix_text.specs.declared.collection.CollectionError.TheVariants as collection_error
 use Rattle.ix_run.specs.RunText.{IsRunText}
 use Rattle.ix_run.specs.Runs.{IsTooLarge}
 use Rattle.ix_run.specs.declared.errors.RunError.{RunError}
@@ -29,3 +30,7 @@ RefusesRunning text stop first (engine.Run error) =
     (documents : List NamedText) × IsCollectionText text documents × RefusesInversion (collection_of stop documents) first error
 RefusesRunning text stop first engine.Memory = Unit {0}
 RefusesRunning text stop first _ = ⊥
+
+-- no run holds so much, or memory ran out in reading the collection
+abbrev pub IsTooLargeOrUnread : {X : Type 0} → Result X EngineRefusal → Type 0
+IsTooLargeOrUnread result = (result ≡ Err (engine.Run run_error.TooLarge)) ⊎ (result ≡ Err (engine.Collection collection_error.Memory))

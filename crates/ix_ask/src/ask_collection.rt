@@ -10,7 +10,7 @@ ghost use Rattle.ix_query.specs.Scans.{IsScan};
 use crate::ask_error::AskError;
 use crate::names::name_lines_of;
 use crate::output::{Lines, write_whole};
-use ix_build::{BuildError, Plan, build_in_memory};
+use ix_build::{Plan, build_in_memory};
 use ix_file::Index;
 use ix_output::WriteError;
 use ix_query::{Query, answer};
@@ -113,10 +113,6 @@ fn index_text<R: Threads + Wait + Sync>(
     ensures refused { IfErr result (RefusesIndex plan.now.workers) }
 {
     let mut text = Vec::new(alloc);
-    match build_in_memory(rt, alloc, documents, stop, plan, &mut text) {
-        Ok(()) => Ok(text),
-        // A text in memory refuses a write only where it does not grow.
-        Err(BuildError::Write) => Err(AskError::Memory),
-        Err(error) => Err(AskError::Build(error)),
-    }
+    build_in_memory(rt, alloc, documents, stop, plan, &mut text)?;
+    Ok(text)
 }

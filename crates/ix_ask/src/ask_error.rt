@@ -36,3 +36,20 @@ impl From<AllocError> for AskError {
         AskError::Memory
     }
 }
+
+/// The error of a build of an index in memory, which fails to write only if it does not grow.
+impl From<BuildError> for AskError {
+    ghost use Rattle.std.specs.Prelude.{◌≡◌};
+    ghost use Rattle.ix_ask.specs.Asking.{error_of_build};
+
+    ghost from_gives = { λ given error. error ≡ error_of_build given };
+
+    fn from(error: BuildError) -> AskError {
+        match error {
+            BuildError::Thread(worker) => AskError::Build(BuildError::Thread(worker)),
+            BuildError::Spill(place) => AskError::Build(BuildError::Spill(place)),
+            BuildError::Write => AskError::Memory,
+            BuildError::Memory => AskError::Build(BuildError::Memory),
+        }
+    }
+}

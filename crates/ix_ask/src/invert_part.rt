@@ -1,9 +1,10 @@
 //! The run text of a part of a collection, by the calling thread alone.
-ghost use Rattle.std.specs.Prelude.{ℕ, IfErr, IfOk};
-ghost use Rattle.ix_text.specs.Collections.{Collection as CollectionValue};
+ghost use Rattle.std.specs.Prelude.{◌^◌, ◌<◌, ◌+◌, ℕ, List, length, IfErr, IfOk};
+ghost use Rattle.ix_text.specs.Collections.{Collection as CollectionValue, NamedText};
+ghost use Rattle.ix_text.specs.CollectionText.{IsCollectionText};
 ghost use Rattle.ix_run.specs.RunText.{IsRunText};
 ghost use Rattle.ix_run.specs.Runs.{IsRunOf};
-ghost use Rattle.ix_ask.specs.Inverting.{IsRunOfText, RefusesRunning};
+ghost use Rattle.ix_ask.specs.Inverting.{IsRunOfText, IsTooLargeOrUnread, RefusesRunning};
 
 use crate::refusal::EngineRefusal;
 use ix_run::{Run, invert};
@@ -14,7 +15,8 @@ use std::alloc::{AllocError, Global};
 /// `first` on.
 ///
 /// `Collection` if the bytes are no collection text, or if memory ran out in reading them; `Run` if no run
-/// holds so much, or memory ran out in making it; `Memory` if there was none for the text.
+/// holds so much, which comes first if there are more documents than numbers, or memory ran out in making it; `Memory` if there
+/// was none for the text.
 pub fn run_alone(
     alloc: Global,
     collection: &[u8],
@@ -23,6 +25,8 @@ pub fn run_alone(
 ) -> Result<Vec<u8>, EngineRefusal>
     ensures run { IfOk result (λ text. IsRunOfText collection.now stop.now first text.items) }
     ensures refused { IfErr result (RefusesRunning collection.now stop.now first) }
+    ensures too_large { (documents : List NamedText) → IsCollectionText collection.now documents
+        → 2 ^ 28 < first + length documents → IsTooLargeOrUnread result }
 {
     let documents = match Collection::read(alloc, collection) {
         Ok(documents) => documents,

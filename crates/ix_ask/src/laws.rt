@@ -1,6 +1,6 @@
-//! A law of what the program's calls promise. The function does nothing: what it ensures is a fact.
+//! Laws of what the program's calls promise. The functions do nothing: what they ensure is a fact.
 ghost use Rattle.ix_ask.specs.Headline.{AskWritesTheNames, BuildWritesIndexText, BuildsWriteOneText};
-ghost use Rattle.ix_ask.specs.Headline.{OpensAsThatCollection, SearchWritesTheSame};
+ghost use Rattle.ix_ask.specs.Headline.{FindsOneList, ListsOneList, OpensAsThatCollection, SearchWritesTheSame};
 
 use ix_file::{collection_has_one_index_text, index_text_tells_version_and_collection};
 use ix_query::{a_query_has_one_scan, a_text_has_one_tree};
@@ -19,6 +19,18 @@ pub fn what_is_built_opens_and_answers()
     collection_has_one_index_text();
     index_text_tells_version_and_collection();
     has_documents_or_a_fault();
+    a_text_has_one_tree();
+    a_query_has_one_scan();
+}
+
+/// An index text gives one list for a query and one for a pattern: [`search`](crate::search) and
+/// [`search_trusting`](crate::search_trusting) find the same names in it, and [`list_terms`](crate::list_terms) and
+/// [`list_terms_trusting`](crate::list_terms_trusting) list the same terms.
+pub fn both_ways_give_one_list()
+    ensures found { FindsOneList }
+    ensures listed { ListsOneList }
+{
+    index_text_tells_version_and_collection();
     a_text_has_one_tree();
     a_query_has_one_scan();
 }

@@ -21,7 +21,7 @@ pub use alone::{ask_alone, index_alone};
 pub use ask_collection::ask;
 pub use ask_error::AskError;
 pub use invert_part::run_alone;
-pub use laws::what_is_built_opens_and_answers;
+pub use laws::{both_ways_give_one_list, what_is_built_opens_and_answers};
 pub use list_index::{find_terms, list_terms};
 pub use merge_runs::merge_alone;
 pub use names::list_names;

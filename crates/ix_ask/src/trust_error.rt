@@ -9,7 +9,7 @@ use ix_file::OpenError;
 pub enum TrustError {
     /// A read of the index text failed.
     Read,
-    /// As for an opened index; `Open` if a part that was read is not as an index text has it.
+    /// As for an opened index; `Open` if a part that was checked is not as an index text has it.
     Ask(AskError),
 }
 

@@ -22,12 +22,13 @@ use ix_output::WriteError;
 use std::alloc::Global;
 use std::io::Write;
 
-/// Writes what [`search`](crate::search) writes of the index, if the source has an index text. Only the trailer, STOP,
-/// DOCS, the terms up to the last one that the query asks about and the lists of those that it asks about are read, and
-/// each byte that is read is checked.
+/// Writes what [`search`](crate::search) writes of the index, if the source has an index text. Only the front mark, the
+/// trailer, STOP, DOCS, the terms up to the last one that the query asks about and the lists of those that it asks about
+/// are read. STOP, DOCS, these terms and their lists are checked as an index is opened; the other terms that are read are
+/// only parsed.
 ///
 /// # Errors
-/// Those of `search`; `Read`; `Open` if a part that was read is not as an index text has it.
+/// Those of `search`; `Read`; `Open` if a part that was checked is not as an index text has it.
 pub fn search_trusting<S: ReadAt, W: Write>(
     alloc: Global,
     source: &S,
@@ -76,12 +77,12 @@ pub fn find_names_trusting<S: ReadAt>(
     Ok(names)
 }
 
-/// Writes what [`list_terms`](crate::list_terms) writes of the index, if the source has an index text. Only the trailer,
-/// STOP, DOCS, the terms up to the last one that can match and the lists of those that match are read, and each byte that
-/// is read is checked.
+/// Writes what [`list_terms`](crate::list_terms) writes of the index, if the source has an index text. Only the front
+/// mark, the trailer, STOP, DOCS, the terms up to the last one that can match and the lists of those that match are read.
+/// They are checked as in [`search_trusting`].
 ///
 /// # Errors
-/// Those of `list_terms`; `Read`; `Open` if a part that was read is not as an index text has it.
+/// Those of `list_terms`; `Read`; `Open` if a part that was checked is not as an index text has it.
 pub fn list_terms_trusting<S: ReadAt, W: Write>(
     alloc: Global,
     source: &S,

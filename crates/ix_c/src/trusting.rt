@@ -49,6 +49,7 @@ fn search_trusting_in(alloc: Global, index: &[u8], query: &str) -> Result<Lines,
         Ok(names) => Ok(names),
         Err(TrustError::Ask(AskError::Query(error))) => Err(EngineRefusal::Query(error)),
         Err(TrustError::Ask(AskError::Open(error))) => Err(EngineRefusal::Index(error)),
+        // No read of a slice fails, but no clause says so: of an index text it could not be an error of `Index`.
         Err(_) => Err(EngineRefusal::Memory),
     }
 }

@@ -1,7 +1,7 @@
 -- What is put together of an index text is an index text of the collection with fewer terms.
 use Rattle.std.proofs.Common.{◌≡◌, ℕ, ◌+◌, ◌≤◌, List, [], ◌∷◌, refl, inl, inr, Option, Some, length, take, drop, All, sym, ap, ap₂, ◌∙◌, subst, arith}
 use Rattle.std.proofs.lemmas.List.{length-map}
-use Rattle.std.proofs.lemmas.List.Elements.{All-cons, All-head, All-tail}
+use Rattle.std.proofs.lemmas.List.Elements.{All-cons, All-head, All-nil, All-tail}
 use Rattle.ix_text.specs.Collections.{Collection}
 use Rattle.ix_text.specs.Parts.{DictionaryEntry}
 use Rattle.ix_index_text.specs.Grams.{AreGramsOfTerms}
@@ -145,17 +145,16 @@ same_sections : (a b c d g x y z w v : List ℕ) → a ≡ x → b ≡ y → c �
     ≡ (let other : FileSectionTexts = record { postings = x; stop = y; documents = z; dictionary = w; grams = v } in other)
 same_sections a b c d g x y z w v p q r s t = cc
 
-pub projected : (contents : Option (List ℕ)) (version : Version) (collection : Collection) (trailer : Trailer) (wants : List ℕ → Type 0) (found : List FoundTerm) (text : List ℕ) → HasIndexText contents version collection → IsTrailerIn contents trailer
-    → AreFoundThere contents trailer wants found → All (λ one. one.start + one.size ≤ trailer.postings) found
+pub projected_entries : (contents : Option (List ℕ)) (version : Version) (collection : Collection) (trailer : Trailer) (wants : List ℕ → Type 0) (found : List FoundTerm) (text : List ℕ) (has : HasIndexText contents version collection) → IsTrailerIn contents trailer
+    → AreFoundEntries wants (postings_section has.text.parts.entries) has.text.parts.entries found → All (λ one. one.start + one.size ≤ trailer.postings) found
     → ((bytes : List ℕ) → contents ≡ Some bytes → IsAssembled bytes trailer found text) → IsProjection collection wants text
 unfolding kept_parts
-projected contents version collection trailer wants found text has is are within read =
+projected_entries contents version collection trailer wants found text has is entries within read =
     let parts = has.text.parts in
     let of = is version _ _ _ (framed_text contents version collection has) in
     let there = known contents version collection trailer has is in
     let assembled = read _ there in
     let lists = postings_section parts.entries in
-    let entries = entries_found contents version collection trailer has is wants found (are _ there) in
     let inside = subst (λ n. All (IsWithin n) found) of.postings_size within in
     let keeps = among found in
     let chosen = are_chosen keeps wants lists parts.entries found (keeps_wanted wants lists parts.entries found entries) inside entries in
@@ -173,6 +172,23 @@ projected contents version collection trailer wants found text has is are within
       wanted = λ term number position posting wanted.
           (among_found found term).1 (wanted_found wants lists parts.entries found term entries (has.text.of_collection.vocabulary.complete term number position posting) wanted);
     }
+
+pub projected : (contents : Option (List ℕ)) (version : Version) (collection : Collection) (trailer : Trailer) (wants : List ℕ → Type 0) (found : List FoundTerm) (text : List ℕ) → HasIndexText contents version collection → IsTrailerIn contents trailer
+    → AreFoundThere contents trailer wants found → All (λ one. one.start + one.size ≤ trailer.postings) found
+    → ((bytes : List ℕ) → contents ≡ Some bytes → IsAssembled bytes trailer found text) → IsProjection collection wants text
+projected contents version collection trailer wants found text has is are within read =
+    projected_entries contents version collection trailer wants found text has is
+    (entries_found contents version collection trailer has is wants found (are _ (known contents version collection trailer has is))) within read
+
+-- if no term is wanted, none has to be found
+none_found : (postings : List ℕ) (entries : List DictionaryEntry) → AreFoundEntries (λ term. ⊥) postings entries []
+none_found postings [] = refl
+none_found postings (entry ∷ entries) = inr (λ wanted. wanted, none_found postings entries)
+
+pub projected_none : (contents : Option (List ℕ)) (version : Version) (collection : Collection) (trailer : Trailer) (text : List ℕ) → HasIndexText contents version collection → IsTrailerIn contents trailer
+    → ((bytes : List ℕ) → contents ≡ Some bytes → IsAssembled bytes trailer [] text) → IsProjection collection (λ term. ⊥) text
+projected_none contents version collection trailer text has is read =
+    projected_entries contents version collection trailer (λ term. ⊥) [] text has is (none_found _ has.text.parts.entries) (All-nil (λ one. one.start + one.size ≤ trailer.postings)) read
 
 -- a projection for more terms is one for fewer
 pub wants_fewer : (collection : Collection) (wants asked : List ℕ → Type 0) (text : List ℕ) → ((term : List ℕ) → asked term → wants term) → IsProjection collection wants text → IsProjection collection asked text

@@ -72,6 +72,23 @@ pub fn extract_pattern<S: ReadAt>(
     extract(alloc, source, &trailer, &mut matcher)
 }
 
+/// Reads of a source its stop terms and its documents, and returns an index text of version 1 that has these alone: the
+/// documents have their names and as many tokens, and no terms.
+///
+/// # Errors
+/// `Memory`; `Read`; `Index` if the source has the index text of no collection. Not every fault of an index text is
+/// detected.
+pub fn extract_documents<S: ReadAt>(alloc: Global, source: &S) -> Result<Vec<u8>, ExtractError>
+    ensures extracted { (version : FormatVersion) (collection : Collection)
+        → HasIndexText (S.contents source.now) version collection
+        → IfOk result (λ text. IsProjection collection (λ term. ⊥) text.items) }
+    ensures refused { IfErr result (IsReadFault (S.contents source.now)) }
+{
+    let trailer = read_frame(alloc, source)?;
+    let text = assemble(alloc, source, &trailer, &[])?;
+    Ok(text)
+}
+
 /// Reads both ends of an index text. The size of the source is compared with those of the sections before any of them
 /// is read.
 ///

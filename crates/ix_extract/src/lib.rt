@@ -11,6 +11,8 @@
 //! let index = Index::open(alloc, text.as_slice())?;
 //! ```
 //!
+//! [`extract_documents`] does so for no question: what it returns has the stop terms and the documents' names.
+//!
 //! A query is read under the source's own stop list. Its STOP is opened for this by the exact reader, too, in the index
 //! text of a collection without documents.
 //!
@@ -26,5 +28,5 @@ mod extract_error;
 mod query_matcher;
 mod trailer;
 
-pub use extract::{extract_pattern, extract_query};
+pub use extract::{extract_documents, extract_pattern, extract_query};
 pub use extract_error::ExtractError;

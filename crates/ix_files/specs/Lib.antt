@@ -6,6 +6,7 @@ pub mod MemoryLaws
 pub mod MemoryViews
 pub mod Opened
 pub mod Outputs
+pub mod Ranges
 pub mod Reading
 pub mod Slots
 pub mod Steps

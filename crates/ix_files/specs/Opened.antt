@@ -1,6 +1,6 @@
 -- What a call answers of files, if its answer is as the files were.
-use Rattle.std.specs.Prelude.{◌≡◌, ◌≢◌, List, ℕ, Option, Some}
-use Rattle.ix_files.specs.Slots.{Nothing, bytes_of}
+use Rattle.std.specs.Prelude.{◌≡◌, ◌≢◌, Contains, List, ℕ, Option, None, Some}
+use Rattle.ix_files.specs.Slots.{Entry, Nothing, Place, Slots, bytes_of}
 use Rattle.ix_files.specs.Views.{View}
 use Rattle.ix_files.specs.declared.file_error.FileError.{FileError}
 use Rattle.ix_files.specs.declared.file_error.FileError.TheVariants as file_error
@@ -21,6 +21,15 @@ IsKindOf view path kind.File = (view.slots (view.place path)).now ≢ Nothing
 IsKindOf view path kind.Folder = (view.slots (view.place path)).now ≡ Nothing
 IsKindOf view path kind.Stream = (view.slots (view.place path)).now ≡ Nothing
 IsKindOf view path kind.Other = (view.slots (view.place path)).now ≡ Nothing
+
+-- A file was found exactly if there is one, and it has these bytes, if it is one that nobody writes.
+abbrev pub IsFoundAt : Entry → Option (Option (List ℕ)) → Type 0
+IsFoundAt entry None = entry ≡ Nothing
+IsFoundAt entry (Some contents) = (entry ≢ Nothing) × ((bytes : List ℕ) → bytes_of entry ≡ Some bytes → contents ≡ Some bytes)
+
+-- The name of each file in the folder is among them. So may be other names.
+abbrev pub AreNamesIn : List ℕ → List (List ℕ) → Slots → Type 0
+AreNamesIn folder names slots = (place : Place) → place.folder ≡ folder → (slots place).now ≢ Nothing → Contains names place.name
 
 -- A path was not looked at or read: out of memory, or the system did not let it.
 abbrev pub IsReadError : Type 0 → FileError → Type 0

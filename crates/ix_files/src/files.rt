@@ -1,9 +1,9 @@
 //! Files by their paths.
 
-ghost use Rattle.std.specs.Prelude.{◌≡◌, ◌≢◌, ◌≤◌, ◌<◌, ℕ, List, [], Some, false, map, IfErr, IfOk, IfSome, IsErrOf, OnErr, OnOk};
+ghost use Rattle.std.specs.Prelude.{◌≡◌, ◌≢◌, ◌≤◌, ◌<◌, ℕ, List, [], ◌∷◌, Contains, Some, false, map, option_map, IfErr, IfOk, IfSome, IsErrOf, OnErr, OnOk};
 ghost use Rattle.std.specs.String.{string_bytes};
 ghost use Rattle.ix_files.specs.Locations.{place_of};
-ghost use Rattle.ix_files.specs.Opened.{IsKindOf, IsOpened, IsReadError};
+ghost use Rattle.ix_files.specs.Opened.{AreNamesIn, IsFoundAt, IsKindOf, IsOpened, IsReadError};
 ghost use Rattle.ix_files.specs.Reading.{AreKnownOf, held_in};
 ghost use Rattle.ix_files.specs.Slots.{IsSame, Nothing, Slots, Stops};
 ghost use Rattle.ix_files.specs.Steps.{Creates, Overwrites, Removes, Renames, Settles, Shares, Stays, Syncs};
@@ -26,8 +26,8 @@ pub trait Files {
     /// Reads what a path leads to, from its front to its end. It is owned, so that threads share nothing by it.
     type Reader: Read + Drop;
 
-    /// A file that is open to be read by ranges.
-    type Ranges: ReadAt + Drop;
+    /// A file that is open to be read by ranges, by several threads too.
+    type Ranges: ReadAt + Drop + Send + Sync;
 
     /// Writes a new file, which is locked, or a device or a pipe.
     type Writer: Write + Drop;
@@ -104,11 +104,48 @@ pub trait Files {
             AreKnownOf (held_in (view self.now) path.now) (Self.Ranges.contents ranges)) }
         ensures cause { IfErr result (IsReadError (failed self.now path.now)) };
 
+    /// Opens the file of a name, to be read by ranges; none if there is none.
+    ///
+    /// # Errors
+    /// `Memory`; `Failed`.
+    fn open_at(&self, at: &Location) -> Result<Option<Self::Ranges>, FileError>
+        ensures found { IfOk result (λ found. (view self.now).honest
+            → IsFoundAt ((view self.now).slots (place_of at.now)).now
+            (option_map (λ ranges. Self.Ranges.contents ranges) found)) }
+        ensures cause { IfErr result (IsReadError (Unit {0})) };
+
+    /// The names in a folder, in no order.
+    ///
+    /// # Errors
+    /// `Memory`; `Failed`.
+    fn list(&self, folder: &str) -> Result<Vec<String>, FileError>
+        ensures listed { IfOk result (λ names. (view self.now).honest
+            → AreNamesIn folder.now (map string_bytes names.items) (view self.now).slots) }
+        ensures cause { IfErr result (IsReadError (Unit {0})) };
+
     /// Locks a folder.
     ///
     /// # Errors
     /// `Memory`; `Locked` if another program has locked it; `Failed`, also if it cannot be opened.
     fn lock_folder(&self, path: &str) -> Result<Self::Lock, FileError>;
+
+    /// Locks a name, at which an empty file is made if there is none.
+    ///
+    /// # Errors
+    /// `Memory`; `Locked` if another program has locked it; `Failed`.
+    fn lock(&mut self, at: &Location) -> Result<Self::Lock, FileError>
+        ensures call { Calls (Shares (place_of at.now ∷ [])) (view self.old) (view self.new) }
+        ensures cause { HasCause (view self.old) (view self.new) result }
+        ensures not_taken { ¬ (IsErrOf result Exists) };
+
+    /// Makes a folder, unless there is one, and puts its name on the disk.
+    ///
+    /// # Errors
+    /// `Memory`; `Failed`, also if the path leads to what is no folder. There may be the folder then.
+    fn create_folder(&mut self, path: &str) -> Result<(), FileError>
+        ensures call { Calls Stays (view self.old) (view self.new) }
+        ensures cause { HasCause (view self.old) (view self.new) result }
+        ensures error { IfErr result (IsReadError (Unit {0})) };
 
     /// Creates a file, which was not there, and locks it.
     ///

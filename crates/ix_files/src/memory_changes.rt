@@ -1,9 +1,11 @@
 //! What was done to files in memory.
 
-ghost use Rattle.std.specs.Prelude.{◌≡◌, IfOk, if◌then◌else◌};
+ghost use Rattle.std.specs.Prelude.{◌≡◌, ◌≢◌, ◌⊎◌, ℕ, Contains, List, IfOk, MatchOption, OnOk, map, if◌then◌else◌};
+ghost use Rattle.std.specs.String.{string_bytes};
 ghost use Rattle.ix_files.specs.Locations.{place_of};
 ghost use Rattle.ix_files.specs.MemoryChanges.{after_change, after_changes, entry_of, entry_or, is_place};
-ghost use Rattle.ix_files.specs.Slots.{Place, Slots};
+ghost use Rattle.ix_files.specs.Opened.{AreNamesIn};
+ghost use Rattle.ix_files.specs.Slots.{Nothing, Place, Slots};
 
 use crate::location::Location;
 use std::alloc::{AllocError, Global};
@@ -77,6 +79,63 @@ pub(crate) fn found_at<'c>(changes: &'c [Change], folder: &str, name: &str) -> F
         Some(found) => found,
         None => found_at(earlier, folder, name),
     }
+}
+
+/// The name at which a change left a file, if it did.
+fn filled_by(change: &Change) -> Option<&Location>
+    ensures { (slots : Slots) (place : Place) → (after_change change.now slots place).now ≢ Nothing
+        → ((slots place).now ≢ Nothing)
+        ⊎ MatchOption result ⊥ (λ at. place_of at.now ≡ place) }
+{
+    match change {
+        Change::Created(at) => Some(at),
+        Change::Synced(at, _) => Some(at),
+        Change::Renamed(_, to, _) => Some(to),
+        Change::Removed(_) | Change::Settled(_) => None,
+    }
+}
+
+/// Adds a name in the folder to its names, if there is a file after these changes.
+fn add_name(
+    alloc: Global,
+    names: &mut Vec<String>,
+    changes: &[Change],
+    folder: &str,
+    at: &Location,
+) -> Result<(), AllocError>
+    ensures keeps { OnOk result ((name : List ℕ)
+        → Contains (map string_bytes names.old.items) name
+        → Contains (map string_bytes names.new.items) name) }
+    ensures adds { OnOk result ((place_of at.now).folder ≡ folder.now
+        → (after_changes changes.now (place_of at.now)).now ≢ Nothing
+        → Contains (map string_bytes names.new.items) (place_of at.now).name) }
+{
+    if at.folder() != folder {
+        return Ok(());
+    }
+    if let Found::Nothing = found_at(changes, at.folder(), at.name()) {
+        return Ok(());
+    }
+    names.push(String::from_str(alloc, at.name())?)?;
+    Ok(())
+}
+
+/// The names of the files that are in a folder after these changes. A name may be there twice.
+pub(crate) fn names_in(
+    alloc: Global,
+    changes: &[Change],
+    folder: &str,
+) -> Result<Vec<String>, AllocError>
+    ensures { IfOk result (λ names.
+        AreNamesIn folder.now (map string_bytes names.items) (after_changes changes.now)) }
+{
+    let mut names = Vec::new(alloc);
+    for change in changes {
+        if let Some(at) = filled_by(change) {
+            add_name(alloc, &mut names, changes, folder, at)?;
+        }
+    }
+    Ok(names)
 }
 
 /// The same name of the same folder.

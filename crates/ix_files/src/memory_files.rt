@@ -1,17 +1,17 @@
 //! Files in memory.
 
-ghost use Rattle.std.specs.Prelude.{◌≡◌, ◌≢◌, Some, IfErr, IfOk, IfSome, OnOk};
+ghost use Rattle.std.specs.Prelude.{◌≡◌, ◌≢◌, [], ◌∷◌, Some, IfErr, IfOk, IfSome, OnErr, OnOk};
 ghost use Rattle.std.specs.Io.Cursor.{cursor_remaining};
 ghost use Rattle.ix_files.specs.Locations.{place_of};
 ghost use Rattle.ix_files.specs.MemoryViews.{folder_of};
 ghost use Rattle.ix_files.specs.Opened.{IsReadError};
-ghost use Rattle.ix_files.specs.Steps.{Removes, Renames, Settles, Syncs};
+ghost use Rattle.ix_files.specs.Steps.{Removes, Renames, Settles, Shares, Syncs};
 
 use crate::file_error::FileError;
 use crate::files::Files;
 use crate::kind::Kind;
 use crate::location::Location;
-use crate::memory_changes::{Change, Found, again, found_at};
+use crate::memory_changes::{Change, Found, again, found_at, names_in};
 use crate::memory_ranges::MemoryRanges;
 use crate::memory_shared::{Failures, MemoryShared};
 use crate::memory_writer::MemoryWriter;
@@ -25,7 +25,8 @@ use std::sync::atomic::{AtomicUsize, Ordering};
 /// file that is being written is locked until it is synced.
 ///
 /// The path of a file is its name in the folder `.`, and may have a `/`. The path of another folder is any text without
-/// a `/`: such a folder is empty at first, and its files are reached by their locations, not by paths.
+/// a `/`: such a folder is empty at first, and its files are reached by their locations, not by paths. A folder that was
+/// created is one that [`Files::kind`] knows, and is in no list of names. A name that is locked may be locked again.
 #[derive(Drop)]
 pub struct MemoryFiles {
     alloc: Global,
@@ -33,6 +34,8 @@ pub struct MemoryFiles {
     changes: Vec<Change>,
     faults: u64,
     streams: Vec<Stream>,
+    // the paths of those that were created
+    folders: Vec<String>,
     room: usize,
     failures: Failures,
 }
@@ -69,6 +72,7 @@ impl MemoryFiles {
             changes: Vec::new(alloc),
             faults: 0,
             streams: Vec::new(alloc),
+            folders: Vec::new(alloc),
             room: usize::MAX,
             failures: Failures {
                 calls,
@@ -83,7 +87,15 @@ impl MemoryFiles {
         ensures { OnOk result (((memory_view self.new).slots (place_at path.now)).now
             ≡ Kept bytes.now) }
     {
-        let at = self.location(path)?;
+        self.put_at("", path, bytes)
+    }
+
+    /// Puts a file with these bytes at a name in a folder, on the disk.
+    pub fn put_at(&mut self, folder: &str, name: &str, bytes: &[u8]) -> Result<(), AllocError>
+        ensures { OnOk result (((memory_view self.new).slots
+            (record { folder = folder.now; name = name.now })).now ≡ Kept bytes.now) }
+    {
+        let at = self.location(folder, name)?;
         let bytes = Vec::from_slice(self.alloc, bytes)?;
         self.changes.insert(0, Change::Synced(at, bytes))?;
         Ok(())
@@ -126,7 +138,15 @@ impl MemoryFiles {
         ensures { IfSome result (λ bytes. ((memory_view self.now).slots (place_at path.now)).now
             ≡ Kept bytes.now) }
     {
-        match found_at(&self.changes, "", path) {
+        self.bytes_at("", path)
+    }
+
+    /// The bytes of the file at a name in a folder, if there is one that nobody writes.
+    pub fn bytes_at(&self, folder: &str, name: &str) -> Option<&[u8]>
+        ensures { IfSome result (λ bytes. ((memory_view self.now).slots
+            (record { folder = folder.now; name = name.now })).now ≡ Kept bytes.now) }
+    {
+        match found_at(&self.changes, folder, name) {
             Found::Kept(bytes) => Some(bytes),
             Found::Nothing | Found::Growing => None,
         }
@@ -142,13 +162,30 @@ impl MemoryFiles {
         None
     }
 
-    /// The name to which a path leads.
-    fn location(&self, path: &str) -> Result<Location, AllocError>
-        ensures { IfOk result (λ location. place_of location ≡ place_at path.now) }
+    /// The name in a folder.
+    fn location(&self, folder: &str, name: &str) -> Result<Location, AllocError>
+        ensures { IfOk result (λ location.
+            place_of location ≡ record { folder = folder.now; name = name.now }) }
     {
-        let name = String::from_str(self.alloc, path)?;
-        let location = Location::new(self.alloc, String::new(self.alloc), name)?;
+        let folder = String::from_str(self.alloc, folder)?;
+        let name = String::from_str(self.alloc, name)?;
+        let location = Location::new(self.alloc, folder, name)?;
         Ok(location)
+    }
+
+    /// Whether a folder was created at a path.
+    fn has_folder(&self, path: &str) -> bool {
+        self.folders.iter().any(|folder| folder.as_str() == path)
+    }
+
+    /// What is read by ranges of a file with these bytes.
+    fn ranges(&self, bytes: &[u8]) -> Result<MemoryRanges, AllocError>
+        ensures { IfOk result (λ ranges. ranges.bytes.items ≡ bytes.now) }
+    {
+        Ok(MemoryRanges {
+            bytes: Vec::from_slice(self.alloc, bytes)?,
+            failures: self.failures.try_clone()?,
+        })
     }
 
     /// What is at a name.
@@ -187,6 +224,18 @@ impl MemoryFiles {
         FileError::Failed
     }
 
+    /// Counts a call that changes nothing, and a fault if it is to fail.
+    fn pass(&mut self) -> Result<(), FileError>
+        ensures stays { OnOk result (self.new ≡ self.old) }
+        ensures fault { OnErr result (IsFault self.old self.new) }
+        ensures failed { IfErr result (λ error. error ≡ Failed) }
+    {
+        if self.failures.is_next() {
+            return Err(self.fail());
+        }
+        Ok(())
+    }
+
     /// Makes a change, if there is one and the call is not to fail.
     fn make(&mut self, change: Option<Change>) -> Result<(), FileError>
         ensures made { IsMade change result self.old self.new }
@@ -207,6 +256,15 @@ impl MemoryFiles {
     {
         let at = again(self.alloc, at).ok()?;
         Some(Change::Synced(at, bytes))
+    }
+
+    /// The making of an empty file.
+    fn locking_of(&self, at: &Location) -> Result<Change, AllocError>
+        ensures { IfOk result
+            (λ change. IsStep (Shares (place_of at.now ∷ [])) self.now (Some change)) }
+    {
+        let at = again(self.alloc, at)?;
+        Ok(Change::Synced(at, Vec::new(self.alloc)))
     }
 
     /// The renaming of a file, if there is one that nobody writes, and memory.
@@ -271,6 +329,7 @@ impl Files for MemoryFiles {
             Found::Growing | Found::Kept(_) => Ok(Kind::File),
             Found::Nothing => match self.stream_bytes(path) {
                 Some(_) => Ok(Kind::Stream),
+                None if self.has_folder(path) => Ok(Kind::Folder),
                 None => Ok(Kind::Missing),
             },
         }
@@ -280,7 +339,7 @@ impl Files for MemoryFiles {
         if self.failures.is_next() {
             return Err(FileError::Failed);
         }
-        Ok(self.location(path)?)
+        Ok(self.location("", path)?)
     }
 
     fn locate_folder(&self, path: &str) -> Result<String, FileError> {
@@ -311,17 +370,51 @@ impl Files for MemoryFiles {
 
     fn open_ranges(&self, path: &str) -> Result<MemoryRanges, FileError> {
         match self.look(path)? {
-            Found::Kept(bytes) => Ok(MemoryRanges {
-                bytes: Vec::from_slice(self.alloc, bytes)?,
-                failures: self.failures.try_clone()?,
-            }),
+            Found::Kept(bytes) => Ok(self.ranges(bytes)?),
             Found::Growing | Found::Nothing => Err(FileError::Failed),
         }
+    }
+
+    fn open_at(&self, at: &Location) -> Result<Option<MemoryRanges>, FileError> {
+        self.failures.pass()?;
+        match self.found(at) {
+            Found::Kept(bytes) => Ok(Some(self.ranges(bytes)?)),
+            Found::Growing => Err(FileError::Failed),
+            Found::Nothing => Ok(None),
+        }
+    }
+
+    fn list(&self, folder: &str) -> Result<Vec<String>, FileError> {
+        self.failures.pass()?;
+        Ok(names_in(self.alloc, &self.changes, folder)?)
     }
 
     fn lock_folder(&self, _path: &str) -> Result<(), FileError> {
         if self.failures.is_next() {
             return Err(FileError::Failed);
+        }
+        Ok(())
+    }
+
+    fn lock(&mut self, at: &Location) -> Result<(), FileError> {
+        if !matches!(self.found(at), Found::Nothing) {
+            return self.pass();
+        }
+        let change = self.locking_of(at)?;
+        self.make(Some(change))
+    }
+
+    fn create_folder(&mut self, path: &str) -> Result<(), FileError> {
+        let is_free = matches!(found_at(&self.changes, "", path), Found::Nothing);
+        if path.contains('/') || !is_free {
+            return Err(self.fail());
+        }
+        self.pass()?;
+        if !self.has_folder(path) {
+            let path = String::from_str(self.alloc, path)?;
+            if self.folders.push(path).is_err() {
+                return Err(FileError::Memory);
+            }
         }
         Ok(())
     }

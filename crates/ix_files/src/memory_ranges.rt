@@ -16,6 +16,8 @@ pub struct MemoryRanges {
 impl ReadAt for MemoryRanges {
     ghost contents = { λ ranges. Some ranges.bytes.items };
 
+    ghost sure = { λ _. ⊥ };
+
     fn size(&self) -> Result<usize, FileError> {
         self.failures.pass()?;
         Ok(self.bytes.len())

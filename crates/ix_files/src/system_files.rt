@@ -1,9 +1,10 @@
 //! The files of the system.
 
-ghost use Rattle.std.specs.Prelude.{IfErr};
+ghost use Rattle.std.specs.Prelude.{IfErr, IsErrOf};
 ghost use Rattle.ix_files.specs.Opened.{IsReadError};
 ghost use Rattle.ix_files.specs.StopLaws.{stops_stops};
 ghost use Rattle.ix_files.specs.SystemViews.{nothing_sent, system_view};
+ghost use Rattle.ix_files.specs.declared.file_error.FileError.TheVariants.{Exists};
 
 use crate::file_error::FileError;
 use crate::files::Files;
@@ -109,6 +110,44 @@ impl<R: rt::Files<File = File> + AllocGlobal> SystemFiles<'_, R> {
         }
     }
 
+    /// Whether there is a regular file at a path, through links, and not nothing.
+    fn is_regular(&self, path: &str) -> Result<bool, FileError>
+        ensures { IfErr result (IsReadError (Unit {0})) }
+    {
+        match fs::metadata(self.rt, path) {
+            Ok(metadata) if metadata.is_file() => Ok(true),
+            Ok(_) => Err(FileError::Failed),
+            Err(error) if error.kind() == ErrorKind::NotFound => Ok(false),
+            Err(error) => Err(fault(&error)),
+        }
+    }
+
+    /// The file at a path, to be read by ranges; none if there is none.
+    fn ranges(&self, path: &str) -> Result<Option<SystemRanges>, FileError>
+        ensures { IfErr result (IsReadError (Unit {0})) }
+    {
+        // To open a pipe waits for its writer.
+        if !self.is_regular(path)? {
+            return Ok(None);
+        }
+        match File::open(self.rt, path) {
+            Ok(file) => Ok(Some(SystemRanges { file })),
+            // It was removed meanwhile.
+            Err(error) if error.kind() == ErrorKind::NotFound => Ok(None),
+            Err(error) => Err(fault(&error)),
+        }
+    }
+
+    /// Puts all names of a folder on the disk.
+    fn sync_names(&self, folder: &str) -> Result<(), FileError>
+        ensures { IfErr result (IsReadError (Unit {0})) }
+    {
+        match File::open(self.rt, folder) {
+            Ok(folder) => done(folder.sync_all()),
+            Err(_) => Err(FileError::Failed),
+        }
+    }
+
     /// Removes a regular file that no other program has locked, and returns whether it did.
     fn remove_if_unlocked(&self, path: &str) -> bool {
         match fs::symlink_metadata(self.rt, path) {
@@ -187,23 +226,65 @@ where
     }
 
     fn open_ranges(&self, path: &str) -> Result<SystemRanges, FileError> {
-        // To open a pipe waits for its writer.
-        match fs::metadata(self.rt, path) {
-            Ok(metadata) if metadata.is_file() => {}
-            Ok(_) => return Err(FileError::Failed),
-            Err(error) => return Err(fault(&error)),
+        match self.ranges(path)? {
+            Some(ranges) => Ok(ranges),
+            None => Err(FileError::Failed),
         }
-        let file = opened(File::open(self.rt, path))?;
-        Ok(SystemRanges { file })
+    }
+
+    fn open_at(&self, at: &Location) -> Result<Option<SystemRanges>, FileError> {
+        self.ranges(at.path())
+    }
+
+    fn list(&self, folder: &str) -> Result<Vec<String>, FileError> {
+        let entries = match fs::read_dir(&self.rt, folder) {
+            Ok(entries) => entries,
+            Err(error) => return Err(fault(&error)),
+        };
+        let mut names = Vec::new(self.rt.alloc());
+        for entry in entries {
+            match entry {
+                Ok(entry) => {
+                    let name = String::from_str(self.rt.alloc(), entry.file_name())?;
+                    if names.push(name).is_err() {
+                        return Err(FileError::Memory);
+                    }
+                }
+                // No name of the program has bytes that are not UTF-8.
+                Err(error) if error.kind() == ErrorKind::InvalidFilename => {}
+                Err(error) => return Err(fault(&error)),
+            }
+        }
+        Ok(names)
     }
 
     fn lock_folder(&self, path: &str) -> Result<File, FileError> {
-        let folder = opened(File::open(self.rt, path))?;
-        match folder.try_lock() {
-            Err(TryLockError::WouldBlock) => Err(FileError::Locked),
-            // There are file systems without locks.
-            _ => Ok(folder),
+        locked(opened(File::open(self.rt, path))?)
+    }
+
+    fn lock(&mut self, at: &Location) -> Result<File, FileError> {
+        // To open a pipe waits for its reader.
+        let _is_there = self.is_regular(at.path())?;
+        let mut options = OpenOptions::new();
+        options.write(true).create(true);
+        locked(opened(options.open(self.rt, at.path()))?)
+    }
+
+    fn create_folder(&mut self, path: &str) -> Result<(), FileError> {
+        match fs::create_dir(self.rt, path) {
+            Ok(()) => {}
+            Err(error) if error.kind() == ErrorKind::AlreadyExists => {}
+            Err(error) => return Err(fault(&error)),
         }
+        match fs::metadata(self.rt, path) {
+            Ok(metadata) if metadata.is_dir() => {}
+            Ok(_) => return Err(FileError::Failed),
+            Err(error) => return Err(fault(&error)),
+        }
+        // A link may lead to it.
+        let folder = self.canonical(path)?;
+        let (above, _) = split(folder.as_str());
+        self.sync_names(above)
     }
 
     fn create(&mut self, at: &Location) -> Result<SystemWriter<'r, R>, FileError> {
@@ -264,10 +345,7 @@ where
     }
 
     fn sync_folder(&mut self, folder: &str) -> Result<(), FileError> {
-        match File::open(self.rt, folder) {
-            Ok(folder) => done(folder.sync_all()),
-            Err(_) => Err(FileError::Failed),
-        }
+        self.sync_names(folder)
     }
 
     fn share(&mut self, names: Vec<Location>) -> Result<SystemShared<'r, R>, FileError> {
@@ -361,8 +439,21 @@ fn opened(file: io::Result<File>) -> Result<File, FileError>
     }
 }
 
+/// A file or a folder that is locked now.
+fn locked(file: File) -> Result<File, FileError>
+    ensures { ¬ (IsErrOf result Exists) }
+{
+    match file.try_lock() {
+        Err(TryLockError::WouldBlock) => Err(FileError::Locked),
+        // There are file systems without locks.
+        _ => Ok(file),
+    }
+}
+
 /// Whether a call of the system did what it was to do, which takes no memory of the program.
-fn done(outcome: io::Result<()>) -> Result<(), FileError> {
+fn done(outcome: io::Result<()>) -> Result<(), FileError>
+    ensures { IfErr result (IsReadError (Unit {0})) }
+{
     match outcome {
         Ok(()) => Ok(()),
         Err(_) => Err(FileError::Failed),

@@ -17,6 +17,8 @@ pub struct SystemRanges {
 impl ReadAt for SystemRanges {
     ghost contents = { λ _. None };
 
+    ghost sure = { λ _. ⊥ };
+
     fn size(&self) -> Result<usize, FileError> {
         match self.file.metadata() {
             Ok(metadata) => Ok(metadata.len() as usize),

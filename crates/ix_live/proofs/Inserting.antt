@@ -6,7 +6,7 @@ use Rattle.std.specs.Ordering.{nat_cmp}
 use Rattle.std.proofs.lemmas.Bool.{cases_lt}
 use Rattle.std.proofs.lemmas.List.Edits.{get_or-insert_above, get_or-insert_at, get_or-insert_below, length-insert}
 use Rattle.std.proofs.lemmas.List.Sorted.{searched}
-use Rattle.ix_live.proofs.Members.{not_falling}
+use Rattle.ix_live.proofs.Among.{not_falling}
 
 module _ (xs : List ℕ) (i y : ℕ) (within : i ≤ length xs) where
   inserted_has : (m : ℕ) → Contains xs m → Contains (insert xs i y) m

@@ -1,11 +1,11 @@
 pub mod Agreeing
 pub mod Ahead
+pub mod Among
 pub mod Appending
 pub mod Beginnings
 pub mod Falling
 pub mod FoundLemmas
 pub mod Inserting
-pub mod Members
 pub mod NameLemmas
 pub mod PairMerging
 pub mod Pasts

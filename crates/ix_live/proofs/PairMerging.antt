@@ -18,7 +18,7 @@ use Rattle.ix_merge.specs.Covers.{Cover}
 use Rattle.ix_merge.specs.Pieces.{ArePiecesOf, IsConcatenation, Piece, WritesConcatenation, heading_of_piece}
 use Rattle.ix_merge.proofs.Covering.{documents_under, laid_cover}
 use Rattle.ix_merge.proofs.Laying.{slice_get_left, slice_get_right}
-use Rattle.ix_live.specs.Segments.{of_documents}
+use Rattle.ix_scan.specs.ScansWithout.{of_documents}
 
 -- headings cover the numbers below one count
 one_count : (headings : List Heading) (n m : ℕ) → Cover headings n → Cover headings m → n ≡ m

@@ -19,7 +19,8 @@ use Rattle.ix_live.specs.Growing.{Grows, documents_under, tokens_of}
 use Rattle.ix_live.specs.LiveErrors.{IsOfBuilding, RefusesAddition, RefusesDocuments}
 use Rattle.ix_live.specs.Operations.{Operation, Add, Remove, added, addition_of, documents_added, numbers_removed, removed}
 use Rattle.ix_live.specs.Pieces.{Falls, Piece, after_adding, piece_at, pieces_in}
-use Rattle.ix_live.specs.Segments.{AreSegmentsOf, IsSegmentOf, joined, of_documents, rows_at, rows_in}
+use Rattle.ix_scan.specs.ScansWithout.{of_documents}
+use Rattle.ix_live.specs.Segments.{AreSegmentsOf, IsSegmentOf, joined, rows_at, rows_in}
 use Rattle.ix_live.specs.Versions.{IsStored, entry_of}
 use Rattle.ix_live.proofs.Beginnings.{joined_push}
 use Rattle.ix_live.proofs.Falling.{falls_after, falls_few, few_generations}

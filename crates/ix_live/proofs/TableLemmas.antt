@@ -9,7 +9,8 @@ use Rattle.ix_file.specs.Opened.{IsIndexOf, Opened}
 use Rattle.ix_file.specs.Sections.{FrontCoded}
 use Rattle.ix_live.specs.declared.segment.Segment.{Segment}
 use Rattle.ix_live.specs.Pieces.{Piece, piece_at, pieces_in, with_piece}
-use Rattle.ix_live.specs.Segments.{AreSegmentsOf, IsSegmentOf, joined, of_documents, rows_at, rows_in}
+use Rattle.ix_scan.specs.ScansWithout.{of_documents}
+use Rattle.ix_live.specs.Segments.{AreSegmentsOf, IsSegmentOf, joined, rows_at, rows_in}
 use Rattle.ix_live.specs.Tables.{AreIndexed, Merges}
 use Rattle.ix_live.proofs.Beginnings.{joined_push}
 use Rattle.ix_live.proofs.Falling.{with_alike, with_apart}
@@ -22,14 +23,14 @@ as_many stop (s ∷ ss) [] are = absurd are
 as_many stop (s ∷ ss) (l ∷ ls) are = ap suc (as_many stop ss ls are.1)
 
 -- the lists of segments, and that of one behind them
-record LastApart (stop : List (List ℕ)) (segments : List (Option Segment)) (segment : Option Segment) (lists : List (List Document)) : Type 0 where
+pub record LastApart (stop : List (List ℕ)) (segments : List (Option Segment)) (segment : Option Segment) (lists : List (List Document)) : Type 0 where
   pub earlier : List (List Document)
   pub last : List Document
   pub parted : lists ≡ earlier ++ last ∷ []
   pub of_earlier : AreSegmentsOf stop segments earlier
   pub of_last : IsSegmentOf stop segment last
 
-last_apart : (stop : List (List ℕ)) (segments : List (Option Segment)) (segment : Option Segment) (lists : List (List Document)) → AreSegmentsOf stop (segments ++ segment ∷ []) lists → LastApart stop segments segment lists
+pub last_apart : (stop : List (List ℕ)) (segments : List (Option Segment)) (segment : Option Segment) (lists : List (List Document)) → AreSegmentsOf stop (segments ++ segment ∷ []) lists → LastApart stop segments segment lists
 last_apart stop [] segment [] are = absurd are
 last_apart stop [] segment (l ∷ []) are = record { earlier = []; last = l; parted = refl; of_earlier = tt; of_last = are.0 }
 last_apart stop [] segment (l ∷ m ∷ ls) are = absurd are.1

@@ -1,19 +1,20 @@
 -- What versions keep, and what is found and named by it.
 use Rattle.std.proofs.Common.{◌≡◌, ℕ, List, [], Some, map, refl, sym, ap, ◌∙◌, subst, arith}
-use Rattle.std.specs.Prelude.{Option}
+use Rattle.std.specs.Prelude.{Contains, Option}
 use Rattle.ix_text.specs.Collections.{Document}
 use Rattle.ix_text.specs.Parts.{DocumentRow, row_of}
 use Rattle.ix_query.specs.Tree.{Tree}
+use Rattle.ix_scan.proofs.Members.{none_in_nil}
+use Rattle.ix_scan.proofs.ScanLemmas.{scan_of_same}
 use Rattle.ix_live.specs.declared.entry.Entry.{Entry}
 use Rattle.ix_live.specs.declared.segment.Segment.{Segment}
 use Rattle.ix_live.specs.Findings.{AreFound, with_removed}
 use Rattle.ix_live.specs.Names.{AreNamesOf, name_in_rows}
-use Rattle.ix_live.specs.Operations.{Operation, documents_added, state_after}
+use Rattle.ix_live.specs.Operations.{Operation, documents_added, numbers_removed, state_after}
 use Rattle.ix_live.specs.Segments.{rows_in}
 use Rattle.ix_live.specs.StateScans.{IsStateScan}
 use Rattle.ix_live.specs.Versions.{IsStored}
 use Rattle.ix_live.proofs.FoundLemmas.{rows_of_all}
-use Rattle.ix_live.proofs.Members.{none_in_nil}
 use Rattle.ix_live.proofs.NameLemmas.{map_some, names_same}
 
 module _ (stop : List (List ℕ)) (segments : List (Option Segment)) (entries : List Entry) (removed : List ℕ) (count tokens : ℕ) (operations : List Operation)
@@ -21,13 +22,7 @@ module _ (stop : List (List ℕ)) (segments : List (Option Segment)) (entries : 
   pub state_found : (query : Tree) (numbers : List ℕ) → AreFound segments removed query numbers → IsStateScan (state_after stop operations) query numbers
   state_found query numbers found =
       let scan = subst (λ (documents : List Document). IsStateScan (with_removed stop documents removed) query numbers) (sym stored.documents) (found stop stored.lists stored.indexed) in
-      record {
-        ascending = scan.ascending;
-        exact = λ n. (
-          (λ h. let r = (scan.exact n).0 h in (r.0, λ gone. r.1 ((stored.all_removed n).1 gone))),
-          λ h. (scan.exact n).1 (h.0, λ gone. h.1 ((stored.all_removed n).0 gone)),
-        );
-      }
+      scan_of_same (state_after stop operations).collection (Contains removed) (Contains (numbers_removed operations)) query numbers stored.all_removed scan
 
   pub rows_are : rows_in segments ≡ map row_of (documents_added operations)
   rows_are = rows_of_all stop segments stored.lists stored.indexed ∙ ap (map row_of) (sym stored.documents)

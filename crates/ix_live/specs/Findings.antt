@@ -1,26 +1,23 @@
 -- What is found in segments one after another.
-use Rattle.std.specs.Prelude.{◌≡◌, ℕ, ◌+◌, ◌==◌, Bool, not, List, ◌++◌, map, filter, Option}
+use Rattle.std.specs.Prelude.{◌≡◌, ℕ, ◌==◌, Bool, not, List, ◌++◌, Option}
 use Rattle.std.specs.List.{list_any}
 use Rattle.ix_text.specs.Collections.{Document}
 use Rattle.ix_query.specs.Tree.{Tree}
 use Rattle.ix_query.specs.Scans.{IsScan}
+use Rattle.ix_scan.specs.ScansWithout.{kept_from, of_documents}
 use Rattle.ix_live.specs.Operations.{State}
 use Rattle.ix_live.specs.StateScans.{IsStateScan}
-use Rattle.ix_live.specs.Segments.{AreSegmentsOf, IsSegmentOf, joined, of_documents}
+use Rattle.ix_live.specs.Segments.{AreSegmentsOf, IsSegmentOf, joined}
 use Rattle.ix_live.specs.declared.segment.Segment.{Segment}
 
 -- the number is none of those that are removed
 abbrev pub is_kept : List ℕ → ℕ → Bool
-is_kept removed number = not (list_any (λ other. other == number) removed)
-
--- numbers counted from a first one on, those that are removed left out
-abbrev pub kept_from : List ℕ → ℕ → List ℕ → List ℕ
-kept_from removed first numbers = filter (is_kept removed) (map (λ number. first + number) numbers)
+is_kept removed number = not (list_any (λ other. number == other) removed)
 
 -- What a query finds in a segment, whose documents count from a first number on, was put behind what was found before.
 pub record FindsIn (segment : Option Segment) (first : ℕ) (removed : List ℕ) (query : Tree) (before after : List ℕ) : Type 0 where
   pub numbers : List ℕ
-  pub gained : after ≡ before ++ kept_from removed first numbers
+  pub gained : after ≡ before ++ kept_from (is_kept removed) first numbers
   pub scanned : (stop : List (List ℕ)) (documents : List Document) → IsSegmentOf stop segment documents → IsScan (of_documents stop documents) query numbers
 
 -- the state of documents under a stop set, of which some are removed

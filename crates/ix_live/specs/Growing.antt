@@ -6,7 +6,8 @@ use Rattle.ix_file.specs.Opened.{IsIndexOf}
 use Rattle.ix_file.specs.Sections.{FrontCoded}
 use Rattle.ix_merge.specs.Rows.{tokens_in}
 use Rattle.ix_live.specs.Pieces.{after_adding, piece_at, pieces_in}
-use Rattle.ix_live.specs.Segments.{AreSegmentsOf, joined, of_documents}
+use Rattle.ix_scan.specs.ScansWithout.{of_documents}
+use Rattle.ix_live.specs.Segments.{AreSegmentsOf, joined}
 use Rattle.ix_live.specs.declared.segment.Segment.{Segment}
 
 -- the documents of texts under a stop set
@@ -17,10 +18,10 @@ documents_under stop texts = (collection_of stop texts).documents
 abbrev pub HaveDocuments : List (List ℕ) → List (Option Segment) → Type 0
 HaveDocuments stop segments = (lists : List (List Document)) × AreSegmentsOf stop segments lists
 
--- The segment at the place takes the place of all segments from `left` on, and has the documents behind theirs.
-pub record Grows (stop : List (List ℕ)) (segments : List (Option Segment)) (documents : List Document) (left : ℕ) (place : Option Segment) : Type 0 where
+-- The segment in the slot takes the place of all segments from `left` on, and has the documents behind theirs.
+pub record Grows (stop : List (List ℕ)) (segments : List (Option Segment)) (documents : List Document) (left : ℕ) (slot : Option Segment) : Type 0 where
   pub segment : Segment
-  pub is : place ≡ Some segment
+  pub is : slot ≡ Some segment
   pub within : left ≤ length segments
   pub pieces : take left (pieces_in segments) ++ piece_at (Some segment) ∷ [] ≡ after_adding (length documents) (pieces_in segments)
   pub merged : (lists : List (List Document)) → AreSegmentsOf stop segments lists → IsIndexOf segment.volume FrontCoded (of_documents stop (joined (drop left lists) ++ documents))

@@ -15,7 +15,7 @@ shown_in shown = arc_value shown.current
 abbrev pub GoesOn : Known → Known → Type 0
 GoesOn one other = AreOfOneIndex one other × IsPrefix one.history.publishes other.history.publishes
 
--- who knows a history, knows a beginning of this one
+-- a history that is known is a prefix of this one
 abbrev pub Agrees : Known → Option Known → Type 0
 Agrees shown None = ⊤
 Agrees shown (Some known) = GoesOn known shown

@@ -1,9 +1,10 @@
 -- Segments: index texts that follow one another, and the documents that they are the indexes of.
 use Rattle.std.specs.Prelude.{ℕ, ⊤, List, [], ◌∷◌, flat_map, Option, Some, None}
-use Rattle.ix_text.specs.Collections.{Collection, Document}
+use Rattle.ix_text.specs.Collections.{Document}
 use Rattle.ix_text.specs.Parts.{DocumentRow}
 use Rattle.ix_file.specs.Opened.{IsIndexOf}
 use Rattle.ix_file.specs.Sections.{FrontCoded}
+use Rattle.ix_scan.specs.ScansWithout.{of_documents}
 use Rattle.ix_live.specs.declared.segment.Segment.{Segment}
 
 -- the names and token counts of the documents of a segment
@@ -14,10 +15,6 @@ rows_at (Some segment) = segment.volume.parts.rows
 -- those of all segments, by number
 abbrev pub rows_in : List (Option Segment) → List DocumentRow
 rows_in segments = flat_map rows_at segments
-
--- a collection of a stop set and documents
-abbrev pub of_documents : List (List ℕ) → List Document → Collection
-of_documents stop documents = record { stop = stop; documents = documents }
 
 -- there is a segment, and it is the index of these documents under the stop set
 abbrev pub IsSegmentOf : List (List ℕ) → Option Segment → List Document → Type 0

@@ -3,7 +3,8 @@ use Rattle.std.specs.Prelude.{ℕ, List, ◌++◌, drop, Option}
 use Rattle.ix_text.specs.Collections.{Document}
 use Rattle.ix_file.specs.Opened.{IsIndexOf, Opened}
 use Rattle.ix_file.specs.Sections.{FrontCoded}
-use Rattle.ix_live.specs.Segments.{AreSegmentsOf, joined, of_documents}
+use Rattle.ix_scan.specs.ScansWithout.{of_documents}
+use Rattle.ix_live.specs.Segments.{AreSegmentsOf, joined}
 use Rattle.ix_live.specs.declared.segment.Segment.{Segment}
 
 -- The segments and an index are those of some documents under one stop set.

@@ -10,12 +10,12 @@ ghost use Rattle.ix_live.specs.Segments.{joined};
 ghost use Rattle.ix_live.specs.declared.live_error.LiveError.TheVariants.{Memory};
 
 use crate::edition::Edition;
-use crate::front::Front;
 use crate::live_error::LiveError;
 use crate::log::Head;
+use crate::log_prefix::LogPrefix;
 use crate::news::News;
 use crate::rule::EditionWriter;
-use crate::showing::show_edition;
+use crate::show::show_edition;
 use crate::version::Version;
 use core::mem::replace_with;
 use ix_build::Plan;
@@ -25,15 +25,15 @@ use std::marker::Model;
 use std::sync::{Arc, Wait};
 use std::thread::Threads;
 
-/// Adds documents to a live index, removes documents, and publishes both for the searchers. It ends by `close` alone.
-/// Contracts see its stop set, which live index it is, the operations of each publish and those that are pending, and the
-/// pieces of all documents.
+/// Adds documents to a live index, removes documents, and publishes both for the searchers. It ends
+/// by `close` alone. Contracts see its stop set, which live index it is, the operations of each
+/// publish and those that are pending, and the pieces of all documents.
 pub struct Indexer {
     writer: EditionWriter,
     // what is published and, behind it, what is pending
     next: Version,
     // all of the log
-    front: Front,
+    prefix: LogPrefix,
     head: Head,
     alloc: Global,
 }
@@ -44,10 +44,10 @@ impl Model for Indexer {
 
     ghost Value = { IndexerValue };
 
-    ghost view = { λ indexer. indexer_of indexer.next indexer.front };
+    ghost view = { λ indexer. indexer_of indexer.next indexer.prefix };
 
     ghost invariant = { λ indexer. IsAhead (shown_in indexer.writer.desk.shown.value)
-        indexer.next indexer.front indexer.head };
+        indexer.next indexer.prefix indexer.head };
 }
 
 impl Indexer {
@@ -56,26 +56,26 @@ impl Indexer {
         alloc: Global,
         writer: EditionWriter,
         next: Version,
-        front: Front,
+        prefix: LogPrefix,
         head: Head,
     ) -> Indexer
-        requires { IsAhead (shown_in writer.desk.shown.value) next front head }
-        ensures { result ≡ indexer_of next front }
+        requires { IsAhead (shown_in writer.desk.shown.value) next prefix head }
+        ensures { result ≡ indexer_of next prefix }
     {
         Indexer {
             writer,
             next,
-            front,
+            prefix,
             head,
             alloc,
         }
     }
 
-    /// Adds documents behind all others; they are pending until they are published. A collection without documents
-    /// changes nothing.
+    /// Adds documents behind all others; they are pending until they are published. A collection
+    /// without documents changes nothing.
     ///
-    /// `TooLarge` if there would be more than 2^28 documents or tokens, `Build` if the documents are not built, and
-    /// `Memory` if out of memory. All is then as it was.
+    /// `TooLarge` if there would be more than 2^28 documents or tokens, `Build` if the documents
+    /// are not built, and `Memory` if out of memory. All is then as it was.
     pub fn add<R: Threads + Wait + Sync>(
         &mut self,
         rt: &R,
@@ -99,8 +99,8 @@ impl Indexer {
         self.next.add(rt, self.alloc, documents, plan)
     }
 
-    /// Removes the document of a number; the removal is pending until it is published. The document keeps its number
-    /// and its name. A second removal changes nothing but the history.
+    /// Removes the document of a number; the removal is pending until it is published. The document
+    /// keeps its number and its name. A second removal changes nothing but the history.
     ///
     /// `Number` if there is no such document, and `Memory` if out of memory. All is then as it was.
     pub fn remove(&mut self, number: u32) -> Result<(), LiveError>
@@ -117,8 +117,8 @@ impl Indexer {
         self.next.remove(number)
     }
 
-    /// Publishes all that is pending at once, at the end of the history. It waits for the searchers that still take the
-    /// edition from before the last publish, but for no query.
+    /// Publishes all that is pending at once, at the end of the history. It waits for the searchers
+    /// that still take the edition from before the last publish, but for no query.
     ///
     /// `Memory` if out of memory. All is then as it was, and no searcher sees what is pending.
     pub fn publish<R: Wait>(&mut self, rt: &R) -> Result<News, LiveError>
@@ -137,8 +137,8 @@ impl Indexer {
         ensures kept { OnErr result (self.new ≡ self.old) }
         ensures error { IfErr result (λ error. error ≡ Memory) }
     {
-        self.front = self.front.extend(rt, &self.head, self.next.past());
-        let edition = Edition::of(self.alloc, &self.next, self.front.again())?;
+        self.prefix = self.prefix.extend(rt, &self.head, self.next.past());
+        let edition = Edition::of(self.alloc, &self.next, self.prefix.again())?;
         let shown = Arc::try_clone(&edition)?;
         replace_with(&mut self.writer, (rt, shown), show_edition::<R>)?;
         self.next.settle();
@@ -154,16 +154,16 @@ impl Indexer {
         self.next.generation(place)
     }
 
-    /// Ends the indexer, once no searcher takes a version any more. What is pending is dropped, and no searcher answers
-    /// from now on.
+    /// Ends the indexer, once no searcher takes a version any more. What is pending is dropped, and
+    /// no searcher answers from now on.
     ///
-    /// There is no clause: the indexer is gone and nothing comes back, so a clause would have no value to speak of. That
-    /// a searcher finds no version any more is for its own call to say, which then returns `Memory`.
+    /// There is no clause, since the indexer is gone and nothing comes back. The next answer of a
+    /// searcher is `Memory`.
     pub fn close<R: Wait>(self, rt: &R) {
         let Self {
             writer,
             next: _next,
-            front: _front,
+            prefix: _prefix,
             head: _head,
             alloc: _,
         } = self;

@@ -1,5 +1,5 @@
 //! The log of a live index, which exists in proofs alone: the operations of each publish, in order.
-use crate::front::Front;
+use crate::log_prefix::LogPrefix;
 use crate::past::Past;
 use logbook::{Gain, Plain, Play, Rule, Word};
 use std::marker::Model;
@@ -55,13 +55,13 @@ impl Play<LogEntry, u64> for Appending {
     ghost then = { Appends };
 }
 
-/// The length of the log. Who has it can append.
+/// The length of the log. Its owner can append.
 pub type Head = Word<LogEntry, u64, Law>;
 
 /// What was done to a live index and is not yet in its log.
 #[derive(Drop)]
 pub struct Rest<'a> {
-    pub front: &'a Front,
+    pub prefix: &'a LogPrefix,
     pub past: &'a Past,
 }
 
@@ -69,7 +69,7 @@ impl<'a> Plain<Rest<'a>, LogEntry, u64> for Appending {
     ghost use Rattle.std.specs.Prelude.{None};
     ghost use Rattle.ix_live.specs.Logs.{rest_of};
 
-    ghost ask = { λ rest. rest_of rest.front.now rest.past.now };
+    ghost ask = { λ rest. rest_of rest.prefix.now rest.past.now };
 
     ghost state = { λ rest. None };
 }

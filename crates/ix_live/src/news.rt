@@ -15,7 +15,8 @@ use std::alloc::Global;
 use std::marker::Model;
 use std::sync::Arc;
 
-/// What a publish returns: the edition that it published. Contracts see its stop set and its history.
+/// What a publish returns: the edition that it published. Contracts see its stop set and its
+/// history.
 #[derive(Drop)]
 pub struct News {
     pub(crate) edition: Arc<Edition, Global>,
@@ -31,8 +32,8 @@ impl Model for News {
 }
 
 impl News {
-    /// The numbers of the documents that satisfy a query and are not removed, ascending, after just the history of the
-    /// news, whatever was published since.
+    /// The numbers of the documents that satisfy a query and are not removed, ascending, after just
+    /// the history of the news, whatever was published since.
     ///
     /// `Memory` if out of memory.
     pub fn answer(&self, alloc: Global, query: &Query) -> Result<Vec<u32>, Memory>
@@ -43,9 +44,11 @@ impl News {
         self.edition.find(alloc, query)
     }
 
-    /// The names of the documents of these numbers, removed ones too, after just the history of the news.
+    /// The names of the documents of these numbers, removed ones too, after just the history of the
+    /// news.
     ///
-    /// `Number` with the place of the first number that is no document's there; `Memory` if out of memory.
+    /// `Number` with the place of the first number that is no document's there; `Memory` if out of
+    /// memory.
     pub fn names(&self, alloc: Global, numbers: &[u32]) -> Result<Vec<String>, NameError>
         ensures names { IfOk result (λ names.
             AreNamesOf (documents_added (operations_in self.now.history)) numbers.now

@@ -10,15 +10,15 @@ use std::marker::Model;
 use std::sync::Arc;
 
 /// What a thread knows: a history. No value of it is made.
-pub struct Told {}
+pub struct KnownHistory {}
 
-impl Model for Told {
+impl Model for KnownHistory {
     ghost use Rattle.std.specs.Prelude.{[]};
     ghost use Rattle.ix_live.specs.Histories.{Known};
 
     ghost Value = { Known };
 
-    ghost view = { λ told. record {
+    ghost view = { λ known. record {
       stop = [];
       history = record {
         book = record { number = 0; log_name = 0; cells_name = 0 };
@@ -30,7 +30,7 @@ impl Model for Told {
 /// The rule.
 pub struct Rises;
 
-impl Protocol<Shown, Option<Told>> for Rises {
+impl Protocol<Shown, Option<KnownHistory>> for Rises {
     ghost use Rattle.std.specs.Prelude.{None};
     ghost use Rattle.ix_live.specs.Identities.{AllAgree};
 
@@ -39,10 +39,11 @@ impl Protocol<Shown, Option<Told>> for Rises {
     ghost first = { None };
 }
 
-/// Who looks knows from then on the history that is shown, and so does the writer who changes what is shown.
+/// A reader that looks knows the history that is shown from then on, and so does the writer that
+/// changes what is shown.
 pub struct Looking;
 
-impl Outcome<Shown, Option<Told>> for Looking {
+impl Outcome<Shown, Option<KnownHistory>> for Looking {
     ghost use Rattle.ix_live.specs.Identities.{Finds};
 
     ghost then = { Finds };
@@ -51,7 +52,7 @@ impl Outcome<Shown, Option<Told>> for Looking {
 /// What the writer knows, it passes on and keeps.
 pub struct Copied;
 
-impl Split<Option<Told>> for Copied {
+impl Split<Option<KnownHistory>> for Copied {
     ghost left = { λ known. known };
 
     ghost right = { λ known. known };
@@ -60,16 +61,16 @@ impl Split<Option<Told>> for Copied {
 /// A reader takes what it is given.
 pub struct Taken;
 
-impl Join<Option<Told>> for Taken {
+impl Join<Option<KnownHistory>> for Taken {
     ghost use Rattle.std.specs.Prelude.{None};
 
-    ghost both = { λ known told. told };
+    ghost both = { λ known other. other };
 
     ghost spent = { None };
 }
 
-/// Who shows editions.
-pub type EditionWriter = Writer<Shown, Arc<Edition, Global>, Option<Told>, Rises>;
+/// Shows editions.
+pub type EditionWriter = Writer<Shown, Arc<Edition, Global>, Option<KnownHistory>, Rises>;
 
-/// Who takes the edition that is shown.
-pub type EditionReader = Reader<Shown, Option<Told>, Rises>;
+/// Takes the edition that is shown.
+pub type EditionReader = Reader<Shown, Option<KnownHistory>, Rises>;

@@ -13,7 +13,7 @@ use crate::edition::Edition;
 use crate::name_error::NameError;
 use crate::news::News;
 use crate::rule::EditionReader;
-use crate::showing::take_edition;
+use crate::show::take_edition;
 use core::mem::replace_with;
 use ix_query::Query;
 use ix_text::Memory;
@@ -21,8 +21,8 @@ use std::alloc::Global;
 use std::marker::Model;
 use std::sync::Arc;
 
-/// Answers queries to a live index, from histories that never go back. Contracts see the stop set and the history of
-/// which it knows.
+/// Answers queries to a live index, from histories that never go back. Contracts see the stop set
+/// and the history of which it knows.
 #[derive(Drop)]
 pub struct Searcher {
     reader: EditionReader,
@@ -78,8 +78,9 @@ impl Searcher {
         Ok(())
     }
 
-    /// The numbers of the documents that satisfy a query and are not removed, ascending, after a history that was
-    /// published. It begins with all that the searcher knew, and the searcher knows of it from now on.
+    /// The numbers of the documents that satisfy a query and are not removed, ascending, after a
+    /// history that was published. It begins with all that the searcher knew, and the searcher
+    /// knows of it from now on.
     ///
     /// `Memory` if out of memory, and once the indexer was closed. It then knows what it knew.
     pub fn answer(&mut self, query: &Query) -> Result<Vec<u32>, Memory>
@@ -96,10 +97,11 @@ impl Searcher {
         Ok(numbers)
     }
 
-    /// The names of the documents of these numbers, removed ones too, after the history that the searcher knows of: that
-    /// of its last answer, if it has learned nothing since.
+    /// The names of the documents of these numbers, removed ones too, after the history that the
+    /// searcher knows of: that of its last answer, if it has learned nothing since.
     ///
-    /// `Number` with the place of the first number that is no document's there; `Memory` if out of memory.
+    /// `Number` with the place of the first number that is no document's there; `Memory` if out of
+    /// memory.
     pub fn names(&self, numbers: &[u32]) -> Result<Vec<String>, NameError>
         ensures names { IfOk result (λ names.
             AreNamesOf (documents_added (operations_in self.now.history)) numbers.now
@@ -121,8 +123,8 @@ impl Searcher {
         if shown.covers(&*self.latest) {
             return Ok(shown);
         }
-        // What is shown begins with all that was published before, so this does not come. If what was learned were newer,
-        // it would be the answer.
+        // What is shown begins with all that was published before, so this does not happen. If
+        // what was learned were newer, it would be the answer.
         Ok(Arc::try_clone(&self.latest)?)
     }
 }

@@ -15,56 +15,57 @@ pub struct Segment {
     pub volume: Volume,
 }
 
-/// A place of a table of segments: it is empty, or has a segment, which it shares with places of other tables.
+/// A slot of a table of segments: it is empty, or has a segment, which it shares with slots of
+/// other tables.
 #[derive(Drop)]
-pub struct Place {
+pub struct Slot {
     segment: Option<Arc<Segment, Global>>,
 }
 
-impl Model for Place {
+impl Model for Slot {
     ghost use Rattle.std.specs.Prelude.{Option, option_map};
     ghost use Rattle.std.specs.Arc.{arc_value};
     ghost use Rattle.ix_live.specs.declared.segment.Segment.{Segment};
 
     ghost Value = { Option Segment };
 
-    ghost view = { λ place. option_map arc_value place.segment };
+    ghost view = { λ slot. option_map arc_value slot.segment };
 }
 
-impl Default for Place {
-    /// An empty place.
-    fn default() -> Place {
-        Place { segment: None }
+impl Default for Slot {
+    /// An empty slot.
+    fn default() -> Slot {
+        Slot { segment: None }
     }
 }
 
-impl Place {
-    /// The place of a new segment.
-    pub fn new(alloc: Global, segment: Segment) -> Result<Place, Memory>
-        ensures { IfOk result (λ place. place ≡ Some segment) }
+impl Slot {
+    /// The slot of a new segment.
+    pub fn new(alloc: Global, segment: Segment) -> Result<Slot, Memory>
+        ensures { IfOk result (λ slot. slot ≡ Some segment) }
     {
         let segment = Arc::new(alloc, segment)?;
-        Ok(Place {
+        Ok(Slot {
             segment: Some(segment),
         })
     }
 
-    /// A place with the same segment.
-    pub fn again(&self) -> Result<Place, Memory>
-        ensures { IfOk result (λ place. place ≡ self.now) }
+    /// A slot with the same segment.
+    pub fn again(&self) -> Result<Slot, Memory>
+        ensures { IfOk result (λ slot. slot ≡ self.now) }
     {
         match &self.segment {
-            None => Ok(Place { segment: None }),
+            None => Ok(Slot { segment: None }),
             Some(segment) => {
                 let segment = Arc::try_clone(segment)?;
-                Ok(Place {
+                Ok(Slot {
                     segment: Some(segment),
                 })
             }
         }
     }
 
-    /// The segment, or none if the place is empty.
+    /// The segment, or none if the slot is empty.
     pub fn segment(&self) -> Option<&Segment>
         ensures { MatchOption result (self.now ≡ None) (λ segment. self.now ≡ Some segment.now) }
     {
@@ -74,7 +75,7 @@ impl Place {
         }
     }
 
-    /// The generation of the segment, 0 if the place is empty.
+    /// The generation of the segment, 0 if the slot is empty.
     pub fn generation(&self) -> u32
         ensures { result ≡ generation_at self.now }
     {

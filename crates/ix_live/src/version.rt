@@ -12,14 +12,14 @@ ghost use Rattle.ix_live.specs.Pieces.{Falls, after_adding};
 ghost use Rattle.ix_live.specs.StateScans.{IsStateScan};
 
 use crate::entry::Entry;
-use crate::finding::find_documents;
-use crate::growing::grow;
+use crate::find_documents::find_documents;
+use crate::find_names::{find_names, find_unknown};
+use crate::grow::grow;
+use crate::insert_number::insert_number;
 use crate::live_error::LiveError;
 use crate::name_error::NameError;
-use crate::naming::{find_names, find_unknown};
 use crate::past::Past;
-use crate::removing::insert_number;
-use crate::segment::Place;
+use crate::segment::Slot;
 use arrayvec::ArrayVec;
 use ix_build::Plan;
 use ix_query::Query;
@@ -29,11 +29,12 @@ use std::marker::Model;
 use std::sync::{Arc, Wait};
 use std::thread::Threads;
 
-/// A live index after all that was done to it. Contracts see its stop set, what was done, and the pieces of its documents.
+/// A live index after all that was done to it. Contracts see its stop set, what was done, and the
+/// pieces of its documents.
 #[derive(Drop)]
 pub struct Version {
     stop: Arc<StopList, Global>,
-    segments: ArrayVec<Place, 32>,
+    segments: ArrayVec<Slot, 32>,
     // the operations, without their documents
     entries: Vec<Entry>,
     // the numbers of the documents that are removed, ascending
@@ -110,8 +111,8 @@ impl Version {
 
     /// Adds documents behind all others. A collection without documents changes nothing.
     ///
-    /// `TooLarge` if there would be more than 2^28 documents or tokens, `Build` if the documents are not built, and
-    /// `Memory` if out of memory. All is then as it was.
+    /// `TooLarge` if there would be more than 2^28 documents or tokens, `Build` if the documents
+    /// are not built, and `Memory` if out of memory. All is then as it was.
     pub fn add<R: Threads + Wait + Sync>(
         &mut self,
         rt: &R,
@@ -145,15 +146,15 @@ impl Version {
         self.entries.reserve(1)?;
         self.past = self.past.with_addition(&self.stop, documents);
         self.segments.truncate(grown.left);
-        self.segments.push(grown.place);
+        self.segments.push(grown.slot);
         self.entries.push_reserved(Entry::Added(count as u32));
         self.count += count as u32;
         self.tokens += grown.tokens;
         Ok(())
     }
 
-    /// Removes the document of a number, which keeps its number and its name. A second removal changes nothing but
-    /// what was done.
+    /// Removes the document of a number, which keeps its number and its name. A second removal
+    /// changes nothing but what was done.
     ///
     /// `Number` if there is no such document, and `Memory` if out of memory. All is then as it was.
     pub fn remove(&mut self, number: u32) -> Result<(), LiveError>
@@ -212,7 +213,8 @@ impl Version {
 
     /// The names of the documents of these numbers, removed ones too.
     ///
-    /// `Number` with the place of the first number that is no document's; `Memory` if out of memory.
+    /// `Number` with the place of the first number that is no document's; `Memory` if out of
+    /// memory.
     pub fn names(&self, alloc: Global, numbers: &[u32]) -> Result<Vec<String>, NameError>
         ensures names { IfOk result (λ names.
             AreNamesOf (documents_added (operations_of self.now.past)) numbers.now
@@ -228,12 +230,12 @@ impl Version {
 }
 
 /// A table of the same segments.
-fn share_segments(segments: &ArrayVec<Place, 32>) -> Result<ArrayVec<Place, 32>, Memory>
+fn share_segments(segments: &ArrayVec<Slot, 32>) -> Result<ArrayVec<Slot, 32>, Memory>
     ensures { IfOk result (λ table. table.items ≡ segments.now.items) }
 {
     let mut table = ArrayVec::new();
-    for place in segments.as_slice() {
-        table.push(place.again()?);
+    for slot in segments.as_slice() {
+        table.push(slot.again()?);
     }
     Ok(table)
 }

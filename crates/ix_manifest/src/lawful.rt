@@ -1,5 +1,5 @@
 //! Which manifests are lawful.
-ghost use Rattle.std.specs.Prelude.{◌≡◌, ◌↔◌, IsTrue, IfSome, IfNone, All, AllPairs, Any};
+ghost use Rattle.std.specs.Prelude.{◌≡◌, ◌↔◌, ◌+◌, ◌-◌, ◌^◌, min, IsTrue, IfSome, IfNone, All, AllPairs, Any};
 ghost use Rattle.hex.specs.Hex.{IsBytes};
 ghost use Rattle.ix_manifest.specs.ManifestText.{AreFields, AreSegments, IsManifest, IsRemovals, IsSegment, view_of};
 
@@ -41,7 +41,9 @@ impl Manifest {
 }
 
 /// The number of the line at a place behind the head.
-pub fn line_at(place: usize) -> u64 {
+pub fn line_at(place: usize) -> u64
+    ensures { result ≡ min (HEAD_LINES + place + 1) (2 ^ 64 - 1) }
+{
     HEAD_LINES.saturating_add(place as u64).saturating_add(1)
 }
 

@@ -13,10 +13,10 @@
 //! ```
 //!
 //! Each line ends in LF. `next` is the number of the next file that is written, above those of all files here. A segment
-//! has its file, its documents, the bytes of the file and their SHA-256; the removals have their file, how many
-//! documents are removed, the bytes of the file and their SHA-256. There may be no segment, and the line of the removals
-//! may be missing. Behind `end` is the SHA-256 of all bytes before that line. Numbers are decimal without leading zeros,
-//! and digests are 64 lower-case hexadecimal digits.
+//! has its file, its documents, the bytes of the file and their SHA-256; the removals have their file, how many lines the
+//! file has, the bytes of the file and their SHA-256. There may be no segment, and the line of the removals may be
+//! missing. Behind `end` is the SHA-256 of all bytes before that line. Numbers are decimal without leading zeros, and
+//! digests are 64 lower-case hexadecimal digits.
 //!
 //! [`Manifest::text`] writes a manifest, and [`read`] reads one.
 //!

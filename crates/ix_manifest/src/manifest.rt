@@ -18,7 +18,7 @@ pub struct Segment {
 pub struct Removals {
     /// The number of the file.
     pub file: u64,
-    /// How many documents are removed.
+    /// How many lines it has.
     pub count: u64,
     /// How many bytes the file has.
     pub bytes: u64,

@@ -61,9 +61,9 @@ struct Workspace<M: Maker> {
 fn prepare<M: Maker>(alloc: Global, workers: usize, count: usize) -> Result<Workspace<M>, WorkError>
     requires { (0 < workers) × (workers ≤ 64) }
     ensures handles { IfOk result (λ workspace. (workspace.handles.items ≡ [])
-        × (workers ≤ vec_capacity workspace.handles)) }
+        × (vec_capacity workspace.handles ≡ workers)) }
     ensures pieces { IfOk result (λ workspace. (workspace.pieces.items ≡ [])
-        × (count ≤ vec_capacity workspace.pieces)) }
+        × (vec_capacity workspace.pieces ≡ count)) }
     ensures board { IfOk result (λ workspace. (workspace.board.count ≡ count)
         × (workspace.board.workers ≡ workers)) }
     ensures desks { IfOk result (λ workspace.

@@ -29,7 +29,7 @@ impl<M: Maker> Promise<(M, Desk<M::Piece>, Report)> for Begun<M> {
 pub(crate) type Handle<M> = PromisedHandle<(M, Desk<<M as Maker>::Piece>, Report), Begun<M>>;
 
 // Starts a thread for each maker and its desk, the last one first. Err: the number of the worker whose thread could not
-// be started.
+// be started, behind which all were.
 fn start_all<'s, E: 's, M: Maker + 's, R: Threads + Wait + Sync + 's>(
     scope: &Scope<'s, E>,
     rt: &'s R,
@@ -50,7 +50,8 @@ fn start_all<'s, E: 's, M: Maker + 's, R: Threads + Wait + Sync + 's>(
     ensures emptied { OnOk result ((makers.new.items ≡ []) × (desks.new.items ≡ [])) }
     ensures makers_room { vec_capacity makers.new ≡ vec_capacity makers.old }
     ensures desks_room { vec_capacity desks.new ≡ vec_capacity desks.old }
-    ensures refused { IfErr result (λ worker. worker < vec_len makers.old) }
+    ensures refused { IfErr result
+        (λ worker. worker + vec_len handles.new + 1 ≡ vec_len makers.old) }
 {
     while let Some(maker) = makers.pop() {
         let Some(desk) = desks.pop() else {

@@ -11,7 +11,7 @@ use Rattle.ix_query_text.proofs.TreeLemmas.{along, every_seen, every_part, both_
 use Rattle.ix_query.specs.Satisfaction.{Satisfies, IsAsked, HoldsOfOne, HasPhrase, AreNear, HasMatch}
 
 -- what holds of one part is the same where the parts are seen by a function
-one_seen : {X Y : Type 0} (v : X → Y) (k : Y → Type 0) (xs : List X) → HoldsOfOne (λ x. k (v x)) xs ≡ HoldsOfOne k (map v xs)
+pub one_seen : {X Y : Type 0} (v : X → Y) (k : Y → Type 0) (xs : List X) → HoldsOfOne (λ x. k (v x)) xs ≡ HoldsOfOne k (map v xs)
 one_seen v k [] = refl
 one_seen v k (x ∷ xs) = ap (λ (rest : Type 0). k (v x) ⊎ rest) (one_seen v k xs)
 
@@ -31,7 +31,7 @@ one_among : {X : Type 0} (P : X → Type 0) (x : X) (xs : List X) → (Any P xs 
 one_among P x xs more (zero, y, below, is, p) = inl (subst P (sym is) p)
 one_among P x xs more (suc k, y, below, is, p) = inr (more (k, y, omega arith, is, p))
 
-one_part : {X : Type 0} (P : X → Type 0) (xs : List X) → HoldsOfOne P xs ↔ Any P xs
+pub one_part : {X : Type 0} (P : X → Type 0) (xs : List X) → HoldsOfOne P xs ↔ Any P xs
 one_part P [] = (λ h. absurd h, λ (k, x, below, is, p). absurd (omega arith))
 one_part P (x ∷ xs) = (
   λ h. elim h [ inl p ↦ (0, x, omega arith, refl, p) | inr more ↦ one_behind P x xs ((one_part P xs).0 more) ],

@@ -15,5 +15,5 @@ pub use ix_query_text::{
     queries_are_those_of_the_grammar, texts_read_as_proper_trees, the_end_comes_too_soon,
     what_shapes_are,
 };
-pub use satisfaction::what_queries_ask;
+pub use satisfaction::{begins_with, is_match, is_term, satisfies, what_queries_ask};
 pub use scans::{a_query_has_one_scan, scan};

@@ -85,7 +85,7 @@ fn has_phrase(tokens: &[Option<String>], parts: &[Option<Term>]) -> bool
 }
 
 /// Whether each part that is a term is the token in its place. A hole is any token.
-fn begins_with(tokens: &[Option<String>], parts: &[Option<Term>]) -> bool
+pub fn begins_with(tokens: &[Option<String>], parts: &[Option<Term>]) -> bool
     ensures { IsTrue result ↔ HasPhraseAt (map (option_map string_bytes) tokens.now) 0 parts.now }
 {
     for (place, part) in parts.iter().enumerate() {
@@ -109,7 +109,8 @@ fn stands_at(tokens: &[Option<String>], position: usize, term: &str) -> bool
     }
 }
 
-fn is_term(entry: &Option<String>, term: &str) -> bool
+/// Whether the entry is the term.
+pub fn is_term(entry: &Option<String>, term: &str) -> bool
     ensures { IsTrue result ↔ (option_map string_bytes entry.now ≡ Some term.now) }
 {
     match entry {
@@ -170,7 +171,8 @@ fn has_match(tokens: &[Option<String>], pattern: &Pattern) -> bool
     false
 }
 
-fn is_match(entry: &Option<String>, pattern: &Pattern) -> bool
+/// Whether the entry is a term that matches the pattern.
+pub fn is_match(entry: &Option<String>, pattern: &Pattern) -> bool
     ensures { IsTrue result ↔
         IsSomeAnd (option_map string_bytes entry.now) (λ term. Matches term pattern.now) }
 {

@@ -6,8 +6,8 @@ use Rattle.ix_text.specs.StopText.{IsCutAtLineFeeds, joined_lines}
 use Rattle.ix_text.proofs.StopTextLemmas.{IsUnbroken, cut_at_line_feeds, ended, lines_of}
 use Rattle.ix_script.specs.ScriptFaults.{IsLineFault, IsScriptFault, IsScriptLine}
 use Rattle.ix_script.specs.Steps.{AddsLine, IsLawful, IsScript, Step, Text, is_filled, line_of}
-use Rattle.ix_script.specs.declared.error.ScriptError.{ScriptError}
-use Rattle.ix_script.specs.declared.error.ScriptError.TheVariants.{Memory}
+use Rattle.ix_script.specs.declared.script_error.ScriptError.{ScriptError}
+use Rattle.ix_script.specs.declared.script_error.ScriptError.TheVariants.{Memory}
 use Rattle.ix_script.proofs.LineLemmas.{line_filled}
 
 -- ---- lines and the text that they join to

@@ -10,8 +10,8 @@ use Rattle.ix_text.specs.StopText.{IsCutAtLineFeeds}
 use Rattle.ix_text.proofs.StopTextLemmas.{cut_is, lines_of, lines_of-nil}
 use Rattle.ix_script.specs.ScriptFaults.{IsLineFault, IsScriptFault, IsScriptLine}
 use Rattle.ix_script.specs.Steps.{Add, Ask, IsLawful, IsLineOf, IsScript, Publish, Remove, Step, Text, is_filled, line_of}
-use Rattle.ix_script.specs.declared.error.ScriptError.{ScriptError}
-use Rattle.ix_script.specs.declared.error.ScriptError.TheVariants as fault
+use Rattle.ix_script.specs.declared.script_error.ScriptError.{ScriptError}
+use Rattle.ix_script.specs.declared.script_error.ScriptError.TheVariants as fault
 
 -- a text reads as one tree
 abbrev pub OneTree : Type 0

@@ -1,8 +1,8 @@
 -- The errors of scripts: their numbers, and their names, as they are printed.
 use Rattle.std.specs.Prelude.{ℕ, List, ◌++◌, codes, decimal}
 use Rattle.ix_query.specs.ErrorNames.{name_of}
-use Rattle.ix_script.specs.declared.error.ScriptError.{ScriptError}
-use Rattle.ix_script.specs.declared.error.ScriptError.TheVariants.{Line, Query, Memory}
+use Rattle.ix_script.specs.declared.script_error.ScriptError.{ScriptError}
+use Rattle.ix_script.specs.declared.script_error.ScriptError.TheVariants.{Line, Query, Memory}
 
 -- an error's place in the list of these errors, from 1
 abbrev pub script_error_number : ScriptError → ℕ

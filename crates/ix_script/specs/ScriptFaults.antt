@@ -3,8 +3,8 @@ use Rattle.std.specs.Prelude.{◌≡◌, ◌≢◌, ℕ, ◌+◌, ◌^◌, ◌<�
 use Rattle.ix_text.specs.StopText.{IsCutAtLineFeeds}
 use Rattle.ix_query.specs.Machine.{query_of}
 use Rattle.ix_script.specs.Steps.{IsLineOf, Step, Text}
-use Rattle.ix_script.specs.declared.error.ScriptError.{ScriptError}
-use Rattle.ix_script.specs.declared.error.ScriptError.TheVariants.{Line, Query, Memory}
+use Rattle.ix_script.specs.declared.script_error.ScriptError.{ScriptError}
+use Rattle.ix_script.specs.declared.script_error.ScriptError.TheVariants.{Line, Query, Memory}
 
 -- a line that a script may have: it is empty, or that of a step
 abbrev pub IsScriptLine : List Text → Text → Type 0

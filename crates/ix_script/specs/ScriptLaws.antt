@@ -2,7 +2,7 @@
 use Rattle.std.specs.Prelude.{◌≡◌, List}
 use Rattle.ix_script.specs.ScriptFaults.{IsScriptFault}
 use Rattle.ix_script.specs.Steps.{IsScript, Step, Text}
-use Rattle.ix_script.specs.declared.error.ScriptError.{ScriptError}
+use Rattle.ix_script.specs.declared.script_error.ScriptError.{ScriptError}
 
 -- a text has one list of steps
 abbrev pub HasOneScript : Type 0

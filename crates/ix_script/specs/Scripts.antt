@@ -40,7 +40,7 @@ pub data IsReason (holds : Text → Text → Type 0) (workers : ℕ) (stop : Lis
   unpublished : error ≡ Live live.Memory → (later : List Step) → rest ≡ Publish ∷ later → IsReason holds workers stop done rest now error
   unwritten : error ≡ Write → AreBehindGroup rest → IsReason holds workers stop done rest now error
 
--- what the output gained: the lines, or a beginning of them if it failed
+-- what the output gained: the lines, or a prefix of them if it failed
 abbrev pub IsPrinted : Text → Option Text → Option Text → RunError → Type 0
 IsPrinted lines old new Write = AppendsFront old new lines
 IsPrinted lines old new _ = Appends old new lines

@@ -15,7 +15,7 @@ use Rattle.ix_live.specs.Segments.{joined}
 use Rattle.ix_script.specs.Runs.{Changes, HoldsDocuments, Progress, documents_in}
 use Rattle.ix_script.specs.PrintedAnswers.{asked_in}
 use Rattle.ix_script.specs.Steps.{Add, Ask, Publish, Remove, Step, Text, step_of}
-use Rattle.ix_script.specs.declared.changing.Stopped.{Stopped}
+use Rattle.ix_script.specs.declared.change.Stopped.{Stopped}
 use Rattle.ix_script.specs.declared.step.Step.{Step as StepTaken}
 use Rattle.ix_script.specs.declared.run_error.RunError.{RunError}
 use Rattle.ix_script.specs.declared.run_error.RunError.TheVariants.{Collection, Live, Memory, Unread, Write}
@@ -101,7 +101,7 @@ IsFirstError steps (Err query) (Err stopped) error =
 
 -- ---- what is left
 
--- why the lines of a group were not printed: the output failed, and gained a beginning; or the call was out of memory, and
+-- why the lines of a group were not printed: the output failed, and gained a prefix; or the call was out of memory, and
 -- it gained none
 abbrev pub IsUnprinted : Text → Option Text → Option Text → RunError → Type 0
 IsUnprinted lines old new Write = AppendsFront old new lines

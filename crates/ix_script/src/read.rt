@@ -5,9 +5,9 @@ ghost use Rattle.std.specs.Prelude.{IfOk, IfErr, OnOk, MatchOption};
 ghost use Rattle.ix_script.specs.Steps.{AddsLine, AsksQuery, IsLineOf, IsNoNumber, IsNumber, IsScript};
 ghost use Rattle.ix_script.specs.Steps.{Removes, RemovesNone, Text, step_of};
 ghost use Rattle.ix_script.specs.ScriptFaults.{IsLineFault, IsNoQuery, IsScriptFault};
-ghost use Rattle.ix_script.specs.declared.error.ScriptError.TheVariants.{Memory};
+ghost use Rattle.ix_script.specs.declared.script_error.ScriptError.TheVariants.{Memory};
 
-use crate::error::ScriptError;
+use crate::script_error::ScriptError;
 use crate::step::Step;
 use ix_query::{Query, QueryError};
 use ix_text::{MAX_DOCUMENTS, StopList};
@@ -16,13 +16,13 @@ use std::alloc::{AllocError, Global};
 /// One more than the greatest number that a document may have.
 const NUMBERS: u32 = MAX_DOCUMENTS;
 
-/// Reads a script: the text is cut at every LF, and each line that is not empty is `add PATH`, `publish`, `ask QUERY` or
-/// `remove D`, with one space and a rest that is not empty. D is a decimal number from 0 to 268435455 without leading
-/// zeros; a query is read under the stop list.
+/// Reads a script: the text is cut at every LF, and each line that is not empty is `add PATH`,
+/// `publish`, `ask QUERY` or `remove D`, with one space and a rest that is not empty. D is a
+/// decimal number from 0 to 268435455 without leading zeros; a query is read under the stop list.
 ///
 /// # Errors
-/// The fault of the first line that has one: `Line` if it is none of these, and else `Query` if its query is none.
-/// `Memory` comes in place of any answer.
+/// The fault of the first line that has one: `Line` if it is none of these, and else `Query` if its
+/// query is none. `Memory` comes in place of any answer.
 pub fn read_script<'t>(
     alloc: Global,
     text: &'t str,

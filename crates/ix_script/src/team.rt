@@ -3,15 +3,15 @@ ghost use Rattle.std.specs.Prelude.{◌≡◌, ◌<◌, IfOk, map};
 ghost use Rattle.ix_live.specs.Histories.{operations_in};
 ghost use Rattle.ix_script.specs.Answers.{AreAnswers, names_in};
 
-use crate::asking::{all_found, find_each, unanswered};
+use crate::ask::{all_found, find_each, unanswered};
 use ix_live::News;
 use ix_query::Query;
 use std::alloc::Global;
 use std::marker::Model;
 use std::thread::Threads;
 
-/// How many threads answer queries, one or more, and the news after which they do. Contracts see the stop set and the
-/// history of the news.
+/// How many threads answer queries, one or more, and the news after which they do. Contracts see
+/// the stop set and the history of the news.
 #[derive(Drop)]
 pub struct Team {
     threads: usize,
@@ -45,7 +45,8 @@ impl Team {
         self.news = news;
     }
 
-    /// The answers to these queries after just the history of the news, in order, found by at most that many threads.
+    /// The answers to these queries after just the history of the news, in order, found by at most
+    /// that many threads.
     ///
     /// If out of memory, the error is the place of the first query that was not answered.
     pub fn answer<R: Threads + Sync>(

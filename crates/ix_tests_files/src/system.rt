@@ -1,7 +1,11 @@
 //! Outputs over files of the system.
 
 use super::writing::write_to;
-use ix_files::{FileError, Files, Kind, SystemFiles, begin_output, discard_output, finish_output};
+use ix_files::{
+    FileError, Files, Kind, SharedFiles, SystemFiles, begin_output, discard_output, finish_output,
+    read_front,
+};
+use std::alloc::{AllocError, Global};
 use std::io::{Read, Write};
 use std::os::unix::fs::{PermissionsExt, symlink};
 use std::test::Fail;
@@ -109,6 +113,59 @@ fn drafts_that_are_left_and_drafts_that_are_locked(rt: HostRuntime) -> Result<()
     for draft in [&first, &second, &third] {
         assert!(rt; !is_there(&rt, draft.as_str()));
     }
+    fs::remove_dir_all(&rt, folder.as_str())?;
+    Ok(())
+}
+
+/// A text that is longer than what is written or read at once.
+fn long_text(alloc: Global) -> Result<String, AllocError> {
+    "0123456789".repeat(alloc, 30_000)
+}
+
+#[test]
+fn a_long_file_is_kept_whole(rt: HostRuntime) -> Result<(), Fail> {
+    let alloc = rt.alloc();
+    let mut files = SystemFiles { rt: &rt };
+    let folder = new_folder(&rt, "whole")?;
+    // A path that ends in a space leads to no other file.
+    let path = format!(in alloc; "{folder}/out ")?;
+    let text = long_text(alloc)?;
+    write_to(alloc, &mut files, path.as_str(), text.as_bytes())?;
+    assert!(rt; holds(&rt, path.as_str(), text.as_bytes())?);
+    for room in [10, 1 << 20] {
+        let read = read_front(alloc, &files, path.as_str(), room)?;
+        assert!(rt; read.as_slice() == text.as_bytes().get(..room).unwrap_or(text.as_bytes()));
+    }
+    // A folder has no bytes to be read, and no path but one is that of the standard input.
+    for path in [folder.as_str(), "-none"] {
+        let read = read_front(alloc, &files, path, 1);
+        assert!(rt; read.err() == Some(FileError::Failed));
+    }
+    assert!(rt; files.open_stream("-none").err() == Some(FileError::Failed));
+    assert!(rt; files.kind("-none")? == Kind::Missing);
+    fs::remove_dir_all(&rt, folder.as_str())?;
+    Ok(())
+}
+
+#[test]
+fn a_long_shared_file_is_kept_whole(rt: HostRuntime) -> Result<(), Fail> {
+    let alloc = rt.alloc();
+    let mut files = SystemFiles { rt: &rt };
+    let folder = new_folder(&rt, "shared")?;
+    let path = format!(in alloc; "{folder}/run")?;
+    let text = long_text(alloc)?;
+    let names = vec![in alloc; files.locate(path.as_str())?]?;
+    let shared = files.share(names)?;
+    assert!(rt; shared.open(0).err() == Some(FileError::Failed));
+    // Of a longer file that is there nothing is left.
+    fs::write(&rt, path.as_str(), format!(in alloc; "{text}{text}")?)?;
+    let mut writer = shared.create(0)?;
+    writer.write_all(text.as_bytes())?;
+    shared.end(0, writer)?;
+    assert!(rt; holds(&rt, path.as_str(), text.as_bytes())?);
+    let mut read = Vec::new(alloc);
+    let size = shared.open(0)?.read_to_end(&mut read)?;
+    assert!(rt; size == text.len() && read.as_slice() == text.as_bytes());
     fs::remove_dir_all(&rt, folder.as_str())?;
     Ok(())
 }

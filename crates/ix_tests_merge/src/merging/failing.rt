@@ -91,6 +91,9 @@ fn reads_refused_at_each_byte(rt: HostRuntime) -> Result<(), Fail> {
 /// How many bytes a reader of many documents gives at a time.
 const READ: usize = 16_384;
 
+/// How many bytes a merge writes at once, at most: the list of that word, and not all of POSTINGS.
+const LONGEST: usize = 150_000;
+
 /// Some thousand documents, with a word whose list takes more than a merge gathers before it tells.
 fn documents(alloc: Global) -> Result<String, Fail> {
     let mut text = String::new(alloc);
@@ -172,10 +175,13 @@ struct Sink {
     room: usize,
     flushes: bool,
     was_flushed: bool,
+    /// How many bytes the longest write had.
+    longest: usize,
 }
 
 impl Write for Sink {
     fn write(&mut self, bytes: &[u8]) -> io::Result<usize> {
+        self.longest = self.longest.max(bytes.len());
         let count = bytes.len().min(self.room);
         if count < 1 && !bytes.is_empty() {
             return Err(ErrorKind::BrokenPipe.into());
@@ -210,8 +216,10 @@ fn sunk(
         room,
         flushes,
         was_flushed: false,
+        longest: 0,
     };
     let outcome = merge_runs(alloc, runs, &mut sink)?;
+    assert!(rt; sink.longest <= LONGEST, "{}", sink.longest);
     assert!(rt; whole.starts_with(&sink.bytes), "{room}");
     assert_eq!(rt; sink.bytes.len(), room);
     let flushed = if sink.was_flushed {

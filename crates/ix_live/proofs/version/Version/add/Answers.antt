@@ -59,15 +59,15 @@ invariant_of-self-2 g c =
     let size : count ≡ length documents = omega (arith, documents_counted stop texts, ap length c.docs-count.ensures.documents, length-map c.docs-count.result.now named_text) in
     let grows = rw (c.deref.ensures, c.as_slice-table.ensures.value) at c.in-Ok.ensures.grown in
     let more = rw c.deref.ensures at c.in-Ok.ensures.tokens in
-    let segments : c.push.new.self.items ≡ take c.in-Ok.grown.left v.segments.items ++ c.in-Ok.grown.place ∷ [] =
-    c.push.ensures.items ∙ ap (λ (l : List (Option Segment)). l ++ c.in-Ok.grown.place ∷ []) c.truncate.ensures.items in
+    let segments : c.push.new.self.items ≡ take c.in-Ok.grown.left v.segments.items ++ c.in-Ok.grown.slot ∷ [] =
+    c.push.ensures.items ∙ ap (λ (l : List (Option Segment)). l ++ c.in-Ok.grown.slot ∷ []) c.truncate.ensures.items in
     let kept : c.reserve.new.self.items ≡ v.entries.items = search rules in
     let entries : c.push_reserved.new.self.items ≡ v.entries.items ++ Added count ∷ [] = c.push_reserved.ensures.items ∙ ap (λ (l : List Entry). l ++ Added count ∷ []) kept in
     let past : c.with_addition.result ≡ waiting v.past (Add documents ∷ []) = rw c.deref-2.ensures at c.with_addition.ensures in
     let operations : operations_of c.with_addition.result ≡ operations_of v.past ++ Add documents ∷ [] = ap operations_of past ∙ operations_waiting v.past (Add documents ∷ []) in
-    stored_is stop (take c.in-Ok.grown.left v.segments.items ++ c.in-Ok.grown.place ∷ []) c.push.new.self.items (v.entries.items ++ Added count ∷ []) c.push_reserved.new.self.items v.removed.items (v.count + count)
+    stored_is stop (take c.in-Ok.grown.left v.segments.items ++ c.in-Ok.grown.slot ∷ []) c.push.new.self.items (v.entries.items ++ Added count ∷ []) c.push_reserved.new.self.items v.removed.items (v.count + count)
     (v.tokens + c.in-Ok.grown.tokens) ((operations_of v.past) ++ Add documents ∷ []) (operations_of c.with_addition.result) segments entries operations
-    (stored_more stop v.segments.items v.entries.items v.removed.items v.count v.tokens (operations_of v.past) c.self.invariant documents c.in-Ok.grown.left c.in-Ok.grown.tokens count c.in-Ok.grown.place grows size more
+    (stored_more stop v.segments.items v.entries.items v.removed.items v.count v.tokens (operations_of v.past) c.self.invariant documents c.in-Ok.grown.left c.in-Ok.grown.tokens count c.in-Ok.grown.slot grows size more
     (omega (arith, c.if-count-self.false, c.self.invariant.few)) c.in-Ok.ensures.few)
 
 pub returns-clause-added : goal.returns-clause-added
@@ -90,10 +90,10 @@ returns-clause-pieces g c =
     let stop = arc_value v.stop in
     let texts = c.args.documents.now in
     let grows = rw (c.deref.ensures, c.as_slice-table.ensures.value) at c.in-Ok.ensures.grown in
-    let segments : c.push.new.self.items ≡ take c.in-Ok.grown.left v.segments.items ++ c.in-Ok.grown.place ∷ [] =
-    c.push.ensures.items ∙ ap (λ (l : List (Option Segment)). l ++ c.in-Ok.grown.place ∷ []) c.truncate.ensures.items in
+    let segments : c.push.new.self.items ≡ take c.in-Ok.grown.left v.segments.items ++ c.in-Ok.grown.slot ∷ [] =
+    c.push.ensures.items ∙ ap (λ (l : List (Option Segment)). l ++ c.in-Ok.grown.slot ∷ []) c.truncate.ensures.items in
     rw (← c.self.view_is)
-    (ap pieces_in segments ∙ pieces_grown stop v.segments.items (documents_under stop texts) c.in-Ok.grown.left c.in-Ok.grown.place grows ∙ ap (λ (n : ℕ). after_adding n (pieces_in v.segments.items)) (documents_counted stop texts))
+    (ap pieces_in segments ∙ pieces_grown stop v.segments.items (documents_under stop texts) c.in-Ok.grown.left c.in-Ok.grown.slot grows ∙ ap (λ (n : ℕ). after_adding n (pieces_in v.segments.items)) (documents_counted stop texts))
 
 pub returns-then-count-eq0-clause-few : goal.returns-then-count-eq0-clause-few
 returns-then-count-eq0-clause-few g c =

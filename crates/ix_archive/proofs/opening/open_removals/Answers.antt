@@ -1,0 +1,22 @@
+use Rattle.std.proofs.Common.{◌≡◌, ◌∙◌, sym, subst, ℕ, List}
+use Rattle.std.specs.Prelude.{MatchResult}
+use Rattle.ix_files.specs.Slots.{Place}
+use Rattle.ix_removals.specs.RemovalsText.{Removal}
+use Rattle.ix_archive.specs.Layouts.{IsRemovalsFile}
+use Rattle.ix_archive.specs.Openings.{IsText}
+use Rattle.ix_archive.proofs.OpenLemmas.{removals_ok, removals_err}
+use Rattle.ix_archive.proofs.opening.open_removals.Goals as goal
+
+pub returns-clause-read : goal.returns-clause-read
+returns-clause-read g c =
+    removals_ok c.parse_removals.result _ _ (λ documents removals text is file.
+    let told = c.in_ok-source.ensures.told text (subst (λ (place : Place). IsText (g.F.Files.view c.args.files.now) place text) (sym c.in_ok-at.ensures) is) in
+    let same : c.deref.result.now ≡ text = c.deref.ensures.value ∙ c.in_ok-text.ensures.read text told in
+    c.parse_removals.ensures.exact documents removals (subst (IsRemovalsFile documents removals c.args.line.now) (sym same) file))
+
+pub returns-clause-refused : goal.returns-clause-refused
+returns-clause-refused g c =
+    removals_err c.parse_removals.result _ _ (λ documents removals text is file.
+    let told = c.in_ok-source.ensures.told text (subst (λ (place : Place). IsText (g.F.Files.view c.args.files.now) place text) (sym c.in_ok-at.ensures) is) in
+    let same : c.deref.result.now ≡ text = c.deref.ensures.value ∙ c.in_ok-text.ensures.read text told in
+    c.parse_removals.ensures.exact documents removals (subst (IsRemovalsFile documents removals c.args.line.now) (sym same) file))

@@ -1,0 +1,9 @@
+pub mod ArchiveErrors
+pub mod Archives
+pub mod Findings
+pub mod Folders
+pub mod Layouts
+pub mod OpenedArchives
+pub mod Openings
+pub mod PartsOfAnswers
+pub mod ReadErrors

@@ -1,0 +1,6 @@
+pub mod Laws
+mod Lists
+mod Naming
+mod Preparing
+mod Replacing
+mod Swept

@@ -1,0 +1,4 @@
+pub mod FolderNames
+pub mod Publishing
+pub mod PublishErrors
+pub mod Standings

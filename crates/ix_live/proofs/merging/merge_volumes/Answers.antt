@@ -1,7 +1,0 @@
-use Rattle.std.proofs.Common.{◌++◌}
-use Rattle.std.proofs.lemmas.Result.{IfOk-weaker}
-use Rattle.ix_live.specs.Segments.{of_documents}
-use Rattle.ix_live.proofs.merging.merge_volumes.Goals as goal
-
-pub returns : goal.returns
-returns c = IfOk-weaker c.open_volume.result _ _ (λ volume opened stop first second one other. opened (of_documents stop (first ++ second)) (c.in_ok-bytes.ensures stop first second one other)) c.open_volume.ensures

@@ -1,5 +1,0 @@
-use Rattle.std.proofs.Common.{length}
-use Rattle.ix_live.proofs.table.+merge_alike.Given as goal
-
-abbrev pub decreases-merge_alike : goal.decreases-merge_alike
-decreases-merge_alike l = length l.table.now

@@ -1,0 +1,3 @@
+pub mod RemovalEntries
+pub mod RemovalFaults
+pub mod RemovalsText
