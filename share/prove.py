@@ -1,11 +1,12 @@
 #!/usr/bin/env python3
-"""Proves a crate and the crates that it uses, those that do not use one another side by side.
+"""Proves crates and the crates that they use, those that do not use one another side by side.
 
-usage: share/prove.py CRATE     (needs the command rt; RT_JOBS=N: at most N checks at once)
+usage: share/prove.py CRATE..     (needs the command rt; RT_JOBS=N: at most N checks at once)
 
-One `rt` at a time works in a checkout, so each lane has a copy of the sources below build/lanes. What a lane proves, `rt`
-finds again from every checkout of this machine. A lane takes 4 GB; the processors that no other crate waits for go to the
-crates that are being proved. A crate is not looked at again until its sources, or those of a crate that it uses, change.
+One `rt` at a time works in a checkout, so each lane has a copy of the sources below build/lanes. What a lane builds of a
+proved crate is copied into the other lanes and into this checkout, where `rt` takes it if the sources are the same. A lane
+takes 4 GB; the processors that no other crate waits for go to the crates that are being proved. A crate is not looked at
+again until its sources, or those of a crate that it uses, change.
 """
 import hashlib
 import os
@@ -65,6 +66,15 @@ def lanes_here() -> int:
     found = re.search(r"MemAvailable:\s+(\d+)", Path("/proc/meminfo").read_text())
     held = int(found[1]) * 1024 if found else LANE_BYTES
     return max(1, min(len(os.sched_getaffinity(0)), held // LANE_BYTES))
+
+
+def hand_out(crate: str, lane: Path, lanes: int) -> None:
+    """Copies what the lane built of a crate into the other lanes and into this checkout."""
+    built = Path("crates") / crate / "out" / "rlib"
+    for to in [TOP, *(LANES / str(it) for it in range(lanes))]:
+        if to != lane:
+            shutil.rmtree(to / built, ignore_errors=True)
+            shutil.copytree(lane / built, to / built)
 
 
 def fill(lane: Path, crates: list[str]) -> None:
@@ -150,13 +160,18 @@ class Proving:
             crate, jobs = taken
             home = lane / "crates" / crate
             (LANES / f"{crate}.log").unlink(missing_ok=True)
-            verbs = ["check", "lib"] if any(crate in self.below[it] for it in self.order) else ["check"]
-            self.end(crate, jobs, all(self.call(crate, verb, home, jobs) for verb in verbs))
+            is_used = any(crate in self.below[it] for it in self.order)
+            is_proved = all(self.call(crate, verb, home, jobs) for verb in ["check", *["lib"] * is_used])
+            if is_proved and is_used:
+                hand_out(crate, lane, self.lanes)
+            self.end(crate, jobs, is_proved)
 
 
-def main(crate: str) -> int:
+def main(crates: list[str]) -> int:
     below = uses()
-    order = needed(crate, below)
+    order: list[str] = []
+    for crate in crates:
+        order += [it for it in needed(crate, below) if it not in order]
     LANES.mkdir(parents=True, exist_ok=True)
     count = lanes_here()
     proving = Proving(order, below, count)
@@ -182,6 +197,6 @@ def main(crate: str) -> int:
 
 
 if __name__ == "__main__":
-    if len(sys.argv) != 2:
+    if len(sys.argv) < 2:
         sys.exit(__doc__)
-    sys.exit(main(sys.argv[1]))
+    sys.exit(main(sys.argv[1:]))
