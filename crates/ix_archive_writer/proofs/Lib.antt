@@ -1,0 +1,10 @@
+pub mod CommitLemmas
+pub mod Going
+pub mod Laying
+pub mod OpeningLemmas
+pub mod Places
+pub mod Projected
+pub mod ReadingLemmas
+pub mod RemovalLemmas
+pub mod SegmentLemmas
+pub mod TakingLemmas
