@@ -1,3 +1,4 @@
+pub mod AddingLemmas
 pub mod CommitLemmas
 pub mod Going
 pub mod Laying

@@ -42,10 +42,12 @@ pub(crate) fn commit<F: Files>(
     };
     match publish(alloc, files, folder, text.as_bytes()) {
         Ok(()) => Ok(()),
-        Err(PublishError::NotKept) => Err(ChangeError::not_kept()),
-        Err(error) => {
-            drop_file(files, at);
-            Err(ChangeError::of_publish(error))
-        }
+        Err(error) => match error {
+            PublishError::NotKept => Err(ChangeError::not_kept()),
+            _ => {
+                drop_file(files, at);
+                Err(ChangeError::of_publish(error))
+            }
+        },
     }
 }

@@ -42,11 +42,13 @@ pub(crate) fn write_blocks<F: Files>(
     ensures goes_on { GoesOn (F.view files.old) (F.view files.new) }
 {
     let mut writer = begin_file(files, at)?;
-    if let Err(error) = blocks.merge_into(alloc, &mut writer) {
-        drop_file(files, at);
-        return Err(ChangeError::Build(error));
+    match blocks.merge_into(alloc, &mut writer) {
+        Ok(()) => end_segment(alloc, files, at, file, writer, documents),
+        Err(error) => {
+            drop_file(files, at);
+            Err(ChangeError::Build(error))
+        }
     }
-    end_segment(alloc, files, at, file, writer, documents)
 }
 
 /// Ends the file of a segment. After an error it is removed.

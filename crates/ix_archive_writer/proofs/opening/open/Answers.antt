@@ -1,6 +1,5 @@
 use Rattle.std.proofs.Common.{List, subst, sym}
-use Rattle.std.specs.Prelude.{map, option_map, string_bytes}
-use Rattle.std.specs.String.{String}
+use Rattle.std.specs.Prelude.{String, map, option_map, string_bytes}
 use Rattle.ix_folder.proofs.Laws.{narrowed}
 use Rattle.ix_manifest.specs.ManifestText.{view_of}
 use Rattle.ix_archive_writer.specs.Commits.{AreAllNames}
