@@ -1,6 +1,7 @@
 -- Documents are added to the archive that was found, or to a new one.
-use Rattle.std.proofs.Common.{◌≡◌, ◌≢◌, ◌∙◌, All, Contains, List, [], ◌∷◌, ◌++◌, ℕ, Option, None, Some, ap, arith, length, refl, subst, sym}
-use Rattle.std.specs.Prelude.{Err, IfOk, IfSome, Ok, OnOk, Result, map, option_map, slice_get}
+use Rattle.std.proofs.Common.{◌≡◌, ◌≢◌, ◌∙◌, All, Contains, List, [], ◌∷◌, ◌++◌, ℕ, Option, None, Some, ap, arith, length, refl, subst, sym, true}
+use Rattle.std.specs.Prelude.{◌==◌, Err, IfOk, IfSome, Ok, OnOk, Result, map, option_map, slice_get}
+use Rattle.std.proofs.lemmas.Bool.{eqb-true}
 use Rattle.std.proofs.lemmas.List.{append-nil}
 use Rattle.std.proofs.lemmas.List.Elements.{All-head, All-tail}
 use Rattle.ix_files.specs.Slots.{Entry, Kept, Place, Slot, Slots, Stops, at_rest}
@@ -31,9 +32,9 @@ if_ok (Ok value) more one other third = more value one other third
 if_ok (Err error) more one other third = tt
 
 -- there are no documents
-pub no_texts : {X Y : Type 0} (f : X → Y) (documents : List X) (texts : List Y) → map f documents ≡ texts → length documents ≡ 0 → texts ≡ []
+pub no_texts : {X Y : Type 0} (f : X → Y) (documents : List X) (texts : List Y) → map f documents ≡ texts → true ≡ (length documents == 0) → texts ≡ []
 no_texts f [] texts are none = sym are
-no_texts f (document ∷ documents) texts are none = absurd (omega (arith, none))
+no_texts f (document ∷ documents) texts are none = absurd (omega (arith, eqb-true (length (document ∷ documents)) 0 (sym none)))
 
 -- ---- the folder that was found
 

@@ -2,6 +2,7 @@ pub mod AddingLemmas
 pub mod CommitLemmas
 pub mod Going
 pub mod Laying
+pub mod NamingLemmas
 pub mod OpeningLemmas
 pub mod Places
 pub mod Projected

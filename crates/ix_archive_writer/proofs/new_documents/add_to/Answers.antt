@@ -1,5 +1,4 @@
 use Rattle.std.proofs.Common.{[], ◌∷◌, Option, Some}
-use Rattle.std.specs.Prelude.{None}
 use Rattle.ix_archive.specs.Archives.{Archive}
 use Rattle.ix_files.specs.Views.{LeavesOnly}
 use Rattle.ix_archive_writer.specs.Changes.{stop_given}
@@ -12,7 +11,7 @@ returns-in_err-own-clause-any_moment g c honest now found = found_leaves c.args.
 
 pub returns-then-is_empty-clause-done : goal.returns-then-is_empty-clause-done
 returns-then-is_empty-clause-done g c honest now found =
-    nothing_added c.args.folder.now now c.args.manifest c.in-Some.manifest (stop_given c.args.stop) c.args.documents.now _ c.in-Some.is ? found
+    nothing_added c.args.folder.now now c.args.manifest c.in-Some.manifest (stop_given c.args.stop) c.args.documents.now _ c.in-Some.is (no_texts _ c.docs.result.now c.args.documents.now c.docs.ensures.documents c.if-is_empty.ensures) found
 
 pub returns-then-is_empty-clause-any_moment : goal.returns-then-is_empty-clause-any_moment
 returns-then-is_empty-clause-any_moment g c honest now found = found_leaves c.args.folder.now _ now _ (g.met.F.Files.only_now c.args.files.now) found
@@ -32,7 +31,15 @@ returns-in-Some-clause-any_moment g c honest now found =
     (c.in_ok-own.ensures (c.add_segment.ensures.goes_on.honest honest) now found) found (λ base same ready. c.add_segment.ensures.any_moment honest now base same ready)
 
 pub returns-clause-done : goal.returns-clause-done
-returns-clause-done g c = ?
+returns-clause-done g c = on_ok c.add_segment-in-None.result
+    (λ done honest now found.
+    added_new c.args.folder.now now c.args.manifest c.new.result.items (stop_given c.args.stop) c.in_ok-own.own c.args.documents.now (g.F.Files.view c.args.files.now).slots
+    (λ (after : Archive). LeavesAmong c.args.folder.now (Some after ∷ []) (g.F.Files.view c.add_segment-in-None.new.files).slots) c.in-None.is c.new.ensures.items
+    (c.in_ok-own.ensures (c.add_segment-in-None.ensures.goes_on.honest honest) now found) found (λ base same ready. done honest now base same ready))
+    c.add_segment-in-None.ensures.done
 
 pub returns-clause-any_moment : goal.returns-clause-any_moment
-returns-clause-any_moment g c honest now found = ?
+returns-clause-any_moment g c honest now found =
+    added_new c.args.folder.now now c.args.manifest c.new.result.items (stop_given c.args.stop) c.in_ok-own.own c.args.documents.now (g.F.Files.view c.args.files.now).slots
+    (λ (after : Archive). LeavesOnly (IsLeftArchive c.args.folder.now (Some after ∷ now ∷ [])) (g.F.Files.view c.args.files.now) (g.F.Files.view c.add_segment-in-None.new.files)) c.in-None.is c.new.ensures.items
+    (c.in_ok-own.ensures (c.add_segment-in-None.ensures.goes_on.honest honest) now found) found (λ base same ready. c.add_segment-in-None.ensures.any_moment honest now base same ready)
