@@ -1,5 +1,6 @@
 pub mod AddingLemmas
 pub mod CommitLemmas
+pub mod FolderChanges
 pub mod Going
 pub mod Laying
 pub mod NamingLemmas

@@ -1,6 +1,7 @@
 //! One segment more.
 
 ghost use Rattle.std.specs.Prelude.{◌≡◌, ◌+◌, ◌<◌, ◌^◌, ◌∷◌, [], Option, Some, OnOk};
+ghost use Rattle.ix_files.specs.Changes.{ChangesOnly};
 ghost use Rattle.ix_files.specs.Views.{GoesOn, LeavesOnly};
 ghost use Rattle.ix_manifest.specs.ManifestText.{view_of};
 ghost use Rattle.ix_archive.specs.Archives.{Archive};
@@ -44,6 +45,8 @@ pub(crate) fn add_segment<R: Threads + Wait + Sync, F: Files, V: Watch>(
         → LeavesOnly (IsLeftArchive folder.now
         (Some (with_documents base (documents_under stop.now documents.now)) ∷ now ∷ []))
         (F.view files.old) (F.view files.new) }
+    ensures changes { ChangesOnly (λ place. place.folder ≡ folder.now) (F.view files.old)
+        (F.view files.new) }
     ensures goes_on { GoesOn (F.view files.old) (F.view files.new) }
 {
     let file = manifest.next;

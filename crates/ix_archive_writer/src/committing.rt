@@ -1,6 +1,7 @@
 //! Commits: a manifest that names a new file takes the place of the one before.
 
 ghost use Rattle.std.specs.Prelude.{◌≡◌, ◌∷◌, [], List, ℕ, Option, Some, IfOk, OnOk, string_bytes};
+ghost use Rattle.ix_files.specs.Changes.{ChangesOnly};
 ghost use Rattle.ix_files.specs.Locations.{place_of};
 ghost use Rattle.ix_files.specs.Views.{GoesOn, LeavesOnly};
 ghost use Rattle.ix_archive.specs.Archives.{Archive};
@@ -31,6 +32,9 @@ pub(crate) fn commit<F: Files>(
         → IsCommit folder.now now after (place_of at.now) bytes (F.view files.old).slots
         → LeavesOnly (IsLeftArchive folder.now (Some after ∷ now ∷ []))
         (F.view files.old) (F.view files.new) }
+    ensures changes { (place_of at.now).folder ≡ folder.now
+        → ChangesOnly (λ place. place.folder ≡ folder.now) (F.view files.old)
+        (F.view files.new) }
     ensures goes_on { GoesOn (F.view files.old) (F.view files.new) }
 {
     let text = match text {

@@ -54,6 +54,8 @@ pub fn add<R: Threads + Wait + Sync, F: Files, V: Watch>(
         → LeavesOnly (IsLeftArchive ((F.view files.old).folder path.now)
         (Some (after_adding now (stop_given stop.entry) documents.now) ∷ among))
         (F.view files.old) (F.view files.new) }
+    ensures changes { ChangesOnly (λ place. place.folder ≡ (F.view files.old).folder path.now)
+        (F.view files.old) (F.view files.new) }
     ensures goes_on { GoesOn (F.view files.old) (F.view files.new) }
 {
     make_folder(files, path)?;
@@ -110,6 +112,8 @@ fn add_in<R: Threads + Wait + Sync, F: Files, V: Watch>(
         → LeavesOnly (IsLeftArchive folder.now
         (Some (after_adding now (stop_given stop.entry) documents.now) ∷ among))
         (F.view files.old) (F.view files.new) }
+    ensures changes { ChangesOnly (λ place. place.folder ≡ folder.now) (F.view files.old)
+        (F.view files.new) }
     ensures goes_on { GoesOn (F.view files.old) (F.view files.new) }
 {
     let (lock, manifest) = open(alloc, files, folder)?;
@@ -143,6 +147,8 @@ fn add_to<R: Threads + Wait + Sync, F: Files, V: Watch>(
         → LeavesOnly (IsLeftArchive folder.now
         (Some (after_adding now (stop_given stop.entry) documents.now) ∷ now ∷ []))
         (F.view files.old) (F.view files.new) }
+    ensures changes { ChangesOnly (λ place. place.folder ≡ folder.now) (F.view files.old)
+        (F.view files.new) }
     ensures goes_on { GoesOn (F.view files.old) (F.view files.new) }
 {
     let own = stop_of(alloc, files, folder, &manifest, stop)?;

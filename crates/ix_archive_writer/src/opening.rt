@@ -37,6 +37,8 @@ pub(crate) fn open<F: Files>(
         → LeavesAmong folder.now among (F.view files.old).slots
         → IsArchiveAt folder.now now (F.view files.old).slots
         → LeavesOnly (IsLeftArchive folder.now among) (F.view files.old) (F.view files.new) }
+    ensures changes { ChangesOnly (λ place. place.folder ≡ folder.now) (F.view files.old)
+        (F.view files.new) }
     ensures goes_on { GoesOn (F.view files.old) (F.view files.new) }
 {
     let lock = lock(alloc, files, folder)?;
@@ -75,6 +77,8 @@ fn settle_and_read<F: Files>(
         → IsFound folder.now now (option_map view_of found) (F.view files.new).slots) }
     ensures any_moment { (F.view files.new).honest
         → LeavesOnly (AreStops (F.view files.old).slots) (F.view files.old) (F.view files.new) }
+    ensures changes { ChangesOnly (λ place. place.folder ≡ folder.now) (F.view files.old)
+        (F.view files.new) }
     ensures goes_on { GoesOn (F.view files.old) (F.view files.new) }
 {
     settle(files, folder)?;

@@ -1,12 +1,14 @@
 use Rattle.std.proofs.Common.{◌≡◌, ◌∙◌, List, ap, arith, length, map, sym}
 use Rattle.std.proofs.lemmas.List.{length-map}
 use Rattle.ix_files.specs.Locations.{place_of}
-use Rattle.ix_files.proofs.Drafting.{standing, went_on_again}
+use Rattle.ix_files.specs.Slots.{Place}
+use Rattle.ix_files.proofs.Drafting.{changed_again, went_on_again}
 use Rattle.ix_manifest.specs.ManifestText.{manifest_text, view_of}
 use Rattle.ix_archive_writer.specs.Changes.{documents_under, with_documents, with_segment}
 use Rattle.ix_archive_writer.proofs.AddingLemmas.{on_ok}
 use Rattle.ix_archive_writer.proofs.CommitLemmas.{ready_leaves, segment_commits, segment_leaves}
 use Rattle.ix_archive_writer.proofs.Going.{then_leaves}
+use Rattle.ix_archive_writer.proofs.FolderChanges.{none_in, one_in}
 use Rattle.ix_archive_writer.proofs.adding.add_segment.Goals as goal
 
 -- as many as there are
@@ -43,3 +45,16 @@ returns-clause-any_moment g c honest now base same ready =
 
 pub returns-clause-goes_on : goal.returns-clause-goes_on
 returns-clause-goes_on g c = went_on_again c.write_blocks.ensures.goes_on c.commit.ensures.goes_on
+
+pub returns-in_err-at-clause-changes : goal.returns-in_err-at-clause-changes
+returns-in_err-at-clause-changes g c = none_in c.args.folder.now _ (g.met.F.Files.only_now c.args.files.now)
+
+pub returns-in-Err-clause-changes : goal.returns-in-Err-clause-changes
+returns-in-Err-clause-changes g c = none_in c.args.folder.now _ (g.met.F.Files.only_now c.args.files.now)
+
+pub returns-in_err-segment-clause-changes : goal.returns-in_err-segment-clause-changes
+returns-in_err-segment-clause-changes g c = one_in c.args.folder.now _ (ap (λ (place : Place). place.folder) c.in_ok-at.ensures) c.write_blocks.ensures.changes
+
+pub returns-clause-changes : goal.returns-clause-changes
+returns-clause-changes g c =
+    changed_again (one_in c.args.folder.now _ (ap (λ (place : Place). place.folder) c.in_ok-at.ensures) c.write_blocks.ensures.changes) (c.commit.ensures.changes (ap (λ (place : Place). place.folder) c.in_ok-at.ensures)) c.commit.ensures.goes_on.honest

@@ -1,12 +1,13 @@
 use Rattle.std.proofs.Common.{◌≡◌, ◌∙◌, refl}
 use Rattle.std.specs.Prelude.{string_bytes}
-use Rattle.ix_files.proofs.Drafting.{went_on_again}
+use Rattle.ix_files.proofs.Drafting.{changed_again, went_on_again}
 use Rattle.ix_folder.specs.PublishErrors.{IsBefore}
 use Rattle.ix_folder.specs.declared.publish_error.PublishError.{PublishError}
 use Rattle.ix_folder.specs.declared.publish_error.PublishError.TheVariants.{Memory, NotKept, Write}
 use Rattle.ix_archive_writer.proofs.CommitLemmas.{at_ok, commit_leaves, committed, dropped_leaves}
 use Rattle.ix_archive_writer.proofs.Going.{then_leaves}
 use Rattle.ix_archive_writer.proofs.Places.{file_names}
+use Rattle.ix_archive_writer.proofs.FolderChanges.{one_in}
 use Rattle.ix_archive_writer.proofs.committing.commit.Goals as goal
 
 pub returns-in-Err-clause-any_moment : goal.returns-in-Err-clause-any_moment
@@ -43,3 +44,9 @@ returns-clause-any_moment g c honest now after bytes spelled commits =
 
 pub returns-clause-goes_on : goal.returns-clause-goes_on
 returns-clause-goes_on g c = went_on_again c.publish.ensures.goes_on c.drop_file-in_default.ensures.goes_on
+
+pub returns-in-Err-clause-changes : goal.returns-in-Err-clause-changes
+returns-in-Err-clause-changes g c inside = one_in c.args.folder.now _ inside c.drop_file.ensures.changes
+
+pub returns-clause-changes : goal.returns-clause-changes
+returns-clause-changes g c inside = changed_again c.publish.ensures.changes (one_in c.args.folder.now _ inside c.drop_file-in_default.ensures.changes) c.drop_file-in_default.ensures.goes_on.honest

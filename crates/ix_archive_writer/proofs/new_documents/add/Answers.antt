@@ -7,6 +7,8 @@ use Rattle.ix_archive_writer.specs.Commits.{IsLeftArchive, LeavesAmong}
 use Rattle.ix_archive_writer.proofs.AddingLemmas.{on_ok}
 use Rattle.ix_archive_writer.proofs.Going.{then_leaves}
 use Rattle.ix_archive_writer.proofs.OpeningLemmas.{among_more, at_but_lock, same_moments, same_places, same_stops}
+use Rattle.ix_files.proofs.Drafting.{changed_again}
+use Rattle.ix_archive_writer.proofs.FolderChanges.{no_file_in, same_folder}
 use Rattle.ix_archive_writer.proofs.new_documents.add.Goals as goal
 
 pub returns-in_err-make_folder-clause-any_moment : goal.returns-in_err-make_folder-clause-any_moment
@@ -40,3 +42,20 @@ returns-clause-any_moment g c honest among now named leaves at =
     (subst (λ (f : List ℕ). LeavesAmong f among (g.F.Files.view c.make_folder.new.files).slots) (sym same) (same_stops folder among c.make_folder.ensures.changes made leaves))
     (subst (λ (f : List ℕ). IsArchiveAt f now (g.F.Files.view c.make_folder.new.files).slots) (sym same)
     (at_but_lock folder now _ _ (λ place off. same_places c.make_folder.ensures.changes made place) at))))
+
+pub returns-in_err-make_folder-clause-changes : goal.returns-in_err-make_folder-clause-changes
+returns-in_err-make_folder-clause-changes g c = no_file_in ((g.F.Files.view c.args.files.now).folder c.args.path.now) c.make_folder.ensures.changes
+
+pub returns-in-Err-clause-changes : goal.returns-in-Err-clause-changes
+returns-in-Err-clause-changes g c = no_file_in ((g.F.Files.view c.args.files.now).folder c.args.path.now) c.make_folder.ensures.changes
+
+pub returns-clause-changes : goal.returns-clause-changes
+returns-clause-changes g c =
+    let folder = (g.F.Files.view c.args.files.now).folder c.args.path.now in
+    changed_again (no_file_in folder c.make_folder.ensures.changes)
+    (same_folder c.as_str.result.now folder
+    (λ honest.
+    let made = c.add_in.ensures.goes_on.honest honest in
+    c.as_str.ensures.value ∙ c.in-Ok.ensures.located made ∙ c.make_folder.ensures.goes_on.folders made c.args.path.now)
+    c.add_in.ensures.changes)
+    c.add_in.ensures.goes_on.honest

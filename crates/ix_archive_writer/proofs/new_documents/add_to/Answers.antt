@@ -4,6 +4,7 @@ use Rattle.ix_files.specs.Views.{LeavesOnly}
 use Rattle.ix_archive_writer.specs.Changes.{stop_given}
 use Rattle.ix_archive_writer.specs.Commits.{IsLeftArchive, LeavesAmong}
 use Rattle.ix_archive_writer.proofs.AddingLemmas.{added_found, added_new, found_leaves, no_texts, nothing_added, on_ok}
+use Rattle.ix_archive_writer.proofs.FolderChanges.{none_in}
 use Rattle.ix_archive_writer.proofs.new_documents.add_to.Goals as goal
 
 pub returns-in_err-own-clause-any_moment : goal.returns-in_err-own-clause-any_moment
@@ -43,3 +44,9 @@ returns-clause-any_moment g c honest now found =
     added_new c.args.folder.now now c.args.manifest c.new.result.items (stop_given c.args.stop) c.in_ok-own.own c.args.documents.now (g.F.Files.view c.args.files.now).slots
     (λ (after : Archive). LeavesOnly (IsLeftArchive c.args.folder.now (Some after ∷ now ∷ [])) (g.F.Files.view c.args.files.now) (g.F.Files.view c.add_segment-in-None.new.files)) c.in-None.is c.new.ensures.items
     (c.in_ok-own.ensures (c.add_segment-in-None.ensures.goes_on.honest honest) now found) found (λ base same ready. c.add_segment-in-None.ensures.any_moment honest now base same ready)
+
+pub returns-in_err-own-clause-changes : goal.returns-in_err-own-clause-changes
+returns-in_err-own-clause-changes g c = none_in c.args.folder.now _ (g.met.F.Files.only_now c.args.files.now)
+
+pub returns-then-is_empty-clause-changes : goal.returns-then-is_empty-clause-changes
+returns-then-is_empty-clause-changes g c = none_in c.args.folder.now _ (g.met.F.Files.only_now c.args.files.now)
