@@ -1,5 +1,6 @@
 pub mod CommitLemmas
 pub mod Going
+pub mod LawfulNames
 pub mod Laying
 pub mod OpeningLemmas
 pub mod Places
