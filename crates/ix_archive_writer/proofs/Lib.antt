@@ -1,4 +1,5 @@
 pub mod CommitLemmas
+pub mod FindingLemmas
 pub mod Going
 pub mod LawfulNames
 pub mod Laying
@@ -7,5 +8,6 @@ pub mod Places
 pub mod Projected
 pub mod ReadingLemmas
 pub mod RemovalLemmas
+pub mod RemovingLemmas
 pub mod SegmentLemmas
 pub mod TakingLemmas
