@@ -5,6 +5,7 @@ ghost use Rattle.ix_files.specs.Locations.{place_of};
 ghost use Rattle.ix_files.specs.Slots.{Kept};
 ghost use Rattle.ix_text.specs.Collections.{Document};
 ghost use Rattle.ix_folder.specs.Standings.{AreKept};
+ghost use Rattle.ix_removals.specs.RemovalsText.{Removal};
 ghost use Rattle.ix_archive.specs.Archives.{joined};
 ghost use Rattle.ix_archive.specs.Folders.{segment_files, segment_place};
 ghost use Rattle.ix_archive.specs.Layouts.{AreSegmentsOf, IsSegmentOf};
