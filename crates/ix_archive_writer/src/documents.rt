@@ -1,6 +1,6 @@
 //! What is read of a segment's file by ranges: its stop terms, and the names of its documents.
 
-ghost use Rattle.std.specs.Prelude.{◌≡◌, ◌+◌, ◌++◌, ⊥, ℕ, List, length, map, IfOk, OnOk, string_bytes};
+ghost use Rattle.std.specs.Prelude.{◌≡◌, ◌+◌, ◌++◌, ℕ, List, length, map, IfOk, OnOk, string_bytes};
 ghost use Rattle.ix_files.specs.Locations.{place_of};
 ghost use Rattle.ix_files.specs.Slots.{Kept};
 ghost use Rattle.ix_text.specs.Collections.{Document};

@@ -5,6 +5,7 @@ ghost use Rattle.ix_files.specs.Locations.{place_of};
 ghost use Rattle.ix_files.specs.Slots.{Kept};
 ghost use Rattle.ix_text.specs.Collections.{Document};
 ghost use Rattle.ix_folder.specs.Standings.{AreKept};
+ghost use Rattle.ix_removals.specs.RemovalsText.{Removal};
 ghost use Rattle.ix_archive.specs.Archives.{joined};
 ghost use Rattle.ix_archive.specs.Folders.{segment_files, segment_place};
 ghost use Rattle.ix_archive.specs.Layouts.{AreSegmentsOf, IsSegmentOf};
@@ -42,41 +43,16 @@ pub(crate) fn find_taken<F: Files>(
     let none = Removals::new(alloc);
     let asked = removals_with(alloc, &none, names, u64::MAX)?;
     let mut taken = Vec::new(alloc);
-    let total = take_all(
-        alloc, files, folder, segments, 0, &asked, removed, &mut taken,
-    )?;
-    Ok((taken, total))
+    let mut next = 0;
+    for segment in segments {
+        next = take_segment(
+            alloc, files, folder, segment, next, &asked, removed, &mut taken,
+        )?;
+    }
+    Ok((taken, next))
 }
 
-/// Appends the names of those documents of segments, whose numbers are from `first` on. Returns the number behind them.
-fn take_all<F: Files>(
-    alloc: Global,
-    files: &F,
-    folder: &str,
-    segments: &[Segment],
-    first: u64,
-    asked: &Removals,
-    removed: &Removals,
-    taken: &mut Vec<String>,
-) -> Result<u64, ChangeError>
-    ensures { IfOk result (λ next. (F.view files.now).honest
-        → (stop : List (List ℕ)) (texts : List (List ℕ)) (lists : List (List Document))
-        → AreSegmentsOf stop segments.now texts lists
-        → AreKept (segment_files folder.now segments.now texts) (F.view files.now).slots
-        → (before : List (List ℕ)) → length before ≡ first
-        → AreTaken asked.now removed.now before (map string_bytes taken.old.items)
-        → AreTaken asked.now removed.now (before ++ names_in (joined lists))
-        (map string_bytes taken.new.items)
-        × (next ≡ first + length (joined lists))) }
-{
-    let Some((segment, rest)) = segments.split_first() else {
-        return Ok(first);
-    };
-    let next = take_segment(alloc, files, folder, segment, first, asked, removed, taken)?;
-    take_all(alloc, files, folder, rest, next, asked, removed, taken)
-}
-
-/// Appends the names of those documents of a segment.
+/// Appends the names of those documents of a segment, whose numbers are from `first` on, and returns the number behind them.
 fn take_segment<F: Files>(
     alloc: Global,
     files: &F,
