@@ -10,13 +10,13 @@ use Rattle.ix_gram.proofs.Ascending.{none_in_nil}
 use Rattle.ix_manifest.specs.ManifestText.{ManifestView}
 use Rattle.ix_merge.proofs.Laying.{contains_cases, contains_now}
 use Rattle.ix_removals.specs.RemovalsText.{IsRemoved, Removal}
-use Rattle.ix_archive.specs.Archives.{Archive}
+use Rattle.ix_archive.specs.Archives.{Archive, joined}
 use Rattle.ix_archive.specs.Folders.{IsArchiveAt, removals_files, segment_files, standing_of}
 use Rattle.ix_archive_writer.specs.Changes.{IsNewlyGone, IsWithout, names_in, with_removed}
 use Rattle.ix_archive_writer.specs.Commits.{HasWithout, IsFoundIn, IsLeftArchive, IsLeftOrWithout, LeavesAmong, LeavesWithout}
 use Rattle.ix_archive_writer.specs.Takings.{AreTaken, AsksFor, Removes}
 use Rattle.ix_archive_writer.proofs.Going.{begun}
-use Rattle.ix_archive_writer.proofs.RemovalLemmas.{newly_gone, removes_none, removes_taken, without}
+use Rattle.ix_archive_writer.proofs.RemovalLemmas.{lawful_names, newly_gone, removes_none, removes_taken, without}
 
 -- ---- what was found
 
@@ -113,3 +113,25 @@ among_left folder among names archive named left (inl is) =
       | inl same ↦ inl (record { archive = is.archive; named = subst (Contains among) same named; there = is.there })
       | inr none ↦ absurd (none_in_nil is.archive none)
     ]
+
+-- ---- what was found of the archive that is there
+
+module _ {folder : List ℕ} {archive : Archive} {view : ManifestView} {slots : Slots} (found : IsFoundIn folder archive view slots) (names : List (List ℕ)) (removed : List Removal) (taken : List (List ℕ)) (total : ℕ) (same : removed ≡ archive.removals)
+    (fits : total < 2 ^ 64) (told : (asked : List Removal) × AsksFor names asked × AreTaken asked removed (names_in (joined found.laid.lists)) taken × (total ≡ length (joined found.laid.lists))) where
+  lawful_found : All (λ d. IsName d.name) (joined found.laid.lists)
+  lawful_found = lawful_names archive.stop view.segments found.texts found.laid.lists found.laid.segments
+
+  pub found_gone : (count : ℕ) → length taken ≡ count → IsNewlyGone names archive count
+  found_gone count is = subst (IsNewlyGone names archive) is (gone_anew names archive removed (joined found.laid.lists) taken total same found.laid.documents lawful_found fits told)
+
+  pub found_without : (removals : List Removal) → Removes archive.removals taken (length archive.documents) removals → IsWithout names archive (with_removed archive removals)
+  found_without = is_without names archive removed (joined found.laid.lists) taken total same found.laid.documents lawful_found fits told
+
+  pub found_itself : taken ≡ [] → IsWithout names archive archive
+  found_itself = is_itself names archive removed (joined found.laid.lists) taken total same found.laid.documents lawful_found fits told
+
+  pub found_removes : (below : ℕ) (removals : List Removal) (texts : List (List ℕ)) → texts ≡ taken → (0 < total → below ≡ total)
+      → ((name : List ℕ) (number : ℕ) → IsRemoved removals name number ↔ (IsRemoved removed name number ⊎ ((Contains texts name × IsName name) × (number < below)))) → Removes archive.removals taken (length archive.documents) removals
+  found_removes below removals texts are bound exact =
+      removes_found names archive removed (joined found.laid.lists) taken total same found.laid.documents lawful_found fits told below removals bound
+      (subst (λ (l : List (List ℕ)). (name : List ℕ) (number : ℕ) → IsRemoved removals name number ↔ (IsRemoved removed name number ⊎ ((Contains l name × IsName name) × (number < below)))) are exact)

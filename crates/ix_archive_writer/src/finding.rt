@@ -42,11 +42,31 @@ pub(crate) fn find_taken<F: Files>(
 {
     let none = Removals::new(alloc);
     let asked = removals_with(alloc, &none, names, u64::MAX)?;
+    find_asked(alloc, files, folder, segments, &asked, removed)
+}
+
+/// The names of the documents that are asked for and not removed, and the number of all documents.
+fn find_asked<F: Files>(
+    alloc: Global,
+    files: &F,
+    folder: &str,
+    segments: &[Segment],
+    asked: &Removals,
+    removed: &Removals,
+) -> Result<(Vec<String>, u64), ChangeError>
+    ensures { IfOk result (λ found. (F.view files.now).honest
+        → (stop : List (List ℕ)) (texts : List (List ℕ)) (lists : List (List Document))
+        → AreSegmentsOf stop segments.now texts lists
+        → AreKept (segment_files folder.now segments.now texts) (F.view files.now).slots
+        → AreTaken asked.now removed.now (names_in (joined lists))
+        (map string_bytes found.0.items)
+        × (found.1 ≡ length (joined lists))) }
+{
     let mut taken = Vec::new(alloc);
     let mut next = 0;
     for segment in segments {
         next = take_segment(
-            alloc, files, folder, segment, next, &asked, removed, &mut taken,
+            alloc, files, folder, segment, next, asked, removed, &mut taken,
         )?;
     }
     Ok((taken, next))

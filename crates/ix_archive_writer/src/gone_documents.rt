@@ -1,6 +1,7 @@
 //! Removing documents of an archive by their names.
 
 ghost use Rattle.std.specs.Prelude.{◌≡◌, ◌+◌, ◌<◌, ◌^◌, ◌∷◌, [], List, Option, Some, Contains, IfOk};
+ghost use Rattle.ix_files.specs.Changes.{ChangesOnly};
 ghost use Rattle.ix_files.specs.Views.{GoesOn, LeavesOnly};
 ghost use Rattle.ix_manifest.specs.ManifestText.{view_of};
 ghost use Rattle.ix_archive.specs.Archives.{Archive};
@@ -43,6 +44,8 @@ pub fn remove<F: Files>(
         → IsArchiveAt ((F.view files.old).folder path.now) (Some archive) (F.view files.old).slots
         → LeavesOnly (IsLeftOrWithout ((F.view files.old).folder path.now) among
         (texts_in names.now) archive) (F.view files.old) (F.view files.new) }
+    ensures changes { ChangesOnly (λ place. place.folder ≡ (F.view files.old).folder path.now)
+        (F.view files.old) (F.view files.new) }
     ensures goes_on { GoesOn (F.view files.old) (F.view files.new) }
 {
     let folder = match files.locate_folder(path) {
@@ -69,6 +72,8 @@ fn remove_in<F: Files>(
         → IsArchiveAt folder.now (Some archive) (F.view files.old).slots
         → LeavesOnly (IsLeftOrWithout folder.now among (texts_in names.now) archive)
         (F.view files.old) (F.view files.new) }
+    ensures changes { ChangesOnly (λ place. place.folder ≡ folder.now) (F.view files.old)
+        (F.view files.new) }
     ensures goes_on { GoesOn (F.view files.old) (F.view files.new) }
 {
     let (lock, manifest) = open(alloc, files, folder)?;
@@ -97,6 +102,8 @@ fn remove_from<F: Files>(
         → IsFoundIn folder.now archive (view_of manifest) (F.view files.old).slots
         → LeavesOnly (IsLeftOrWithout folder.now (Some archive ∷ []) (texts_in names.now) archive)
         (F.view files.old) (F.view files.new) }
+    ensures changes { ChangesOnly (λ place. place.folder ≡ folder.now) (F.view files.old)
+        (F.view files.new) }
     ensures goes_on { GoesOn (F.view files.old) (F.view files.new) }
 {
     let removed = read_removals(alloc, files, folder, &manifest)?;

@@ -146,6 +146,8 @@ pub(crate) fn put_removals<F: Files>(
         → LeavesOnly (IsLeftArchive folder.now
         (Some (with_removed archive removals.now) ∷ Some archive ∷ []))
         (F.view files.old) (F.view files.new) }
+    ensures changes { ChangesOnly (λ place. place.folder ≡ folder.now) (F.view files.old)
+        (F.view files.new) }
     ensures goes_on { GoesOn (F.view files.old) (F.view files.new) }
 {
     let file = manifest.next;

@@ -1,6 +1,6 @@
 use Rattle.std.specs.Prelude.{map, string_bytes}
 use Rattle.ix_archive_writer.proofs.FindingLemmas.{TakenSoFar}
-use Rattle.ix_archive_writer.proofs.finding.find_taken.Given as goal
+use Rattle.ix_archive_writer.proofs.finding.find_asked.Given as goal
 
 abbrev pub invariant-loop-segment : goal.invariant-loop-segment
 invariant-loop-segment g l =

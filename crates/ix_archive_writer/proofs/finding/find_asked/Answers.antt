@@ -1,0 +1,15 @@
+use Rattle.std.proofs.Common.{arith}
+use Rattle.ix_archive_writer.proofs.FindingLemmas.{all_taken, more_taken, none_taken}
+use Rattle.ix_archive_writer.proofs.finding.find_asked.Goals as goal
+
+pub loop-segment-init : goal.loop-segment-init
+loop-segment-init g c honest = rw c.new-taken.ensures.items (none_taken c.args.asked.now c.args.removed.now c.args.folder.now (g.F.Files.view c.args.files.now).slots c.args.segments.now _ (cc))
+
+pub loop-segment-preserved : goal.loop-segment-preserved
+loop-segment-preserved g c honest =
+    more_taken c.args.asked.now c.args.removed.now c.args.folder.now (g.F.Files.view c.args.files.now).slots c.args.segments.now c.loop-segment.segment-index _ _ _ _ _ c.loop-segment-test.true (c.loop-segment.invariant honest)
+    (c.in_ok-next.ensures honest)
+
+pub returns : goal.returns
+returns g c honest =
+    all_taken c.args.asked.now c.args.removed.now c.args.folder.now (g.F.Files.view c.args.files.now).slots c.args.segments.now c.loop-segment.segment-index _ _ (omega (arith, c.loop-segment-test.false)) (c.loop-segment.invariant honest)
