@@ -1,6 +1,6 @@
 -- Documents are added to the archive that was found, or to a new one.
 use Rattle.std.proofs.Common.{◌≡◌, ◌≢◌, ◌∙◌, All, Contains, List, [], ◌∷◌, ◌++◌, ℕ, Option, None, Some, ap, arith, length, refl, subst, sym, true}
-use Rattle.std.specs.Prelude.{◌==◌, Err, IfOk, IfSome, Ok, OnOk, Result, map, option_map, slice_get}
+use Rattle.std.specs.Prelude.{◌==◌, map, option_map, slice_get}
 use Rattle.std.proofs.lemmas.Bool.{eqb-true}
 use Rattle.std.proofs.lemmas.List.{append-nil}
 use Rattle.std.proofs.lemmas.List.Elements.{All-head, All-tail}
@@ -17,19 +17,6 @@ use Rattle.ix_archive.specs.Layouts.{AreSegmentsOf, IsSegmentOf}
 use Rattle.ix_archive_writer.specs.Changes.{after_adding, archive_or, documents_under, with_documents}
 use Rattle.ix_archive_writer.specs.Commits.{IsFound, IsFoundIn, IsLeftArchive, IsReady, LeavesAmong}
 use Rattle.ix_archive_writer.proofs.CommitLemmas.{leaves_after, ready_found, ready_leaves, ready_new}
-
--- what is known of what there is
-pub at_some : {T : Type 0} (P : T → Type 0) {found : Option T} {value : T} → found ≡ Some value → IfSome found P → P value
-at_some P is known = subst (λ (o : Option _). IfSome o P) is known
-
--- what is known of a result that is `Ok`
-pub on_ok : {T E : Type 0} {P Q : Type 0} (result : Result T E) → (P → Q) → OnOk result P → OnOk result Q
-on_ok (Ok value) more is = more is
-on_ok (Err error) more is = tt
-
-pub if_ok : {T E : Type 0} {P Q R S : T → Type 0} (result : Result T E) → ((value : T) → P value → Q value → R value → S value) → IfOk result P → IfOk result Q → IfOk result R → IfOk result S
-if_ok (Ok value) more one other third = more value one other third
-if_ok (Err error) more one other third = tt
 
 -- there are no documents
 pub no_texts : {X Y : Type 0} (f : X → Y) (documents : List X) (texts : List Y) → map f documents ≡ texts → true ≡ (length documents == 0) → texts ≡ []

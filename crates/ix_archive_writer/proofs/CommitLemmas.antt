@@ -1,6 +1,5 @@
 -- A commit, in terms of archives: files that are new are written beside those that are there, and then the manifest is published.
 use Rattle.std.proofs.Common.{◌≡◌, ◌≢◌, ◌∙◌, ◌⊎◌, ◌+◌, ◌<◌, ◌^◌, ⊎_elim, All, Contains, List, [], ◌∷◌, ◌++◌, ℕ, Option, None, Some, ap, arith, get_or, inl, inr, length, lit<, refl, subst, sym}
-use Rattle.std.specs.Prelude.{IfOk, IfSome, Ok, Result}
 use Rattle.std.proofs.lemmas.List.Elements.{All-append, All-cons, All-head, All-nil, All-tail}
 use Rattle.ix_files.specs.Changes.{ChangesOnly}
 use Rattle.ix_files.specs.Slots.{Kept, Place, Slot, Slots, Stops}
@@ -201,10 +200,6 @@ pub dropped_leaves : {folder : List ℕ} {now : Option Archive} {after : Archive
 dropped_leaves {folder = folder} {place = place} commits settled changes honest = narrowed
     (λ left stands. record { archive = _; named = (1, omega arith, refl); there = commits.back left stands })
     (leaves_standing (λ other. other ≡ place) folder commits.standing changes honest settled (λ same. commits.is_file.no_manifest (sym same)) commits.apart)
-
--- what is known of a text, if there is one
-pub at_ok : {T E : Type 0} (P : T → Type 0) {result : Result T E} {value : T} → result ≡ Ok value → IfOk result P → P value
-at_ok P is known = subst (λ (r : Result _ _). IfOk r P) is known
 
 -- ---- what the calls leave while they write
 

@@ -1,11 +1,11 @@
 use Rattle.std.proofs.Common.{◌≡◌, ◌∙◌, List, ap, arith, length, map, sym}
 use Rattle.std.proofs.lemmas.List.{length-map}
+use Rattle.std.proofs.lemmas.Result.{on_ok_weaker}
 use Rattle.ix_files.specs.Locations.{place_of}
 use Rattle.ix_files.specs.Slots.{Place}
 use Rattle.ix_files.proofs.Drafting.{changed_again, went_on_again}
 use Rattle.ix_manifest.specs.ManifestText.{manifest_text, view_of}
 use Rattle.ix_archive_writer.specs.Changes.{documents_under, with_documents, with_segment}
-use Rattle.ix_archive_writer.proofs.AddingLemmas.{on_ok}
 use Rattle.ix_archive_writer.proofs.CommitLemmas.{ready_leaves, segment_commits, segment_leaves}
 use Rattle.ix_archive_writer.proofs.Going.{then_leaves}
 use Rattle.ix_archive_writer.proofs.FolderChanges.{none_in, one_in}
@@ -25,7 +25,7 @@ pub returns-in_err-segment-clause-any_moment : goal.returns-in_err-segment-claus
 returns-in_err-segment-clause-any_moment g c honest now base same ready = segment_leaves ready (place_of c.in_ok-at.at) c.in_ok-at.ensures c.write_blocks.ensures.changes honest _
 
 pub returns-clause-done : goal.returns-clause-done
-returns-clause-done g c = on_ok c.commit.result
+returns-clause-done g c = on_ok_weaker c.commit.result
     (λ done honest now base same ready.
     let written = c.commit.ensures.goes_on.honest honest in
     let texts = c.args.documents.now in

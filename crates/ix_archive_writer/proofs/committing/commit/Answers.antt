@@ -1,10 +1,11 @@
 use Rattle.std.proofs.Common.{◌≡◌, ◌∙◌, refl}
 use Rattle.std.specs.Prelude.{string_bytes}
+use Rattle.std.proofs.lemmas.Result.{IfOk-at_ok}
 use Rattle.ix_files.proofs.Drafting.{changed_again, went_on_again}
 use Rattle.ix_folder.specs.PublishErrors.{IsBefore}
 use Rattle.ix_folder.specs.declared.publish_error.PublishError.{PublishError}
 use Rattle.ix_folder.specs.declared.publish_error.PublishError.TheVariants.{Memory, NotKept, Write}
-use Rattle.ix_archive_writer.proofs.CommitLemmas.{at_ok, commit_leaves, committed, dropped_leaves}
+use Rattle.ix_archive_writer.proofs.CommitLemmas.{commit_leaves, committed, dropped_leaves}
 use Rattle.ix_archive_writer.proofs.Going.{then_leaves}
 use Rattle.ix_archive_writer.proofs.Places.{file_names}
 use Rattle.ix_archive_writer.proofs.FolderChanges.{one_in}
@@ -15,17 +16,17 @@ returns-in-Err-clause-any_moment g c honest now after bytes spelled commits = dr
 
 pub returns-in-Ok-publish-clause-done : goal.returns-in-Ok-publish-clause-done
 returns-in-Ok-publish-clause-done g c honest now after bytes spelled commits =
-    committed commits c.as_bytes.result.now (c.as_bytes.ensures.value ∙ at_ok (λ text. string_bytes text ≡ bytes) c.in-Ok.is spelled) _
+    committed commits c.as_bytes.result.now (c.as_bytes.ensures.value ∙ IfOk-at_ok (λ text. string_bytes text ≡ bytes) c.in-Ok.is spelled) _
     (c.in-Ok-publish.ensures.done honest _ (file_names c.args.folder.now commits.view commits.texts commits.removals_file) commits.kept)
 
 pub returns-in-Ok-publish-clause-any_moment : goal.returns-in-Ok-publish-clause-any_moment
 returns-in-Ok-publish-clause-any_moment g c honest now after bytes spelled commits =
-    commit_leaves commits c.as_bytes.result.now (c.as_bytes.ensures.value ∙ at_ok (λ text. string_bytes text ≡ bytes) c.in-Ok.is spelled)
+    commit_leaves commits c.as_bytes.result.now (c.as_bytes.ensures.value ∙ IfOk-at_ok (λ text. string_bytes text ≡ bytes) c.in-Ok.is spelled)
     (c.publish.ensures.any_moment honest commits.standing commits.names commits.settled _ (file_names c.args.folder.now commits.view commits.texts commits.removals_file) commits.kept)
 
 pub returns-in-NotKept-clause-any_moment : goal.returns-in-NotKept-clause-any_moment
 returns-in-NotKept-clause-any_moment g c honest now after bytes spelled commits =
-    commit_leaves commits c.as_bytes.result.now (c.as_bytes.ensures.value ∙ at_ok (λ text. string_bytes text ≡ bytes) c.in-Ok.is spelled)
+    commit_leaves commits c.as_bytes.result.now (c.as_bytes.ensures.value ∙ IfOk-at_ok (λ text. string_bytes text ≡ bytes) c.in-Ok.is spelled)
     (c.publish.ensures.any_moment honest commits.standing commits.names commits.settled _ (file_names c.args.folder.now commits.view commits.texts commits.removals_file) commits.kept)
 
 -- the manifest before is in its place after any other error
@@ -38,7 +39,7 @@ pub returns-clause-any_moment : goal.returns-clause-any_moment
 returns-clause-any_moment g c honest now after bytes spelled commits =
     let published = c.drop_file-in_default.ensures.goes_on.honest honest in
     then_leaves
-    (commit_leaves commits c.as_bytes.result.now (c.as_bytes.ensures.value ∙ at_ok (λ text. string_bytes text ≡ bytes) c.in-Ok.is spelled)
+    (commit_leaves commits c.as_bytes.result.now (c.as_bytes.ensures.value ∙ IfOk-at_ok (λ text. string_bytes text ≡ bytes) c.in-Ok.is spelled)
     (c.publish.ensures.any_moment published commits.standing commits.names commits.settled _ (file_names c.args.folder.now commits.view commits.texts commits.removals_file) commits.kept))
     (dropped_leaves commits (c.in-Err-publish.ensures.before (before_unless _ c.in_default.not-NotKept) published commits.standing commits.names commits.settled) c.drop_file-in_default.ensures.changes honest)
 

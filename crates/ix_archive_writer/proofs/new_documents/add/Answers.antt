@@ -1,10 +1,10 @@
 use Rattle.std.proofs.Common.{◌≡◌, ◌∙◌, [], ◌∷◌, List, ℕ, Some, subst, sym}
+use Rattle.std.proofs.lemmas.Result.{on_ok_weaker}
 use Rattle.ix_files.specs.Views.{LeavesOnly}
 use Rattle.ix_folder.proofs.Laws.{narrowed}
 use Rattle.ix_archive.specs.Folders.{IsArchiveAt}
 use Rattle.ix_archive_writer.specs.Changes.{after_adding, stop_given}
 use Rattle.ix_archive_writer.specs.Commits.{IsLeftArchive, LeavesAmong}
-use Rattle.ix_archive_writer.proofs.AddingLemmas.{on_ok}
 use Rattle.ix_archive_writer.proofs.Going.{then_leaves}
 use Rattle.ix_archive_writer.proofs.OpeningLemmas.{among_more, at_but_lock, same_moments, same_places, same_stops}
 use Rattle.ix_files.proofs.Drafting.{changed_again}
@@ -20,7 +20,7 @@ returns-in-Err-clause-any_moment g c honest among now named leaves at =
     narrowed (among_more ((g.F.Files.view c.args.files.now).folder c.args.path.now) _ among) (same_moments ((g.F.Files.view c.args.files.now).folder c.args.path.now) among c.make_folder.ensures.changes honest leaves)
 
 pub returns-clause-done : goal.returns-clause-done
-returns-clause-done g c = on_ok c.add_in.result
+returns-clause-done g c = on_ok_weaker c.add_in.result
     (λ done honest now at.
     let made = c.add_in.ensures.goes_on.honest honest in
     let folder = (g.F.Files.view c.args.files.now).folder c.args.path.now in

@@ -1,9 +1,10 @@
 use Rattle.std.proofs.Common.{[], ◌∷◌, Option, Some}
+use Rattle.std.proofs.lemmas.Result.{on_ok_weaker}
 use Rattle.ix_archive.specs.Archives.{Archive}
 use Rattle.ix_files.specs.Views.{LeavesOnly}
 use Rattle.ix_archive_writer.specs.Changes.{stop_given}
 use Rattle.ix_archive_writer.specs.Commits.{IsLeftArchive, LeavesAmong}
-use Rattle.ix_archive_writer.proofs.AddingLemmas.{added_found, added_new, found_leaves, no_texts, nothing_added, on_ok}
+use Rattle.ix_archive_writer.proofs.AddingLemmas.{added_found, added_new, found_leaves, no_texts, nothing_added}
 use Rattle.ix_archive_writer.proofs.FolderChanges.{none_in}
 use Rattle.ix_archive_writer.proofs.new_documents.add_to.Goals as goal
 
@@ -18,7 +19,7 @@ pub returns-then-is_empty-clause-any_moment : goal.returns-then-is_empty-clause-
 returns-then-is_empty-clause-any_moment g c honest now found = found_leaves c.args.folder.now _ now _ (g.met.F.Files.only_now c.args.files.now) found
 
 pub returns-in-Some-clause-done : goal.returns-in-Some-clause-done
-returns-in-Some-clause-done g c = on_ok c.add_segment.result
+returns-in-Some-clause-done g c = on_ok_weaker c.add_segment.result
     (λ done honest now found.
     added_found c.args.folder.now now c.args.manifest c.in-Some.manifest (stop_given c.args.stop) c.in_ok-own.own c.args.documents.now (g.F.Files.view c.args.files.now).slots
     (λ (after : Archive). LeavesAmong c.args.folder.now (Some after ∷ []) (g.F.Files.view c.add_segment.new.files).slots) c.in-Some.is (c.in_ok-own.ensures (c.add_segment.ensures.goes_on.honest honest) now found) found
@@ -32,7 +33,7 @@ returns-in-Some-clause-any_moment g c honest now found =
     (c.in_ok-own.ensures (c.add_segment.ensures.goes_on.honest honest) now found) found (λ base same ready. c.add_segment.ensures.any_moment honest now base same ready)
 
 pub returns-clause-done : goal.returns-clause-done
-returns-clause-done g c = on_ok c.add_segment-in-None.result
+returns-clause-done g c = on_ok_weaker c.add_segment-in-None.result
     (λ done honest now found.
     added_new c.args.folder.now now c.args.manifest c.new.result.items (stop_given c.args.stop) c.in_ok-own.own c.args.documents.now (g.F.Files.view c.args.files.now).slots
     (λ (after : Archive). LeavesAmong c.args.folder.now (Some after ∷ []) (g.F.Files.view c.add_segment-in-None.new.files).slots) c.in-None.is c.new.ensures.items
