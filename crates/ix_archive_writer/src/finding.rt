@@ -1,6 +1,6 @@
 //! The documents of an archive that a removal takes.
 
-ghost use Rattle.std.specs.Prelude.{◌≡◌, ◌+◌, ◌++◌, List, ℕ, IfOk, OnOk, length, map, string_bytes};
+ghost use Rattle.std.specs.Prelude.{◌≡◌, ◌+◌, ◌<◌, ◌^◌, ◌++◌, List, ℕ, IfOk, OnOk, length, map, string_bytes};
 ghost use Rattle.ix_files.specs.Locations.{place_of};
 ghost use Rattle.ix_files.specs.Slots.{Kept};
 ghost use Rattle.ix_text.specs.Collections.{Document};
@@ -32,7 +32,8 @@ pub(crate) fn find_taken<F: Files>(
     names: &[&str],
     removed: &Removals,
 ) -> Result<(Vec<String>, u64), ChangeError>
-    ensures { IfOk result (λ found. (F.view files.now).honest
+    ensures small { IfOk result (λ found. found.1 < 2 ^ 64) }
+    ensures found { IfOk result (λ found. (F.view files.now).honest
         → (stop : List (List ℕ)) (texts : List (List ℕ)) (lists : List (List Document))
         → AreSegmentsOf stop segments.now texts lists
         → AreKept (segment_files folder.now segments.now texts) (F.view files.now).slots
@@ -54,7 +55,8 @@ fn find_asked<F: Files>(
     asked: &Removals,
     removed: &Removals,
 ) -> Result<(Vec<String>, u64), ChangeError>
-    ensures { IfOk result (λ found. (F.view files.now).honest
+    ensures small { IfOk result (λ found. found.1 < 2 ^ 64) }
+    ensures found { IfOk result (λ found. (F.view files.now).honest
         → (stop : List (List ℕ)) (texts : List (List ℕ)) (lists : List (List Document))
         → AreSegmentsOf stop segments.now texts lists
         → AreKept (segment_files folder.now segments.now texts) (F.view files.now).slots

@@ -10,6 +10,6 @@ loop-segment-preserved g c honest =
     more_taken c.args.asked.now c.args.removed.now c.args.folder.now (g.F.Files.view c.args.files.now).slots c.args.segments.now c.loop-segment.segment-index _ _ _ _ _ c.loop-segment-test.true (c.loop-segment.invariant honest)
     (c.in_ok-next.ensures honest)
 
-pub returns : goal.returns
-returns g c honest =
+pub returns-clause-found : goal.returns-clause-found
+returns-clause-found g c honest =
     all_taken c.args.asked.now c.args.removed.now c.args.folder.now (g.F.Files.view c.args.files.now).slots c.args.segments.now c.loop-segment.segment-index _ _ (omega (arith, c.loop-segment-test.false)) (c.loop-segment.invariant honest)
