@@ -85,7 +85,8 @@ fn take_segment<F: Files>(
     removed: &Removals,
     taken: &mut Vec<String>,
 ) -> Result<u64, ChangeError>
-    ensures { IfOk result (λ next. (F.view files.now).honest
+    ensures small { IfOk result (λ next. next < 2 ^ 64) }
+    ensures taken { IfOk result (λ next. (F.view files.now).honest
         → (stop : List (List ℕ)) (text : List ℕ) (documents : List Document)
         → ((F.view files.now).slots (segment_place folder.now segment.now.file)).now ≡ Kept text
         → IsSegmentOf stop segment.now text documents

@@ -1,4 +1,4 @@
-use Rattle.std.proofs.Common.{[], ◌≡◌, ◌∙◌, List, ℕ, ap, arith, length, map, sym}
+use Rattle.std.proofs.Common.{[], ◌≡◌, ◌∙◌, List, ℕ, ap, arith, length, map}
 use Rattle.std.specs.Prelude.{string_bytes}
 use Rattle.std.proofs.Math.Nat.{max-eq_left}
 use Rattle.std.proofs.lemmas.Bool.Decides.{nat_tests}
@@ -30,7 +30,7 @@ returns-then-is_empty-clause-done g c honest archive found =
     let items = c.in_ok-taken.taken.items in
     let same = c.in_ok-removed.ensures honest (length archive.documents) archive.removals found.removals_file found.laid.removals (removals_kept found) in
     let told = c.in_ok-taken.ensures.found honest archive.stop found.texts found.laid.lists (rw c.deref.ensures.value found.laid.segments) (rw c.deref.ensures.value (segments_kept found)) in
-    let none : length items ≡ 0 = grind (arith, nat_tests, c.is_empty.ensures, c.if-is_empty.true) in (
+    let none : length items ≡ 0 = grind (arith, nat_tests, c.in_ok-taken.taken.ok.0, c.is_empty.ensures, c.if-is_empty.true) in (
       found_gone found names c.in_ok-removed.removed (map string_bytes items) c.in_ok-taken.total same c.in_ok-taken.ensures.small told 0 (length-map items _ ∙ none),
       leaves_itself found names (found_itself found names c.in_ok-removed.removed (map string_bytes items) c.in_ok-taken.total same c.in_ok-taken.ensures.small told (nil_from_length _ (length-map items _ ∙ none))),
     )
@@ -69,11 +69,12 @@ returns-clause-done g c honest archive found =
     let names = texts_in c.args.names.now in
     let items = c.in_ok-taken.taken.items in
     let taken = map string_bytes items in
+    let counted : length items ≡ c.len.result = omega (arith, c.in_ok-taken.taken.ok.0, c.len.ensures) in
     let same = c.in_ok-removed.ensures read (length archive.documents) archive.removals found.removals_file found.laid.removals (removals_kept found) in
     let told = c.in_ok-taken.ensures.found read archive.stop found.texts found.laid.lists (rw c.deref.ensures.value found.laid.segments) (rw c.deref.ensures.value (segments_kept found)) in
     let removes = found_removes found names c.in_ok-removed.removed taken c.in_ok-taken.total same c.in_ok-taken.ensures.small told c.max.result c.in_ok-removals.removals (texts_in c.deref-3.result.now)
         (rw c.deref-3.ensures.value (c.in_ok-taken_names.ensures ∙ ap (λ (l : List _). map string_bytes l) c.deref-2.ensures.value)) (λ some. c.max.ensures ∙ max-eq_left (omega (arith, some))) c.in_ok-removals.ensures in (
-      found_gone found names c.in_ok-removed.removed taken c.in_ok-taken.total same c.in_ok-taken.ensures.small told c.len.result (length-map items _ ∙ sym c.len.ensures),
+      found_gone found names c.in_ok-removed.removed taken c.in_ok-taken.total same c.in_ok-taken.ensures.small told c.len.result (length-map items _ ∙ counted),
       leaves_without c.args.folder.now names archive (with_removed archive c.in_ok-removals.removals) _
       (found_without found names c.in_ok-removed.removed taken c.in_ok-taken.total same c.in_ok-taken.ensures.small told c.in_ok-removals.removals removes)
       (c.in_ok-put_removals.ensures.done honest archive taken found removes),
