@@ -43,7 +43,7 @@ returns-in_err-put_removals-clause-any_moment g c honest archive found =
     let same = c.in_ok-removed.ensures read (length archive.documents) archive.removals found.removals_file found.laid.removals (removals_kept found) in
     let told = c.in_ok-taken.ensures.found read archive.stop found.texts found.laid.lists (rw c.deref.ensures.value found.laid.segments) (rw c.deref.ensures.value (segments_kept found)) in
     let removes = found_removes found names c.in_ok-removed.removed taken c.in_ok-taken.total same c.in_ok-taken.ensures.small told c.max.result c.in_ok-removals.removals (texts_in c.deref-3.result.now)
-        (rw c.deref-3.ensures.value (c.in_ok-taken_names.ensures ∙ ap (λ (l : List _). map string_bytes l) c.deref-2.ensures.value)) (λ some. c.max.ensures ∙ max-eq_left (omega (arith, some))) c.in_ok-removals.ensures in
+    (rw c.deref-3.ensures.value (c.in_ok-taken_names.ensures ∙ ap (λ (l : List _). map string_bytes l) c.deref-2.ensures.value)) (λ some. c.max.ensures ∙ max-eq_left (omega (arith, some))) c.in_ok-removals.ensures in
     narrowed
     (left_or_without c.args.folder.now names archive (with_removed archive c.in_ok-removals.removals)
     (found_without found names c.in_ok-removed.removed taken c.in_ok-taken.total same c.in_ok-taken.ensures.small told c.in_ok-removals.removals removes))
@@ -57,7 +57,7 @@ returns-clause-any_moment g c honest archive found =
     let same = c.in_ok-removed.ensures read (length archive.documents) archive.removals found.removals_file found.laid.removals (removals_kept found) in
     let told = c.in_ok-taken.ensures.found read archive.stop found.texts found.laid.lists (rw c.deref.ensures.value found.laid.segments) (rw c.deref.ensures.value (segments_kept found)) in
     let removes = found_removes found names c.in_ok-removed.removed taken c.in_ok-taken.total same c.in_ok-taken.ensures.small told c.max.result c.in_ok-removals.removals (texts_in c.deref-3.result.now)
-        (rw c.deref-3.ensures.value (c.in_ok-taken_names.ensures ∙ ap (λ (l : List _). map string_bytes l) c.deref-2.ensures.value)) (λ some. c.max.ensures ∙ max-eq_left (omega (arith, some))) c.in_ok-removals.ensures in
+    (rw c.deref-3.ensures.value (c.in_ok-taken_names.ensures ∙ ap (λ (l : List _). map string_bytes l) c.deref-2.ensures.value)) (λ some. c.max.ensures ∙ max-eq_left (omega (arith, some))) c.in_ok-removals.ensures in
     narrowed
     (left_or_without c.args.folder.now names archive (with_removed archive c.in_ok-removals.removals)
     (found_without found names c.in_ok-removed.removed taken c.in_ok-taken.total same c.in_ok-taken.ensures.small told c.in_ok-removals.removals removes))
@@ -73,11 +73,11 @@ returns-clause-done g c honest archive found =
     let same = c.in_ok-removed.ensures read (length archive.documents) archive.removals found.removals_file found.laid.removals (removals_kept found) in
     let told = c.in_ok-taken.ensures.found read archive.stop found.texts found.laid.lists (rw c.deref.ensures.value found.laid.segments) (rw c.deref.ensures.value (segments_kept found)) in
     let removes = found_removes found names c.in_ok-removed.removed taken c.in_ok-taken.total same c.in_ok-taken.ensures.small told c.max.result c.in_ok-removals.removals (texts_in c.deref-3.result.now)
-        (rw c.deref-3.ensures.value (c.in_ok-taken_names.ensures ∙ ap (λ (l : List _). map string_bytes l) c.deref-2.ensures.value)) (λ some. c.max.ensures ∙ max-eq_left (omega (arith, some))) c.in_ok-removals.ensures in (
+    (rw c.deref-3.ensures.value (c.in_ok-taken_names.ensures ∙ ap (λ (l : List _). map string_bytes l) c.deref-2.ensures.value)) (λ some. c.max.ensures ∙ max-eq_left (omega (arith, some))) c.in_ok-removals.ensures in (
       found_gone found names c.in_ok-removed.removed taken c.in_ok-taken.total same c.in_ok-taken.ensures.small told c.len.result (length-map items _ ∙ counted),
       leaves_without c.args.folder.now names archive (with_removed archive c.in_ok-removals.removals) _
-      (found_without found names c.in_ok-removed.removed taken c.in_ok-taken.total same c.in_ok-taken.ensures.small told c.in_ok-removals.removals removes)
-      (c.in_ok-put_removals.ensures.done honest archive taken found removes),
+          (found_without found names c.in_ok-removed.removed taken c.in_ok-taken.total same c.in_ok-taken.ensures.small told c.in_ok-removals.removals removes)
+          (c.in_ok-put_removals.ensures.done honest archive taken found removes),
     )
 
 pub returns-in_err-removed-clause-changes : goal.returns-in_err-removed-clause-changes
