@@ -1,6 +1,6 @@
 //! The documents of an archive that a removal takes.
 
-ghost use Rattle.std.specs.Prelude.{◌≡◌, ◌+◌, ◌++◌, List, ℕ, IfOk, OnOk, length, map, string_bytes};
+ghost use Rattle.std.specs.Prelude.{◌≡◌, ◌+◌, ◌<◌, ◌^◌, ◌++◌, List, ℕ, IfOk, OnOk, length, map, string_bytes};
 ghost use Rattle.ix_files.specs.Locations.{place_of};
 ghost use Rattle.ix_files.specs.Slots.{Kept};
 ghost use Rattle.ix_text.specs.Collections.{Document};
@@ -32,7 +32,8 @@ pub(crate) fn find_taken<F: Files>(
     names: &[&str],
     removed: &Removals,
 ) -> Result<(Vec<String>, u64), ChangeError>
-    ensures { IfOk result (λ found. (F.view files.now).honest
+    ensures small { IfOk result (λ found. found.1 < 2 ^ 64) }
+    ensures found { IfOk result (λ found. (F.view files.now).honest
         → (stop : List (List ℕ)) (texts : List (List ℕ)) (lists : List (List Document))
         → AreSegmentsOf stop segments.now texts lists
         → AreKept (segment_files folder.now segments.now texts) (F.view files.now).slots
@@ -54,7 +55,8 @@ fn find_asked<F: Files>(
     asked: &Removals,
     removed: &Removals,
 ) -> Result<(Vec<String>, u64), ChangeError>
-    ensures { IfOk result (λ found. (F.view files.now).honest
+    ensures small { IfOk result (λ found. found.1 < 2 ^ 64) }
+    ensures found { IfOk result (λ found. (F.view files.now).honest
         → (stop : List (List ℕ)) (texts : List (List ℕ)) (lists : List (List Document))
         → AreSegmentsOf stop segments.now texts lists
         → AreKept (segment_files folder.now segments.now texts) (F.view files.now).slots
@@ -83,7 +85,8 @@ fn take_segment<F: Files>(
     removed: &Removals,
     taken: &mut Vec<String>,
 ) -> Result<u64, ChangeError>
-    ensures { IfOk result (λ next. (F.view files.now).honest
+    ensures small { IfOk result (λ next. next < 2 ^ 64) }
+    ensures taken { IfOk result (λ next. (F.view files.now).honest
         → (stop : List (List ℕ)) (text : List ℕ) (documents : List Document)
         → ((F.view files.now).slots (segment_place folder.now segment.now.file)).now ≡ Kept text
         → IsSegmentOf stop segment.now text documents

@@ -12,8 +12,8 @@ use Rattle.ix_archive_writer.specs.Takings.{AreTaken}
 use Rattle.ix_archive_writer.proofs.Projected.{names_projected}
 use Rattle.ix_archive_writer.proofs.finding.take_segment.Goals as goal
 
-pub returns : goal.returns
-returns g c honest stop text documents kept is before counted are =
+pub returns-clause-taken : goal.returns-clause-taken
+returns-clause-taken g c honest stop text documents kept is before counted are =
     let part = c.in_ok-text.ensures honest stop documents text (subst (λ (place : Place). ((g.F.Files.view c.args.files.now).slots place).now ≡ Kept text) (sym c.in_ok-at.ensures) kept) is in
     let collection = kept_collection part.keeps (of_documents stop documents) in
     let index = c.in-Ok.ensures.exact Plain collection (subst (IsIndexText Plain collection) (sym c.as_slice.ensures.value) part.text) in
@@ -23,3 +23,6 @@ returns g c honest stop text documents kept is before counted are =
       subst (λ (l : List (List ℕ)). AreTaken c.args.asked.now c.args.removed.now (before ++ l) (map string_bytes c.take_names.new.taken.items)) names (c.in_ok-take_names.ensures before counted are),
       omega (arith, c.in-Some.ensures.1, c.from.ensures, c.doc_count.ensures.count, as_many),
     )
+
+pub returns-clause-small : goal.returns-clause-small
+returns-clause-small g c = omega (arith, c.in-Some.ensures.0, c.in-Some.ensures.1)

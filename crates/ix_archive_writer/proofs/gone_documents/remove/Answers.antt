@@ -1,4 +1,4 @@
-use Rattle.std.proofs.Common.{◌≡◌, ◌∙◌, List, ℕ, inl, subst, sym}
+use Rattle.std.proofs.Common.{◌≡◌, ◌∙◌, List, Some, ℕ, inl, subst, sym}
 use Rattle.std.proofs.lemmas.Result.{IfOk-weaker}
 use Rattle.ix_files.specs.Views.{LeavesOnly}
 use Rattle.ix_archive.specs.Folders.{IsArchiveAt}
@@ -18,7 +18,7 @@ returns-clause-done g c = IfOk-weaker c.remove_in.result _ _ (λ count done hone
     let folder = (g.F.Files.view c.args.files.now).folder c.args.path.now in
     let same : c.as_str.result.now ≡ folder = c.as_str.ensures.value ∙ c.in-Ok.ensures.located (c.remove_in.ensures.goes_on.honest honest) in
     subst (λ (f : List ℕ). IsNewlyGone (texts_in c.args.names.now) archive count × LeavesWithout f (texts_in c.args.names.now) archive (g.F.Files.view c.remove_in.new.files).slots) same
-    (done honest archive (subst (λ (f : List ℕ). IsArchiveAt f _ (g.F.Files.view c.args.files.now).slots) (sym same) at)))
+    (done honest archive (subst (λ (f : List ℕ). IsArchiveAt f (Some archive) (g.F.Files.view c.args.files.now).slots) (sym same) at)))
     c.remove_in.ensures.done
 
 pub returns-clause-any_moment : goal.returns-clause-any_moment
@@ -28,7 +28,7 @@ returns-clause-any_moment g c honest among archive named leaves at =
     subst (λ (f : List ℕ). LeavesOnly (IsLeftOrWithout f among (texts_in c.args.names.now) archive) (g.F.Files.view c.args.files.now) (g.F.Files.view c.remove_in.new.files)) same
     (c.remove_in.ensures.any_moment honest among archive named
     (subst (λ (f : List ℕ). LeavesAmong f among (g.F.Files.view c.args.files.now).slots) (sym same) leaves)
-    (subst (λ (f : List ℕ). IsArchiveAt f _ (g.F.Files.view c.args.files.now).slots) (sym same) at))
+    (subst (λ (f : List ℕ). IsArchiveAt f (Some archive) (g.F.Files.view c.args.files.now).slots) (sym same) at))
 
 pub returns-in-Err-clause-changes : goal.returns-in-Err-clause-changes
 returns-in-Err-clause-changes g c = none_in ((g.F.Files.view c.args.files.now).folder c.args.path.now) _ (g.met.F.Files.only_now c.args.files.now)
