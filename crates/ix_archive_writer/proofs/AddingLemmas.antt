@@ -1,10 +1,10 @@
 -- Documents are added to the archive that was found, or to a new one.
-use Rattle.std.proofs.Common.{◌≡◌, ◌≢◌, ◌∙◌, All, Contains, List, [], ◌∷◌, ◌++◌, ℕ, Option, None, Some, ap, arith, length, refl, subst, sym, true}
+use Rattle.std.proofs.Common.{◌≡◌, ◌∙◌, All, List, [], ◌∷◌, ◌++◌, ℕ, Option, None, Some, ap, arith, length, subst, sym, true}
 use Rattle.std.specs.Prelude.{◌==◌, map, option_map, slice_get}
 use Rattle.std.proofs.lemmas.Bool.{eqb-true}
 use Rattle.std.proofs.lemmas.List.{append-nil}
-use Rattle.std.proofs.lemmas.List.Elements.{All-head, All-tail}
-use Rattle.ix_files.specs.Slots.{Entry, Kept, Place, Slot, Slots, Stops, at_rest}
+use Rattle.std.proofs.lemmas.List.Elements.{All-head}
+use Rattle.ix_files.specs.Slots.{Kept, Place, Slot, Slots, Stops, at_rest}
 use Rattle.ix_files.specs.Views.{LeavesOnly, View}
 use Rattle.ix_folder.specs.Standings.{NamedFile, RestsIn}
 use Rattle.ix_manifest.specs.ManifestText.{ManifestView, view_of}
@@ -15,7 +15,7 @@ use Rattle.ix_archive.specs.Archives.{Archive}
 use Rattle.ix_archive.specs.Folders.{removals_files, segment_files, segment_place}
 use Rattle.ix_archive.specs.Layouts.{AreSegmentsOf, IsSegmentOf}
 use Rattle.ix_archive_writer.specs.Changes.{after_adding, archive_or, documents_under, with_documents}
-use Rattle.ix_archive_writer.specs.Commits.{IsFound, IsFoundIn, IsLeftArchive, IsReady, LeavesAmong}
+use Rattle.ix_archive_writer.specs.Commits.{IsFound, IsLeftArchive, IsReady, LeavesAmong}
 use Rattle.ix_archive_writer.proofs.CommitLemmas.{leaves_after, ready_found, ready_leaves, ready_new}
 
 -- there are no documents

@@ -1,11 +1,11 @@
 -- A commit, in terms of archives: files that are new are written beside those that are there, and then the manifest is published.
-use Rattle.std.proofs.Common.{◌≡◌, ◌≢◌, ◌∙◌, ◌⊎◌, ◌+◌, ◌<◌, ◌^◌, ⊎_elim, All, Contains, List, [], ◌∷◌, ◌++◌, ℕ, Option, None, Some, ap, arith, get_or, inl, inr, length, lit<, refl, subst, sym}
+use Rattle.std.proofs.Common.{◌≡◌, ◌≢◌, ◌∙◌, ◌+◌, ◌<◌, ◌^◌, ⊎_elim, All, List, [], ◌∷◌, ◌++◌, ℕ, Option, None, Some, ap, arith, get_or, length, lit<, refl, subst, sym}
 use Rattle.std.proofs.lemmas.List.Elements.{All-append, All-cons, All-head, All-nil, All-tail}
 use Rattle.ix_files.specs.Changes.{ChangesOnly}
 use Rattle.ix_files.specs.Slots.{Kept, Place, Slot, Slots, Stops}
-use Rattle.ix_files.specs.Views.{GoesOn, LeavesOnly, View}
+use Rattle.ix_files.specs.Views.{LeavesOnly, View}
 use Rattle.ix_folder.specs.FolderNames.{lock_place, manifest_place}
-use Rattle.ix_folder.specs.Standings.{AreFileNames, AreKept, IsEither, IsFilePlace, IsSettled, NamedFile, Standing, Stands, files_of, manifest_of}
+use Rattle.ix_folder.specs.Standings.{AreFileNames, AreKept, IsEither, IsFilePlace, IsSettled, NamedFile, Standing, Stands, files_of}
 use Rattle.ix_folder.proofs.Laws.{leaves_standing, narrowed, settled_leaves, stays_settled, stops_at}
 use Rattle.ix_manifest.specs.ManifestText.{ManifestView, manifest_text}
 use Rattle.ix_manifest.specs.declared.manifest.Removals.{Removals as RemovalsLine}
@@ -14,8 +14,8 @@ use Rattle.ix_manifest.proofs.LawfulLemmas.{no_segments}
 use Rattle.ix_removals.specs.RemovalsText.{Removal}
 use Rattle.ix_text.specs.Collections.{Document}
 use Rattle.ix_archive.specs.Archives.{Archive}
-use Rattle.ix_archive.specs.Folders.{IsArchiveAt, IsArchiveIn, removals_files, removals_place, segment_files, segment_place, standing_of}
-use Rattle.ix_archive.specs.Layouts.{AreSegmentsOf, IsLaidOut, IsRemovalsFile, IsSegmentOf}
+use Rattle.ix_archive.specs.Folders.{IsArchiveAt, removals_files, removals_place, segment_files, segment_place, standing_of}
+use Rattle.ix_archive.specs.Layouts.{AreSegmentsOf, IsLaidOut, IsRemovalsFile}
 use Rattle.ix_archive_writer.specs.Changes.{IsFitLine, IsNewSegment, IsWritten, archive_or, with_documents, with_removals, with_removed, with_segment}
 use Rattle.ix_archive_writer.specs.Commits.{IsCommit, IsFoundIn, IsLeftArchive, IsReady, LeavesAmong}
 use Rattle.ix_archive_writer.proofs.Going.{begun}

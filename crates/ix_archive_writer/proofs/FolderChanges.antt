@@ -3,8 +3,8 @@ use Rattle.std.proofs.Common.{◌≡◌, ◌∙◌, List, ℕ, ap}
 use Rattle.ix_files.specs.Changes.{ChangesOnly}
 use Rattle.ix_files.specs.Slots.{Place, Slots, Stops}
 use Rattle.ix_files.specs.Views.{View}
-use Rattle.ix_files.proofs.Drafting.{changed_again, unchanged}
-use Rattle.ix_folder.specs.FolderNames.{IsStray, lock_place}
+use Rattle.ix_files.proofs.Drafting.{unchanged}
+use Rattle.ix_folder.specs.FolderNames.{IsStray}
 use Rattle.ix_folder.proofs.Laws.{narrowed, widened}
 
 -- nothing changes

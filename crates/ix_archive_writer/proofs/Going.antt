@@ -1,5 +1,5 @@
 -- What stops leave goes on from call to call.
-use Rattle.std.proofs.Common.{⊎_elim, ◌≤◌, arith, inl, inr}
+use Rattle.std.proofs.Common.{⊎_elim, arith, inl, inr}
 use Rattle.ix_files.specs.Slots.{Slots, Stops}
 use Rattle.ix_files.specs.Views.{LeavesOnly, View}
 

@@ -1,13 +1,12 @@
 -- The files of an archive that a change makes of those of another.
-use Rattle.std.proofs.Common.{◌≡◌, ◌≢◌, ◌∙◌, append_assoc, ◌+◌, ◌≤◌, ◌<◌, ◌^◌, ℕ, List, [], ◌∷◌, ◌++◌, All, Option, None, Some, ap, arith, length, length-append, refl, sym}
-use Rattle.std.specs.Prelude.{IfSome, get_or}
+use Rattle.std.proofs.Common.{◌≡◌, ◌≢◌, ◌∙◌, append_assoc, ◌+◌, ◌≤◌, ◌<◌, ◌^◌, ℕ, List, [], ◌∷◌, ◌++◌, Option, None, Some, ap, arith, length, length-append, refl, sym}
+use Rattle.std.specs.Prelude.{IfSome}
 use Rattle.std.proofs.lemmas.Grind.{flat_map-append}
 use Rattle.std.proofs.lemmas.List.{append-nil}
 use Rattle.std.proofs.lemmas.List.Elements.{All-push, All-weaker}
 use Rattle.std.proofs.lemmas.List.Quantifiers.{all_pairs_push}
-use Rattle.hex.specs.Hex.{IsBytes}
 use Rattle.ix_text.specs.Collections.{Document}
-use Rattle.ix_manifest.specs.ManifestText.{AreFields, AreSegments, IsManifest, IsRemovals, IsSegment, ManifestView}
+use Rattle.ix_manifest.specs.ManifestText.{AreFields, IsManifest, IsRemovals, IsSegment, ManifestView}
 use Rattle.ix_manifest.specs.declared.manifest.Removals.{Removals as RemovalsLine}
 use Rattle.ix_manifest.specs.declared.manifest.Segment.{Segment}
 use Rattle.ix_removals.specs.RemovalsText.{Removal}

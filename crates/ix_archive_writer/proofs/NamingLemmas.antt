@@ -1,5 +1,5 @@
 -- The names of the files of a manifest are gathered.
-use Rattle.std.proofs.Common.{◌≡◌, ◌∙◌, ◌+◌, ◌<◌, List, [], ◌∷◌, ◌++◌, All, Contains, ℕ, Option, None, Some, length, subst, sym, take}
+use Rattle.std.proofs.Common.{◌≡◌, ◌+◌, ◌<◌, List, [], ◌∷◌, ◌++◌, All, Contains, ℕ, Option, length, subst, sym, take}
 use Rattle.std.specs.Prelude.{IfSome, codes, decimal, get_or}
 use Rattle.std.proofs.lemmas.List.Elements.{All-more, All-weaker, Contains-append_left, Contains-push}
 use Rattle.ix_manifest.specs.declared.manifest.Removals.{Removals as RemovalsLine}

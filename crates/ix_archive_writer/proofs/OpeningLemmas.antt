@@ -1,6 +1,6 @@
 -- A folder is settled, read and swept, and stays what it is.
 use Rattle.std.proofs.Common.{◌≡◌, ◌≢◌, ◌∙◌, ◌⊎◌, All, Contains, List, [], ◌∷◌, ◌++◌, ℕ, Option, None, Some, ap, arith, get_or, inl, inr, length, refl, suc, subst, sym, zero}
-use Rattle.std.specs.Prelude.{IfSome, codes, decimal}
+use Rattle.std.specs.Prelude.{codes, decimal}
 use Rattle.std.proofs.lemmas.List.Elements.{All-nil}
 use Rattle.ix_files.specs.Changes.{ChangesOnly, IsOld, StopsAt}
 use Rattle.ix_files.specs.Slots.{IsAmong, Kept, Nothing, Place, Slot, Slots, Stops}
@@ -15,7 +15,7 @@ use Rattle.ix_folder.proofs.Laws.{leaves_standing, narrowed, stays_settled, stop
 use Rattle.ix_manifest.specs.ManifestText.{ManifestView, manifest_text}
 use Rattle.ix_manifest.specs.declared.manifest.Removals.{Removals as RemovalsLine}
 use Rattle.ix_archive.specs.Archives.{Archive}
-use Rattle.ix_archive.specs.Folders.{IsArchiveAt, removals_place, segment_place, standing_of}
+use Rattle.ix_archive.specs.Folders.{IsArchiveAt, removals_place, standing_of}
 use Rattle.ix_archive_writer.specs.Commits.{AreAllNames, IsFound, IsFoundIn, IsLeftArchive, LeavesAmong}
 use Rattle.ix_archive_writer.specs.Readings.{IsManifestOf}
 use Rattle.ix_archive_writer.proofs.CommitLemmas.{no_lock}

@@ -1,13 +1,12 @@
 -- The files of an archive have names of their own.
-use Rattle.std.proofs.Common.{◌≡◌, ◌≢◌, ◌+◌, ◌<◌, ◌^◌, All, List, [], ◌∷◌, ◌++◌, ℕ, Option, None, Some, ap, arith, get_or, refl}
+use Rattle.std.proofs.Common.{◌≡◌, ◌≢◌, ◌<◌, ◌^◌, All, List, [], ◌∷◌, ◌++◌, ℕ, Option, None, Some, ap, arith, get_or, refl}
 use Rattle.std.specs.Prelude.{IfSome, codes, decimal}
 use Rattle.std.proofs.lemmas.Fmt.{decimal_injective}
 use Rattle.std.proofs.lemmas.List.{append_cancel_left}
 use Rattle.std.proofs.lemmas.List.Elements.{All-append, All-cons, All-head, All-nil, All-tail}
 use Rattle.ix_files.specs.Slots.{Place}
-use Rattle.ix_folder.specs.FolderNames.{draft_place, lock_place, manifest_place}
 use Rattle.ix_folder.specs.Standings.{AreFileNames, IsFilePlace, NamedFile}
-use Rattle.ix_manifest.specs.ManifestText.{IsManifest, IsRemovals, IsSegment, ManifestView}
+use Rattle.ix_manifest.specs.ManifestText.{IsManifest, IsRemovals, ManifestView}
 use Rattle.ix_manifest.specs.declared.manifest.Removals.{Removals as RemovalsLine}
 use Rattle.ix_manifest.specs.declared.manifest.Segment.{Segment}
 use Rattle.ix_archive.specs.Folders.{removals_files, removals_place, segment_files, segment_place}

@@ -1,7 +1,7 @@
 -- What an index text without terms says of the documents.
 use Rattle.std.proofs.Common.{◌≡◌, ◌∙◌, List, [], ◌∷◌, ℕ, ap, refl}
 use Rattle.std.specs.Prelude.{map}
-use Rattle.ix_text.specs.Collections.{Collection, Document}
+use Rattle.ix_text.specs.Collections.{Document}
 use Rattle.ix_text.specs.Parts.{DocumentRow, Parts, ArePartsOf, row_of}
 use Rattle.ix_file.specs.Opened.{names_of}
 use Rattle.ix_projection.specs.Kept.{Test, kept_collection, kept_document}

@@ -1,5 +1,5 @@
 -- What is read of files that are there.
-use Rattle.std.proofs.Common.{◌≡◌, ◌≢◌, ◌∙◌, ◌++◌, List, [], ℕ, Option, None, Some, ap, arith, drop, length, subst, take}
+use Rattle.std.proofs.Common.{◌≡◌, ◌∙◌, ◌++◌, List, [], ℕ, Option, None, Some, ap, arith, drop, length, subst, take}
 use Rattle.std.specs.Prelude.{option_map}
 use Rattle.std.proofs.lemmas.List.{take_all}
 use Rattle.ix_files.specs.Opened.{IsFoundAt}

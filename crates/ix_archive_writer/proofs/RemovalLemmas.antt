@@ -1,6 +1,6 @@
 -- What removals of the names of taken documents make of an archive.
 use Rattle.std.proofs.Common.{[], ◌∷◌, ◌≡◌, ◌∙◌, ◌⊎◌, ◌↔◌, ◌-◌, ◌<◌, ◌≤◌, ◌^◌, ℕ, List, All, Contains, Option, None, Some, ap, arith, get_or, inl, inr, length, refl, subst, sym}
-use Rattle.std.specs.Prelude.{map, option_map, slice_get}
+use Rattle.std.specs.Prelude.{option_map, slice_get}
 use Rattle.std.proofs.lemmas.List.Elements.{All-append, All-contains, All-nil, Contains-get_or}
 use Rattle.std.proofs.lemmas.Option.{get_or_from_slice_get, slice_get-map, slice_get_within}
 use Rattle.ix_text.specs.Collections.{Document, IsName}
@@ -9,10 +9,10 @@ use Rattle.ix_gram.proofs.Ascending.{none_in_nil}
 use Rattle.ix_manifest.specs.declared.manifest.Removals.{Removals as RemovalsLine}
 use Rattle.ix_manifest.specs.declared.manifest.Segment.{Segment}
 use Rattle.ix_removals.specs.RemovalsText.{AreRemovals, IsRemoved, Removal, removals_text}
-use Rattle.ix_archive.specs.Archives.{Archive, IsGone, joined}
+use Rattle.ix_archive.specs.Archives.{Archive, joined}
 use Rattle.ix_archive.specs.Layouts.{AreRemovalsIn, AreSegmentsOf, IsRemovalsFile}
 use Rattle.ix_archive_writer.specs.Changes.{IsNamedAmong, IsNewlyGone, IsWithout, names_in, with_removed}
-use Rattle.ix_archive_writer.specs.Takings.{AreTaken, AsksFor, IsTaken, Removes}
+use Rattle.ix_archive_writer.specs.Takings.{AreTaken, AsksFor, Removes}
 
 name_at : (documents : List Document) (number : ℕ) (document : Document) → slice_get documents number ≡ Some document → slice_get (names_in documents) number ≡ Some document.name
 name_at documents number document numbered = slice_get-map (λ (d : Document). d.name) documents number ∙ ap (option_map (λ (d : Document). d.name)) numbered

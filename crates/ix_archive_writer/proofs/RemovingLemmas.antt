@@ -1,11 +1,11 @@
 -- An archive without the documents that were found, and what stops leave while they are removed.
-use Rattle.std.proofs.Common.{◌≡◌, ◌∙◌, ◌⊎◌, ◌↔◌, ◌≤◌, ◌<◌, ◌^◌, ℕ, List, [], ◌∷◌, ◌++◌, All, Contains, Option, Some, ap, arith, inl, inr, length, refl, subst, suc, sym}
+use Rattle.std.proofs.Common.{◌≡◌, ◌∙◌, ◌⊎◌, ◌↔◌, ◌<◌, ◌^◌, ℕ, List, [], ◌∷◌, ◌++◌, All, Contains, Option, Some, ap, arith, inl, inr, length, subst, sym}
 use Rattle.std.proofs.lemmas.List.Elements.{All-cons, All-head, All-nil, All-tail}
 use Rattle.ix_files.specs.Slots.{Slot, Slots, Stops}
 use Rattle.ix_files.specs.Views.{LeavesOnly, View}
 use Rattle.ix_text.specs.Collections.{Document, IsName}
-use Rattle.ix_folder.specs.Standings.{AreKept, AreStops, IsKeptIn, NamedFile, Standing, Stands}
-use Rattle.ix_folder.proofs.Laws.{narrowed, settled_leaves, stops_at}
+use Rattle.ix_folder.specs.Standings.{AreKept, AreStops, IsKeptIn, Standing, Stands}
+use Rattle.ix_folder.proofs.Laws.{settled_leaves, stops_at}
 use Rattle.ix_gram.proofs.Ascending.{none_in_nil}
 use Rattle.ix_manifest.specs.ManifestText.{ManifestView}
 use Rattle.ix_merge.proofs.Laying.{contains_cases, contains_now}
@@ -13,7 +13,7 @@ use Rattle.ix_removals.specs.RemovalsText.{IsRemoved, Removal}
 use Rattle.ix_archive.specs.Archives.{Archive, joined}
 use Rattle.ix_archive.specs.Folders.{IsArchiveAt, removals_files, segment_files, standing_of}
 use Rattle.ix_archive_writer.specs.Changes.{IsNewlyGone, IsWithout, names_in, with_removed}
-use Rattle.ix_archive_writer.specs.Commits.{HasWithout, IsFoundIn, IsLeftArchive, IsLeftOrWithout, LeavesAmong, LeavesWithout}
+use Rattle.ix_archive_writer.specs.Commits.{IsFoundIn, IsLeftArchive, IsLeftOrWithout, LeavesAmong, LeavesWithout}
 use Rattle.ix_archive_writer.specs.Takings.{AreTaken, AsksFor, Removes}
 use Rattle.ix_archive_writer.proofs.Going.{begun}
 use Rattle.ix_archive_writer.proofs.RemovalLemmas.{lawful_names, newly_gone, removes_none, removes_taken, without}

@@ -1,16 +1,15 @@
 -- A new segment has the index text that was written.
-use Rattle.std.proofs.Common.{◌≡◌, ◌∙◌, ◌++◌, List, [], ◌∷◌, ℕ, Option, None, Some, ap, length, refl, subst, sym}
+use Rattle.std.proofs.Common.{◌≡◌, ◌∙◌, ◌++◌, List, [], ℕ, Option, None, Some, ap, length, sym}
 use Rattle.std.specs.Io.KnownBytes.{Appends}
 use Rattle.std.proofs.lemmas.List.{length-map}
 use Rattle.sha2.specs.Sha256.{sha256}
 use Rattle.ix_files.specs.Slots.{Entry, Kept}
-use Rattle.ix_text.specs.Collections.{Collection, NamedText, collection_of}
+use Rattle.ix_text.specs.Collections.{NamedText, collection_of}
 use Rattle.ix_index_text.specs.Endings.{WritesIndexText}
 use Rattle.ix_index_text.specs.IndexText.{IsIndexText}
 use Rattle.ix_index_text.specs.Sections.{FrontCoded}
 use Rattle.ix_manifest.specs.declared.manifest.Segment.{Segment}
 use Rattle.ix_scan.specs.ScansWithout.{of_documents}
-use Rattle.ix_archive.specs.Layouts.{IsSegmentOf}
 use Rattle.ix_archive_writer.specs.Changes.{IsNewSegment, IsWritten, documents_under}
 
 -- what a writer holds that had nothing

@@ -1,4 +1,4 @@
-use Rattle.std.proofs.Common.{[], ◌≡◌, ◌∙◌, List, ℕ, ap, arith, length, map}
+use Rattle.std.proofs.Common.{◌≡◌, ◌∙◌, List, ap, arith, length, map}
 use Rattle.std.specs.Prelude.{string_bytes}
 use Rattle.std.proofs.Math.Nat.{max-eq_left}
 use Rattle.std.proofs.lemmas.Bool.Decides.{nat_tests}

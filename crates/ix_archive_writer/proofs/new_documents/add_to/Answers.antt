@@ -1,4 +1,4 @@
-use Rattle.std.proofs.Common.{[], ◌∷◌, Option, Some}
+use Rattle.std.proofs.Common.{[], ◌∷◌, Some}
 use Rattle.std.proofs.lemmas.Result.{on_ok_weaker}
 use Rattle.ix_archive.specs.Archives.{Archive}
 use Rattle.ix_files.specs.Views.{LeavesOnly}

@@ -1,4 +1,4 @@
-use Rattle.std.proofs.Common.{List, ◌++◌, take}
+use Rattle.std.proofs.Common.{◌++◌, take}
 use Rattle.std.specs.Prelude.{All, Contains, IfSome, codes, decimal, map, string_bytes}
 use Rattle.ix_archive_writer.proofs.opening.names_of.Given as goal
 

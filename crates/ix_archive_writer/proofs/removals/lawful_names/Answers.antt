@@ -1,4 +1,4 @@
-use Rattle.std.proofs.Common.{List, Bor, refl, subst}
+use Rattle.std.proofs.Common.{List, Bor, subst}
 use Rattle.std.proofs.lemmas.List.{take_all}
 use Rattle.ix_archive_writer.proofs.LawfulNames.{AreLawful, lawful_more, lawful_other}
 use Rattle.ix_archive_writer.proofs.removals.lawful_names.Goals as goal

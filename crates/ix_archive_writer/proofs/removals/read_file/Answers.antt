@@ -1,4 +1,4 @@
-use Rattle.std.proofs.Common.{◌≡◌, ◌∙◌, List, Option, ℕ, ap, subst, sym}
+use Rattle.std.proofs.Common.{◌≡◌, ◌∙◌, Option, ap, subst, sym}
 use Rattle.std.specs.Prelude.{option_map}
 use Rattle.ix_files.specs.Locations.{place_of}
 use Rattle.ix_files.specs.Slots.{Kept, Place, bytes_of}

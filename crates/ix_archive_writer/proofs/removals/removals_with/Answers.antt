@@ -1,4 +1,4 @@
-use Rattle.std.proofs.Common.{◌<◌, ◌↔◌, ◌⊎◌, List, ℕ, Contains, subst}
+use Rattle.std.proofs.Common.{Contains}
 use Rattle.std.proofs.lemmas.Result.{IfOk-weaker}
 use Rattle.ix_text.specs.Collections.{IsName}
 use Rattle.ix_archive_writer.specs.Changes.{texts_in}
