@@ -56,7 +56,10 @@ module _ (removals : List Removal) (first : ℕ) (xs ys : List Document) where
   abbrev gone_in : List Document → ℕ → ℕ → Type 0
   gone_in documents from = IsGoneFrom removals from (names_indexed documents)
 
-  gone_left : (n : ℕ) → n < length xs → gone_in (xs ++ ys) first n ↔ gone_in xs first n
+  pub gone_within : (n : ℕ) → gone_in xs first n → n < length xs
+  gone_within n gone = let within = slice_get_within (names_indexed xs) n gone.name gone.numbered in let size = names_length xs in omega arith
+
+  pub gone_left : (n : ℕ) → n < length xs → gone_in (xs ++ ys) first n ↔ gone_in xs first n
   gone_left n within =
       let same : slice_get (names_indexed (xs ++ ys)) n ≡ slice_get (names_indexed xs) n =
       ap (λ (names : List (List ℕ)). slice_get names n) (names_joined xs ys) ∙ slice_get_left (names_indexed xs) (names_indexed ys) n (let size = names_length xs in omega arith) in (
@@ -64,7 +67,7 @@ module _ (removals : List Removal) (first : ℕ) (xs ys : List Document) where
         λ gone. record { name = gone.name; numbered = same ∙ gone.numbered; removed = gone.removed },
       )
 
-  gone_right : (n k : ℕ) → length xs + k ≡ n → gone_in (xs ++ ys) first n ↔ gone_in ys (first + length xs) k
+  pub gone_right : (n k : ℕ) → length xs + k ≡ n → gone_in (xs ++ ys) first n ↔ gone_in ys (first + length xs) k
   gone_right n k is =
       let same : slice_get (names_indexed (xs ++ ys)) n ≡ slice_get (names_indexed ys) k =
       ap (λ (names : List (List ℕ)). slice_get names n) (names_joined xs ys) ∙ slice_get_right (names_indexed xs) (names_indexed ys) n k (let size = names_length xs in omega arith) in

@@ -100,7 +100,7 @@ name_numbered [] n document at = absurd (let none = at in cc)
 name_numbered (first ∷ documents) zero document at = ap (option_map (λ (d : Document). d.name)) at
 name_numbered (first ∷ documents) (suc n) document at = name_numbered documents n document at
 
-gone_alike_in : (archive : Archive) (n : ℕ) → IsGoneFrom archive.removals 0 (names_indexed archive.documents) n ↔ IsGone archive n
+pub gone_alike_in : (archive : Archive) (n : ℕ) → IsGoneFrom archive.removals 0 (names_indexed archive.documents) n ↔ IsGone archive n
 gone_alike_in archive n = (
   λ gone.
       let found = document_named archive.documents n gone.name gone.numbered in

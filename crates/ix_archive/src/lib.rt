@@ -22,6 +22,8 @@
 #![tactic(auto)]
 
 mod archive_error;
+mod check;
+mod checked;
 mod finding;
 mod opened;
 mod opening;
@@ -30,6 +32,8 @@ mod read_error;
 mod searching;
 
 pub use archive_error::ArchiveError;
+pub use check::check;
+pub use checked::{Checked, Counts};
 pub use opened::Opened;
 pub use opening::open_archive;
 pub use places::{manifest_at, removals_at, segment_at};
