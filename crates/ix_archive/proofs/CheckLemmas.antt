@@ -2,17 +2,17 @@
 use Rattle.std.proofs.Common.{◌≡◌, ℕ, zero, suc, ◌+◌, ◌<◌, ◌≤◌, List, [], ◌∷◌, ◌++◌, Some, None, Option, map, take, length, get_or, refl, sym, ap, ◌∙◌, subst, arith, add-one, length-append}
 use Rattle.std.specs.Prelude.{◌↔◌, ◌≢◌, All, Contains, IfSome, MatchOption, flat_map, option_map, sum_by, unwrap_or}
 use Rattle.std.proofs.lemmas.Grind.{flat_map-append}
-use Rattle.std.proofs.lemmas.List.{append-nil, length-take, take_all, take_more}
-use Rattle.std.proofs.lemmas.List.Elements.{All-push}
+use Rattle.std.proofs.lemmas.List.{append-nil, get_or-map, length-map}
+use Rattle.std.proofs.lemmas.List.Elements.{All-push, Contains-append_left}
 use Rattle.std.proofs.lemmas.List.Sums.{sum_by-cons, sum_by_push}
 use Rattle.ix_text.specs.Collections.{Document}
-use Rattle.ix_manifest.specs.ManifestText.{view_of}
+use Rattle.ix_manifest.specs.ManifestText.{ManifestView, view_of}
 use Rattle.ix_manifest.specs.declared.manifest.Removals.{Removals as RemovalsLine}
 use Rattle.ix_manifest.specs.declared.manifest.Segment.{Segment}
 use Rattle.ix_removals.specs.RemovalsText.{Removal, removals_text}
 use Rattle.ix_ask.specs.NameLines.{names_indexed}
 use Rattle.ix_archive.specs.Archives.{Archive, IsGone, joined}
-use Rattle.ix_archive.specs.Checks.{AreCounted, AreCountsOf, AreRead, AreSound, AreTextsOf, IsChecked, IsFaultOf, IsPassed, IsTextOfNone, files_of}
+use Rattle.ix_archive.specs.Checks.{AreCounted, AreFaulty, AreRead, AreTextsOf, IsChecked, IsFaultOf, IsPassed, IsTextOfNone, files_of}
 use Rattle.ix_archive.specs.Counting.{counts_with, no_counts}
 use Rattle.ix_archive.specs.Findings.{IsGoneFrom}
 use Rattle.ix_archive.specs.Layouts.{AreRemovalsIn, AreSegmentsOf, IsLaidOut, IsRemovalsText, IsSegmentOf}
@@ -203,6 +203,12 @@ bounds_within documents removals (Some line) (Some text) are = are.earlier
 bounds_within documents removals None (Some text) are = absurd are
 bounds_within documents removals (Some line) None are = absurd are
 
+-- the file of a segment is one that the manifest names
+pub segment_named : (view : ManifestView) (i : ℕ) (segment : Segment) → i < length view.segments → segment ≡ get_or view.segments i segment → Contains (files_of view) segment.file
+segment_named view i segment within is =
+    let file : Segment → ℕ = λ one. one.file in
+    Contains-append_left (map file view.segments) _ segment.file (i, (let same = length-map view.segments file in omega arith), get_or-map file view.segments i segment segment.file within ∙ ap file (sym is))
+
 module _ {S : Type 0} (contents : S → Option (List ℕ)) (opened : Opened S) (stop : Option (List (List ℕ))) (counts : Counts) (faults : List ArchiveError)
     (checked : AreChecked contents (files_of (view_of opened.manifest)) opened.removals opened.sources.items opened.manifest.segments.items stop counts faults) where
   -- All is as it must be.
@@ -240,13 +246,24 @@ module _ {S : Type 0} (contents : S → Option (List ℕ)) (opened : Opened S) (
       }
 
   -- A segment has a fault.
-  pub none_of_segments : faults ≢ [] → (archive : Archive) → ¬ (AreTextsOf archive opened checked.texts)
+  none_of_segments : faults ≢ [] → (archive : Archive) → ¬ (AreTextsOf archive opened checked.texts)
   none_of_segments some archive are = some (checked.only archive.stop are.laid.lists are.laid.segments).0
 
   -- A removal has a bound above the number of documents.
-  pub none_of_bounds : ¬ (All (λ removal. removal.below ≤ counts.documents) opened.removals) → (archive : Archive) → ¬ (AreTextsOf archive opened checked.texts)
+  none_of_bounds : ¬ (All (λ removal. removal.below ≤ counts.documents) opened.removals) → (archive : Archive) → ¬ (AreTextsOf archive opened checked.texts)
   none_of_bounds above archive are =
       let laid = are.laid in
       let count : length archive.documents ≡ counts.documents = ap length laid.documents ∙ joined_length archive.stop opened.manifest.segments.items checked.texts laid.lists laid.segments ∙ sym checked.documents in
       above (subst (λ (n : ℕ). All (λ removal. removal.below ≤ n) opened.removals) count
       (subst (All (λ removal. removal.below ≤ length archive.documents)) (sym are.removals) (bounds_within (length archive.documents) archive.removals opened.manifest.removals are.removals_file laid.removals)))
+
+  pub segments_faulty : faults ≢ [] → AreFaulty opened checked.texts faults
+  segments_faulty some = record { some = some; each = checked.each; of_none = none_of_segments some }
+
+  pub removals_faulty : (fault : ArchiveError) → IsFaultOf (Contains (files_of (view_of opened.manifest))) fault → ¬ (All (λ removal. removal.below ≤ counts.documents) opened.removals)
+      → AreFaulty opened checked.texts (faults ++ fault ∷ [])
+  removals_faulty fault is above = record {
+    some = some_behind faults fault;
+    each = All-push (IsFaultOf (Contains (files_of (view_of opened.manifest)))) faults fault checked.each is;
+    of_none = none_of_bounds above;
+  }

@@ -84,10 +84,16 @@ none_counted P none = record {
 }
 
 pub one_less : (i : ℕ) (P : ℕ → Type 0) (count : ℕ) → ¬ (P i) → AreCounted (Below i P) count → AreCounted (Below (i + 1) P) count
-one_less i P count none are = counted_alike (Below i P) (Below (i + 1) P) count (λ n. (λ (low, has). (omega arith, has), λ (low, has). (elim (cases_lt n i) [
-  | inl small ↦ small
-  | inr large ↦ let same : n ≡ i = omega arith in absurd (none (subst P same has))
-], has))) are
+one_less i P count none are = counted_alike (Below i P) (Below (i + 1) P) count (λ n. (
+  λ (low, has). (omega arith, has),
+  λ (low, has). (
+    elim (cases_lt n i) [
+      | inl small ↦ small
+      | inr large ↦ let same : n ≡ i = omega arith in absurd (none (subst P same has))
+    ],
+    has,
+  ),
+)) are
 
 zero_counted : AreCounted (λ k. k ≡ 0) 1
 zero_counted = record {

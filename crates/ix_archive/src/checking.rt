@@ -1,8 +1,9 @@
 //! A check of an archive to the last byte of its segments.
-ghost use Rattle.std.specs.Prelude.{◌≡◌, ◌≢◌, ◌↔◌, ℕ, List, Option, IfErr, IfOk, MatchBool};
+ghost use Rattle.std.specs.Prelude.{◌≡◌, ◌≤◌, ℕ, List, Option, All, Contains, IfErr, IfOk, IfSome, MatchBool, MatchOption};
 ghost use Rattle.std.specs.Option.{option_copied};
 ghost use Rattle.ix_file.specs.Opened.{names_of};
-ghost use Rattle.ix_archive.specs.Checks.{AreCounted, IsChecked, IsPassed, IsVolumeOf, RefusesText};
+ghost use Rattle.ix_manifest.specs.ManifestText.{view_of};
+ghost use Rattle.ix_archive.specs.Checks.{AreCounted, IsChecked, IsFaultOf, IsPassed, IsVolumeOf, RefusesText, files_of};
 ghost use Rattle.ix_archive.specs.Findings.{IsGoneFrom};
 ghost use Rattle.ix_archive.specs.Openings.{IsOutside};
 
@@ -38,7 +39,15 @@ pub fn check<R: Threads + Sync, S: ReadAt>(
         let segment = &opened.manifest.segments[place];
         let text = read_whole(alloc, &opened.sources[place])?;
         let first = counts.documents;
-        let passed = pass(rt, alloc, text, segment, stop.as_ref(), &opened.removals, first);
+        let passed = pass(
+            rt,
+            alloc,
+            text,
+            segment,
+            stop.as_ref(),
+            &opened.removals,
+            first,
+        );
         let removed = match passed {
             Ok(passed) => {
                 stop = Some(passed.stop);
@@ -52,15 +61,27 @@ pub fn check<R: Threads + Sync, S: ReadAt>(
         };
         counts = counts.with(segment, removed).ok_or(ReadError::Memory)?;
     }
-    if let Some(line) = &opened.manifest.removals
-        && !opened.removals.are_within(counts.documents)
-    {
-        faults.push(ArchiveError::Differs(line.file))?;
+    match fault_of_removals(opened, counts.documents) {
+        None if faults.is_empty() => return Ok(Checked::Sound(counts)),
+        None => {}
+        Some(fault) => faults.push(fault)?,
     }
-    if faults.is_empty() {
-        Ok(Checked::Sound(counts))
+    Ok(Checked::Faulty(faults))
+}
+
+/// The fault of the removals of an archive that has so many documents, if one of the bounds is above their number.
+fn fault_of_removals<S>(opened: &Opened<S>, documents: u64) -> Option<ArchiveError>
+    ensures { MatchOption result
+        (All (λ removal. removal.below ≤ documents) opened.now.removals)
+        (λ error. IsFaultOf (Contains (files_of (view_of opened.now.manifest))) error
+        × ¬ (All (λ removal. removal.below ≤ documents) opened.now.removals)) }
+{
+    // Without a file of removals nothing is removed.
+    let line = opened.manifest.removals.as_ref()?;
+    if opened.removals.are_within(documents) {
+        None
     } else {
-        Ok(Checked::Faulty(faults))
+        Some(ArchiveError::Differs(line.file))
     }
 }
 
@@ -87,15 +108,13 @@ fn pass<R: Threads + Sync>(
     removals: &Removals,
     first: u64,
 ) -> Result<Passed, ReadError>
-    ensures passed { IfOk result (λ passed. IsPassed (option_copied stop) segment.now text.items
+    ensures passed { IfOk result (λ passed. IsPassed (option_copied stop.entry) segment.now text.items
         removals.now first passed.stop passed.removed) }
-    ensures refused { IfErr result (RefusesText (option_copied stop) segment.now text.items) }
+    ensures refused { IfErr result (RefusesText (option_copied stop.entry) segment.now text.items) }
 {
     let volume = open_text(rt, alloc, text, segment)?;
     let index = volume.index();
-    if let Some(stop) = stop
-        && !have_same_terms(stop, index.stop())
-    {
+    if !fits(stop, index.stop()) {
         return Err(ReadError::Archive(ArchiveError::Differs(segment.file)));
     }
     Ok(Passed {
@@ -129,11 +148,15 @@ fn open_text<R: Threads + Sync>(
     }
 }
 
-/// Whether two stop lists have the same terms.
-fn have_same_terms(one: &StopList, other: &StopList) -> bool
-    ensures { MatchBool result (one.now ≡ other.now) (one.now ≢ other.now) }
+/// Whether a stop list has the terms of the one that is given, if one is.
+fn fits(given: Option<&StopList>, stop: &StopList) -> bool
+    ensures { MatchBool result (IfSome (option_copied given.entry) (λ terms. terms ≡ stop.now))
+        (¬ (IfSome (option_copied given.entry) (λ terms. terms ≡ stop.now))) }
 {
-    one.terms() == other.terms()
+    match given {
+        Some(given) => given.terms() == stop.terms(),
+        None => true,
+    }
 }
 
 /// How many documents of an index are removed, if they count from `first` on.
