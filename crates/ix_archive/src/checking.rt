@@ -39,16 +39,8 @@ pub fn check<R: Threads + Sync, S: ReadAt>(
         let segment = &opened.manifest.segments[place];
         let text = read_whole(alloc, &opened.sources[place])?;
         let first = counts.documents;
-        let passed = pass(
-            rt,
-            alloc,
-            text,
-            segment,
-            stop.as_ref(),
-            &opened.removals,
-            first,
-        );
-        let removed = match passed {
+        let given = stop.as_ref();
+        let removed = match pass(rt, alloc, text, segment, given, &opened.removals, first) {
             Ok(passed) => {
                 stop = Some(passed.stop);
                 passed.removed

@@ -1,6 +1,6 @@
 -- One segment after another, and the removals behind them.
 use Rattle.std.proofs.Common.{◌≡◌, ◌∙◌, ◌<◌, ◌≤◌, ◌+◌, ◌++◌, ◌∷◌, [], ℕ, List, Option, None, Some, length, take, get_or, refl, sym, ap, subst, arith, rules}
-use Rattle.std.specs.Prelude.{◌≢◌, Err, IfErr, IfOk, IfSome, Ok, Result}
+use Rattle.std.specs.Prelude.{IfOk, IfSome, Ok, Result}
 use Rattle.std.specs.Option.{ok_or, option_copied}
 use Rattle.std.specs.Result.{result_unwrap_or}
 use Rattle.std.proofs.lemmas.Bool.Decides.{nat_tests}
@@ -9,7 +9,6 @@ use Rattle.ix_manifest.specs.ManifestText.{view_of}
 use Rattle.ix_archive.specs.Checks.{IsPassed, RefusesText, files_of}
 use Rattle.ix_archive.specs.Counting.{counts_with}
 use Rattle.ix_archive.specs.declared.checked.Counts.{Counts}
-use Rattle.ix_archive.specs.declared.read_error.ReadError.{ReadError}
 use Rattle.ix_archive.specs.declared.read_error.ReadError.TheVariants.{Archive}
 use Rattle.ix_archive.proofs.CheckLemmas.{faulty_more, none_checked, passed_more, removals_faulty, segment_named, segments_faulty, sound_of}
 use Rattle.ix_archive.proofs.checking.check.Goals as goal
@@ -17,9 +16,6 @@ use Rattle.ix_archive.proofs.checking.check.Goals.{in-Ok, in-Err-Archive+in_ok-p
 
 ok_at : {T E : Type 0} (P : T → Type 0) (r : Result T E) (x : T) → r ≡ Ok x → IfOk r P → P x
 ok_at {T} {E} P r x is told = subst (λ (s : Result T E). IfOk s P) is told
-
-err_at : {T E : Type 0} (P : E → Type 0) (r : Result T E) (x : E) → r ≡ Err x → IfErr r P → P x
-err_at {T} {E} P r x is told = subst (λ (s : Result T E). IfErr s P) is told
 
 counted_from : {E : Type 0} (r : Option Counts) (sum counts : Counts) (error : E) → IfSome r (λ c. c ≡ sum) → Ok counts ≡ ok_or r error → counts ≡ sum
 counted_from {E} (Some value) sum counts error told is =
@@ -51,19 +47,18 @@ loop-place-preserved g c =
     let inside : place < length segments = omega arith in
     let sources_more = taken sources place source within c.index.ensures in
     let segments_more = taken segments place segment inside c.index-segment.ensures in
-    let counts_are : c.in_ok-counts.counts ≡ counts_with c.loop-place.counts segment c.match-passed.removed = counted_from c.with.result _ c.in_ok-counts.counts _ c.with.ensures c.in_ok-counts.ensures.value in
-    elim c.match-passed.branch [
+    let counts_are : c.in_ok-counts.counts ≡ counts_with c.loop-place.counts segment c.match-pass.removed = counted_from c.with.result _ c.in_ok-counts.counts _ c.with.ensures c.in_ok-counts.ensures.value in
+    elim c.match-pass.branch [
       | in-Ok w ↦
-          let passed = ok_at _ c.pass-passed.result w.in-Ok.passed w.in-Ok.is c.pass-passed.ensures.passed in
-          let under = subst (λ (given : Option (List (List ℕ))). IsPassed given segment text opened.removals c.loop-place.counts.documents w.in-Ok.passed.stop w.in-Ok.passed.removed) c.as_ref.ensures.value passed in
+          let passed = ok_at _ c.pass.result w.in-Ok.passed w.in-Ok.is c.pass.ensures.passed in
+          let under = subst (λ (given : Option (List (List ℕ))). IsPassed given segment text opened.removals c.loop-place.counts.documents w.in-Ok.passed.stop w.in-Ok.passed.removed) c.as_ref-given.ensures.value passed in
           rw (sources_more, segments_more, counts_are, w.removed-is, w.stop-is, w.faults-is)
           (passed_more contents files opened.removals (take place sources) (take place segments) c.loop-place.stop c.loop-place.counts c.loop-place.faults.items c.loop-place.invariant source segment text c.in_ok-text.ensures.read
           w.in-Ok.passed.stop w.in-Ok.passed.removed under)
       | in-Err-Archive+in_ok-push-in-Err-Archive w ↦
           let fault = w.in-Err-Archive.fault in
-          let error = err_at _ c.pass-passed.result w.in-Err-Archive.field-0 w.in-Err-Archive.is c.pass-passed.ensures.refused in
-          let refused = subst (λ (e : ReadError). RefusesText (option_copied c.as_ref.result) segment text e) w.in-Err-Archive.field-0-is error in
-          let under = subst (λ (given : Option (List (List ℕ))). RefusesText given segment text (Archive fault)) c.as_ref.ensures.value refused in
+          let refused : RefusesText (option_copied c.as_ref-given.result) segment text (Archive fault) = rw w.in-Err-Archive.field-0-is at w.in-Err-Archive.ensures.refused in
+          let under = subst (λ (given : Option (List (List ℕ))). RefusesText given segment text (Archive fault)) c.as_ref-given.ensures.value refused in
           rw (sources_more, segments_more, counts_are, w.removed-is, w.stop-is, w.faults-is, w.in_ok-push-in-Err-Archive.ensures.items)
           (faulty_more contents files opened.removals (take place sources) (take place segments) c.loop-place.stop c.loop-place.counts c.loop-place.faults.items c.loop-place.invariant source segment text c.in_ok-text.ensures.read
           fault under.0 (segment_named (view_of opened.manifest) place segment inside c.index-segment.ensures) under.1)
