@@ -1,6 +1,6 @@
 -- Segments that are checked one after another.
-use Rattle.std.proofs.Common.{◌≡◌, ℕ, zero, suc, ◌+◌, ◌<◌, ◌≤◌, List, [], ◌∷◌, ◌++◌, Some, None, Option, map, take, length, get_or, refl, sym, ap, ◌∙◌, subst, arith, add-one, length-append}
-use Rattle.std.specs.Prelude.{◌↔◌, ◌≢◌, All, Contains, IfSome, MatchOption, flat_map, option_map, sum_by, unwrap_or}
+use Rattle.std.proofs.Common.{◌≡◌, ℕ, ◌+◌, ◌<◌, ◌≤◌, List, [], ◌∷◌, ◌++◌, Some, None, Option, map, length, get_or, refl, sym, ap, ◌∙◌, subst, arith, length-append}
+use Rattle.std.specs.Prelude.{◌≢◌, All, Contains, IfSome, MatchOption, option_map, sum_by, unwrap_or}
 use Rattle.std.proofs.lemmas.Grind.{flat_map-append}
 use Rattle.std.proofs.lemmas.List.{append-nil, get_or-map, length-map}
 use Rattle.std.proofs.lemmas.List.Elements.{All-push, Contains-append_left}
@@ -15,7 +15,7 @@ use Rattle.ix_archive.specs.Archives.{Archive, IsGone, joined}
 use Rattle.ix_archive.specs.Checks.{AreCounted, AreFaulty, AreRead, AreTextsOf, IsChecked, IsFaultOf, IsPassed, IsTextOfNone, files_of}
 use Rattle.ix_archive.specs.Counting.{counts_with, no_counts}
 use Rattle.ix_archive.specs.Findings.{IsGoneFrom}
-use Rattle.ix_archive.specs.Layouts.{AreRemovalsIn, AreSegmentsOf, IsLaidOut, IsRemovalsText, IsSegmentOf}
+use Rattle.ix_archive.specs.Layouts.{AreRemovalsIn, AreSegmentsOf, IsRemovalsText, IsSegmentOf}
 use Rattle.ix_archive.specs.declared.archive_error.ArchiveError.{ArchiveError}
 use Rattle.ix_archive.specs.declared.archive_error.ArchiveError.TheVariants as fault
 use Rattle.ix_archive.specs.declared.checked.Checked.TheVariants.{Sound}

@@ -1,7 +1,6 @@
 -- What a query finds in segments that follow one another.
-use Rattle.std.proofs.Common.{◌≡◌, ℕ, zero, suc, ◌+◌, ◌-◌, ◌<◌, ◌≤◌, ◌⊎◌, inl, inr, List, [], ◌∷◌, ◌++◌, Some, map, length, flat_map, refl, sym, ap, ap₂, ◌∙◌, subst, arith, append_assoc, length-append}
+use Rattle.std.proofs.Common.{◌≡◌, ℕ, zero, suc, ◌+◌, ◌-◌, ◌<◌, ◌≤◌, inl, inr, List, [], ◌∷◌, ◌++◌, map, length, flat_map, refl, sym, ap, ap₂, ◌∙◌, subst, arith, length-append}
 use Rattle.std.specs.Prelude.{Contains, ◌↔◌, ⊤, slice_get, sum_by}
-use Rattle.std.specs.List.Sorted.{IsStrictlyIncreasing}
 use Rattle.std.proofs.lemmas.Bool.{cases_lt}
 use Rattle.std.proofs.lemmas.Grind.{flat_map-append}
 use Rattle.std.proofs.lemmas.List.{append-nil, length-map, map-append}
@@ -12,7 +11,7 @@ use Rattle.ix_text.specs.Collections.{Document}
 use Rattle.ix_query.specs.Scans.{SatisfiesAt}
 use Rattle.ix_query_text.specs.declared.tree.Tree.{Tree}
 use Rattle.ix_scan.specs.ScansWithout.{IsScanWithout, of_documents}
-use Rattle.ix_scan.proofs.Members.{in_shifted, increasing_joined, none_in_nil, shifted_has, shifted_increasing}
+use Rattle.ix_scan.proofs.Members.{in_shifted, increasing_joined, shifted_has, shifted_increasing}
 use Rattle.ix_ask.specs.NameLines.{name_line, name_lines, names_indexed}
 use Rattle.ix_removals.specs.RemovalsText.{IsRemoved, Removal}
 use Rattle.ix_archive.specs.Archives.{joined}

@@ -1,5 +1,5 @@
 -- What a check of an archive finds.
-use Rattle.std.specs.Prelude.{◌≡◌, ◌≢◌, ◌↔◌, ℕ, ⊤, List, [], ◌∷◌, ◌++◌, length, map, All, Contains, IfSome, None, Option, Some, option_to_list, sum_by}
+use Rattle.std.specs.Prelude.{◌≡◌, ◌≢◌, ◌↔◌, ℕ, ⊤, List, [], ◌∷◌, ◌++◌, length, map, All, Contains, IfSome, Option, Some, option_to_list, sum_by}
 use Rattle.std.specs.List.Sorted.{IsStrictlyIncreasing}
 use Rattle.ix_text.specs.Collections.{Document}
 use Rattle.ix_file.specs.Opened.{Opened as Index, names_of}

@@ -1,5 +1,5 @@
 -- One segment after another, and the removals behind them.
-use Rattle.std.proofs.Common.{◌≡◌, ◌∙◌, ◌<◌, ◌≤◌, ◌+◌, ◌++◌, ◌∷◌, [], ℕ, List, Option, None, Some, length, take, get_or, refl, sym, ap, subst, arith, rules}
+use Rattle.std.proofs.Common.{◌≡◌, ◌∙◌, ◌<◌, ◌≤◌, ◌+◌, ◌++◌, ◌∷◌, [], ℕ, List, Option, None, Some, length, take, get_or, sym, ap, subst, arith, rules}
 use Rattle.std.specs.Prelude.{IfOk, IfSome, Ok, Result}
 use Rattle.std.specs.Option.{ok_or, option_copied}
 use Rattle.std.specs.Result.{result_unwrap_or}

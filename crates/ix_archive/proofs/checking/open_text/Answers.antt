@@ -1,11 +1,11 @@
 -- The text is opened exactly, so an index text of the segment is opened as its own.
 use Rattle.std.proofs.Common.{◌≡◌, ◌∙◌, ℕ, List, length, refl, sym, ap, subst, rules, arith}
-use Rattle.std.specs.Prelude.{IfSome, Option}
+use Rattle.std.specs.Prelude.{Option}
 use Rattle.std.proofs.lemmas.Grind.{common_steps}
 use Rattle.std.proofs.lemmas.List.{length-map}
 use Rattle.sha2.specs.Sha256.{sha256}
 use Rattle.ix_text.specs.Collections.{Collection, Document}
-use Rattle.ix_text.specs.Parts.{DocumentRow, row_of}
+use Rattle.ix_text.specs.Parts.{row_of}
 use Rattle.ix_index_text.specs.IndexText.{IsIndexText}
 use Rattle.ix_index_text.specs.Sections.{Version}
 use Rattle.ix_file.specs.Opened.{IsIndexOf, Opened as Index}
@@ -16,7 +16,6 @@ use Rattle.ix_scan.specs.ScansWithout.{of_documents}
 use Rattle.ix_ask.proofs.NameLemmas.{names_told}
 use Rattle.ix_archive.specs.Checks.{IsVolumeOf, RefusesText}
 use Rattle.ix_archive.specs.Findings.{error_of_open}
-use Rattle.ix_archive.specs.Layouts.{IsSegmentOf}
 use Rattle.ix_archive.proofs.checking.open_text.Goals as goal
 
 -- the index of a text has the documents of each collection of which it is the text

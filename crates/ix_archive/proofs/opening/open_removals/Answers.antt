@@ -1,8 +1,6 @@
-use Rattle.std.proofs.Common.{◌≡◌, ◌∙◌, sym, subst, ℕ, List}
-use Rattle.std.specs.Prelude.{MatchResult}
+use Rattle.std.proofs.Common.{◌≡◌, ◌∙◌, sym, subst}
 use Rattle.std.proofs.lemmas.Result.{IfOk-weaker}
 use Rattle.ix_files.specs.Slots.{Place}
-use Rattle.ix_removals.specs.RemovalsText.{Removal}
 use Rattle.ix_archive.specs.Layouts.{IsRemovalsFile, IsRemovalsText}
 use Rattle.ix_archive.specs.Openings.{IsText}
 use Rattle.ix_archive.proofs.OpenLemmas.{removals_ok, removals_err}
