@@ -13,6 +13,7 @@ use std::test::Fail;
 pub const FOLDER: &str = ".";
 
 /// What differs from one archive to another.
+#[derive(Clone, Copy)]
 pub struct Parts {
     /// The stop terms of the second segment.
     pub stop: &'static str,

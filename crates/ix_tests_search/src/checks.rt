@@ -103,10 +103,7 @@ fn each_byte_of_a_manifest_counts(rt: HostRuntime) -> Result<(), Fail> {
     for place in 0..bytes.len() {
         files.put("manifest", &changed(alloc, &bytes, place)?)?;
         let error = open_archive(alloc, &files, FOLDER).err();
-        assert!(rt; matches!(
-            error,
-            Some(ReadError::Archive(ArchiveError::Manifest(_)))
-        ));
+        assert!(rt; matches!(error, Some(ReadError::Archive(ArchiveError::Manifest(_)))));
     }
     Ok(())
 }
