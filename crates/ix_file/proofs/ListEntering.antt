@@ -66,11 +66,16 @@ place_kept postings before after place are kept is =
     ⊎_elim (λ same. subst (All Ahead) (sym same) are) (λ more. subst (All Ahead) (sym more) (All-push Ahead before place are (λ ahead. is))) kept
 
 -- the places of the list of one term
-pub long_in : (section : List ℕ) (terms : List PlacedTerm) (n : ℕ) (term : PlacedTerm) (long : LongList) → long.number ≡ n → term ≡ get_or terms n term → AreSkipsIn term.documents (list_in section term) long.skips.items → IsLongIn section terms long
-long_in section terms n term long numbered is entered row at =
-    let there : slice_get terms n ≡ Some row = subst (λ m. slice_get terms m ≡ Some row) numbered at in
-    subst (λ (r : PlacedTerm). AreSkipsIn r.documents (list_in section r) long.skips.items) (is ∙ get_or_from_slice_get terms n row term there) entered
+pub long_in : (section : List ℕ) (terms : List PlacedTerm) (n : ℕ) (term : PlacedTerm) (long : LongList) → long.number ≡ n → term ≡ get_or terms n term → AreSkipsIn term.documents (list_in section term) long.skips.items → 0 < length long.skips.items
+    → IsLongIn section terms long
+long_in section terms n term long numbered is entered some = record {
+  some = some;
+  places = λ row at.
+      let there : slice_get terms n ≡ Some row = subst (λ m. slice_get terms m ≡ Some row) numbered at in
+      subst (λ (r : PlacedTerm). AreSkipsIn r.documents (list_in section r) long.skips.items) (is ∙ get_or_from_slice_get terms n row term there) entered;
+}
 
-pub long_kept : (section : List ℕ) (terms : List PlacedTerm) (before after : List LongList) (long : LongList) → All (IsLongIn section terms) before → (after ≡ before) ⊎ (after ≡ before ++ long ∷ []) → IsLongIn section terms long → All (IsLongIn section terms) after
+pub long_kept : (section : List ℕ) (terms : List PlacedTerm) (before after : List LongList) (long : LongList) → All (IsLongIn section terms) before → (after ≡ before) ⊎ ((0 < length long.skips.items) × (after ≡ before ++ long ∷ []))
+    → (0 < length long.skips.items → IsLongIn section terms long) → All (IsLongIn section terms) after
 long_kept section terms before after long are kept is =
-    ⊎_elim (λ same. subst (All (IsLongIn section terms)) (sym same) are) (λ more. subst (All (IsLongIn section terms)) (sym more) (All-push (IsLongIn section terms) before long are is)) kept
+    ⊎_elim (λ same. subst (All (IsLongIn section terms)) (sym same) are) (λ more. subst (All (IsLongIn section terms)) (sym more.1) (All-push (IsLongIn section terms) before long are (is more.0))) kept

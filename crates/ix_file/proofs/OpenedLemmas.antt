@@ -111,5 +111,5 @@ with_places section terms longs n row postings skips all there list gives found 
     (⊎_elim (λ none. subst (AreSkips list.postings) (sym none) (no_skips list.postings))
     (λ one.
     subst (AreSkips list.postings) (sym one.3)
-    (All-contains (IsLongIn section terms) longs one.0 all one.1 row (subst (λ m. slice_get terms m ≡ Some row) (sym one.2) there) list.postings list.are list.counted list.coded))
+    ((All-contains (IsLongIn section terms) longs one.0 all one.1).places row (subst (λ m. slice_get terms m ≡ Some row) (sym one.2) there) list.postings list.are list.counted list.coded))
     found)

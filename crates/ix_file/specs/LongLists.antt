@@ -6,9 +6,10 @@ use Rattle.ix_file.specs.ReadLists.{list_in}
 use Rattle.ix_file.specs.PlacedTerms.{PlacedTerm}
 use Rattle.ix_file.specs.declared.open.tables.LongList.{LongList}
 
--- the places are those of the list of the term of the number
-abbrev pub IsLongIn : List ℕ → List PlacedTerm → LongList → Type 0
-IsLongIn section terms long = (row : PlacedTerm) → slice_get terms long.number ≡ Some row → AreSkipsIn row.documents (list_in section row) long.skips.items
+-- It has some places, and they are those of the list of the term of the number.
+pub record IsLongIn (section : List ℕ) (terms : List PlacedTerm) (long : LongList) : Type 0 where
+  pub some : 0 < length long.skips.items
+  pub places : (row : PlacedTerm) → slice_get terms long.number ≡ Some row → AreSkipsIn row.documents (list_in section row) long.skips.items
 
 -- how many entries these are: one for each list, and one for each of its places
 abbrev pub place_count : List LongList → ℕ

@@ -1,5 +1,5 @@
 //! The entry that a merge writes next: a term, and the lists of the sources that have it, one after another.
-ghost use Rattle.std.specs.Prelude.{◌≡◌, ◌≤◌, ◌⊎◌, ℕ, List, Option, length, OnOk, IfErr, string_bytes};
+ghost use Rattle.std.specs.Prelude.{◌≡◌, ◌≤◌, ◌<◌, ◌^◌, ◌⊎◌, ℕ, List, Option, length, OnOk, IfErr, string_bytes};
 ghost use Rattle.ix_output.specs.Sinks.{AppendsFront};
 ghost use Rattle.ix_file.specs.Telling.{IsClosable};
 ghost use Rattle.ix_file.specs.Told.{Told, settled_front};
@@ -93,6 +93,7 @@ impl PendingEntry {
         ensures told { (before : Option (List ℕ)) (told : Told)
             → HasGathered W.contents before writer.old self.old told
             → OnOk result (HasGathered W.contents before writer.new self.new told) }
+        ensures few { OnOk result (length self.new.list.items < 2 ^ 16) }
         ensures front { (before : Option (List ℕ)) (told : Told)
             → HasGathered W.contents before writer.old self.old told
             → AppendsFront before (W.contents (sink writer.new)) (settled_front told) }

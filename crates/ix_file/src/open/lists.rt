@@ -259,8 +259,9 @@ fn check_range(
 /// Keeps the places of the list of a term, if there are any.
 #[inline]
 fn keep_long(longs: &mut Vec<LongList>, number: usize, skips: Vec<Skip>) -> Result<(), AllocError>
-    ensures kept { OnOk result ((longs.new.items ≡ longs.old.items) ⊎ (longs.new.items
-        ≡ longs.old.items ++ record { number = number; skips = skips } ∷ [])) }
+    ensures kept { OnOk result ((longs.new.items ≡ longs.old.items)
+        ⊎ ((0 < length skips.items) × (longs.new.items
+        ≡ longs.old.items ++ record { number = number; skips = skips } ∷ []))) }
     ensures few { OnOk result (place_count longs.new.items
         ≤ place_count longs.old.items + 2 * length skips.items) }
 {

@@ -74,7 +74,7 @@ loop-number-preserved c =
           let long : LongList = record { number = c.loop-number.number; skips = c.in_ok-skips.skips } in
           let skips = to_term (λ documents bytes. AreSkipsIn documents bytes c.in_ok-skips.skips.items) section at.term c.list-place.result c.list_of-list.result.now at.is c.list_of-list.ensures c.in_ok-skips.ensures.entered in
           long_kept section c.args.terms.now c.loop-number.longs.items c.keep_long.new.longs.items long c.loop-number.invariant.entered c.in_ok-keep_long.ensures.kept
-          (long_in section c.args.terms.now c.loop-number.number at.term long refl at.read skips);
+          (λ some. long_in section c.args.terms.now c.loop-number.number at.term long refl at.read skips some);
       few =
           let place = c.list-place.result in
           omega (

@@ -1,4 +1,5 @@
-use Rattle.std.proofs.Common.{Result, Ok, Err, OnOk}
+use Rattle.std.proofs.Common.{Result, Ok, Err, OnOk, arith}
+use Rattle.std.proofs.lemmas.Result.{on_ok_weaker}
 use Rattle.ix_merge.proofs.GatheredLists.{gathered_front, gathered_none}
 use Rattle.ix_merge.proofs.pending_entry.PendingEntry.send_if_full.Goals as goal
 
@@ -14,3 +15,6 @@ pub returns-clause-told : goal.returns-clause-told
 returns-clause-told g c before told has =
     on_ok_both c.send.result _ _ _ c.send.ensures.nothing (c.send.ensures.told before told has)
     (λ nothing was. gathered_none g.W.Write.contents before c.send.new.writer c.send.new.self told nothing was)
+
+pub returns-clause-few : goal.returns-clause-few
+returns-clause-few g c = on_ok_weaker c.send.result (λ nothing. rw nothing.list (omega arith)) c.send.ensures.nothing
