@@ -1,13 +1,16 @@
 //! Index files, opened.
-ghost use Rattle.std.specs.Prelude.{IfOk, IfErr, IfSome};
+ghost use Rattle.std.specs.Prelude.{◌≡◌, ◌↔◌, true, IfOk, IfErr, IfSome, IsTrue};
 ghost use Rattle.ix_files.specs.Reading.{AreKnownOf, held_in};
+ghost use Rattle.ix_files.specs.Slots.{Nothing};
 ghost use Rattle.ix_command.specs.IndexFiles.{IsOpened, RefusesIndex};
+ghost use Rattle.ix_line.specs.declared.reading.Reading.TheVariants.{Trusting};
 ghost use Rattle.ix_command.specs.Refusals.{IsUnread};
 
 use crate::refusal::Refusal;
 use ix_ask::EngineRefusal;
 use ix_file::Volume;
 use ix_files::{Files, Kind, read_front};
+use ix_line::Reading;
 use std::alloc::Global;
 use std::thread::Threads;
 
@@ -46,4 +49,24 @@ pub fn open_ranges<'a, F: Files>(files: &F, path: &'a str) -> Result<Option<F::R
         Ok(_) => Ok(None),
         Err(error) => Err(Refusal::unread(path, error)),
     }
+}
+
+/// Whether a path leads to a folder.
+pub fn is_folder<'a, F: Files>(files: &F, path: &'a str) -> Result<bool, Refusal<'a>>
+    ensures no_file { IfOk result (λ folder. folder ≡ true → (F.view files.now).honest
+        → ((F.view files.now).slots ((F.view files.now).place path.entry.now)).now ≡ Nothing) }
+    ensures refused { IfErr result (IsUnread path.entry.now) }
+{
+    match files.kind(path) {
+        Ok(Kind::Folder) => Ok(true),
+        Ok(_) => Ok(false),
+        Err(error) => Err(Refusal::unread(path, error)),
+    }
+}
+
+/// Whether only what a question needs is read of a file.
+pub fn is_trusting(reading: Reading) -> bool
+    ensures { IsTrue result ↔ (reading ≡ Trusting) }
+{
+    matches!(reading, Reading::Trusting)
 }

@@ -16,9 +16,15 @@ pub enum LineError {
     /// Memory ran out.
     #[error("Memory")]
     Memory,
-    /// `--block` stands beside `--bytes`.
+    /// `--block` is given together with `--bytes`.
     #[error("Both")]
     Both,
+    /// `--trust` is given together with `--check`.
+    #[error("TrustAndCheck")]
+    TrustAndCheck,
+    /// A name to be removed is given together with `--names`, or neither is given.
+    #[error("NamesOrList")]
+    NamesOrList,
 }
 
 impl LineError {
@@ -30,6 +36,8 @@ impl LineError {
             LineError::Clap(_) => 1,
             LineError::Memory => 2,
             LineError::Both => 3,
+            LineError::TrustAndCheck => 4,
+            LineError::NamesOrList => 5,
         }
     }
 

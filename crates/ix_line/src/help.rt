@@ -17,11 +17,15 @@ Commands, in the order in which they are met:
             ix ask examples/mail.txt 'contract AND NOT hotel'
   build     builds an index of a collection, to be searched as often as one likes
             ix build examples/mail.txt mail.ix
-  search    prints the names of the documents of an index that answer a query
+  search    prints the names of the documents of an index or an archive that answer a query
             ix search mail.ix 'contract AND NOT hotel'
-  terms     prints the terms of an index that match a pattern
+  terms     prints the terms of an index or an archive that match a pattern
             ix terms mail.ix 'contr*'
-  check     looks for damage in index files, and prints what it finds
+  add       adds the documents of a collection to an archive, a folder that grows
+            ix add mail.archive examples/mail.txt
+  remove    removes documents from an archive, by their names
+            ix remove mail.archive 2026-03-06/anna-3
+  check     looks for damage in index files and archives, and prints what it finds
             ix check mail.ix
   run       inverts a part of a collection into a run file, to be merged elsewhere
             ix run examples/mail.txt mail.run
@@ -127,6 +131,81 @@ Examples:
   mkdir runs; ix build --runs runs examples/mail.txt mail.ix
 ";
 
+/// What `ix add --help` prints.
+pub const HELP_ON_ADD: &str = "\
+Adds the documents of a collection to an archive: a folder that grows, and that is searched
+as an index is.
+
+Usage: ix add [--stop FILE] [--block N] [--bytes N] [--workers W] [--runs FOLDER]
+              ARCHIVE COLLECTION
+
+  ARCHIVE        the folder of the archive; a path that does not exist, or an empty
+                 folder, becomes an archive
+  COLLECTION     the file of documents, or an index file with the stop words of the
+                 archive; `-` is the standard input, for documents
+  --stop FILE    a file of words to leave out, one a line: those of an archive are the
+                 ones of its first call; without it they are used again
+  --block N      at most how many documents are inverted at a time,
+                 from 1 to 268435456; without it 1024
+  --bytes N      in place of --block: documents are inverted at a time until their
+                 texts have this many bytes, from 1 to 268435456
+  --workers W    how many threads invert them, from 1 to 64; without it 4
+  --runs FOLDER  a folder, which has to exist: what was inverted waits in files there
+                 until all of it is merged, and takes less memory; without it in memory
+
+The documents come behind those of the archive. All documents of a call are added, or none:
+so it is after an error, and if the program is killed or the machine loses power at any
+moment. After status 0 they are in the archive, whatever happens then.
+
+Documents of one name may be added again and again, and all of them are there. To replace
+documents, remove their names first.
+
+A collection is a text in which each line is a document:
+its name, a TAB, and its text.
+
+Nothing is printed; on a terminal the error output says how many documents were added.
+
+Exit status: 0 the documents were added, or help was asked for; 2 refused, and one line
+on the error output says why.
+
+Examples:
+  ix add mail.archive examples/mail.txt
+  ix search mail.archive 'contract AND NOT hotel'
+  ix add --stop examples/stop.txt notes.archive notes.txt
+";
+
+/// What `ix remove --help` prints.
+pub const HELP_ON_REMOVE: &str = "\
+Removes documents from an archive: all documents of these names that are in it now.
+
+Usage: ix remove ARCHIVE NAME...
+       ix remove --names FILE ARCHIVE
+
+  ARCHIVE         the folder of the archive
+  NAME...         the names of the documents, one or more
+  --names FILE    in place of NAME...: a file of names, one a line; `-` is the standard
+                  input
+
+A document that is added later under one of these names is there. A name of which there is
+no document is passed over, and so is an empty line of FILE.
+
+All of these documents are removed, or none: so it is after an error, and if the program is
+killed or the machine loses power at any moment. After status 0 they are removed, whatever
+happens then.
+
+Nothing is printed; on a terminal the error output says how many documents were removed,
+and of how many names there is none.
+
+Exit status: 0 documents were removed, or help was asked for; 1 there is no document of
+these names, and the archive is as it was; 2 refused, and one line on the error output
+says why.
+
+Examples:
+  ix remove mail.archive 2026-03-06/anna-3
+  ix remove mail.archive -- -draft
+  cut -f 1 new.txt | ix remove --names - mail.archive; ix add mail.archive new.txt
+";
+
 /// What `ix live --help` prints.
 pub const HELP_ON_LIVE: &str = "\
 Carries out a script on a live index, which is searched while it grows.
@@ -172,21 +251,28 @@ Example, of a script of five lines in the file mail.live:
 
 /// What `ix search --help` prints.
 pub const HELP_ON_SEARCH: &str = "\
-Prints the names of the documents of an index that answer a query, one a line.
+Prints the names of the documents of an index or an archive that answer a query, one a
+line.
 
-Usage: ix search [--trust] INDEX QUERY
+Usage: ix search [--trust | --check] INDEX QUERY
 
-  INDEX          the file of the index; `-` is the standard input
+  INDEX          the file of the index, or the folder of an archive; `-` is the standard
+                 input
   QUERY          the query, as one argument
-  --trust        read only the parts of INDEX that the query needs, and trust the rest
+  --trust        read only what the query needs; without it this is so of an archive
+  --check        read and check all of INDEX; without it this is so of an index file
 
 The words that were left out of the index are no words of a query either.
 
-Without --trust every byte of the index is checked, and an index that is damaged anywhere
-is an error. With --trust only what the query needs is read, so that a search of a large
-index takes milliseconds; damage in a part that is not read is not noticed. Use it for
-files that ix wrote and that are kept well: `ix check` looks at a whole file.
+Of an index file every byte is checked, and damage anywhere is an error. With --trust only
+what the query needs is read, so that a search of a large index takes milliseconds; a fault
+in a part that the query does not use is not noticed. Use it for files that ix wrote and
+that are kept well: `ix check` looks at a whole file.
 `-`, a pipe and a device are always read whole, with or without --trust.
+
+Of an archive only what the query needs is read, since its files stay as ix wrote them.
+With --check each of them is read whole and compared with the digest that was noted of it,
+and damage anywhere is an error.
 
 What can be asked:
   fox               documents that hold the word, in any case
@@ -205,18 +291,20 @@ Examples:
   ix search mail.ix 'contract AND NOT hotel'
   ix search mail.ix '\"flights to london\" OR umbrella NEAR/3 station'
   ix search --trust mail.ix contract
+  ix search mail.archive contract
 ";
 
 /// What `ix terms --help` prints.
 pub const HELP_ON_TERMS: &str = "\
-Prints the terms of an index that match a pattern, one a line, in the order of
-their bytes: the term, a TAB, and in how many documents it is.
+Prints the terms of an index or an archive that match a pattern, one a line, in the order
+of their bytes: the term, a TAB, and in how many documents it is.
 
-Usage: ix terms [--trust] INDEX PATTERN
+Usage: ix terms [--trust | --check] INDEX PATTERN
 
-  INDEX      the file of the index; `-` is the standard input
+  INDEX      the file of the index, or the folder of an archive; `-` is the standard input
   PATTERN    the pattern, as one argument, with at least one star
-  --trust    read only the parts of INDEX that the pattern needs, and trust the rest
+  --trust    read only what the pattern needs; without it this is so of an archive
+  --check    read and check all of INDEX; without it this is so of an index file
 
 A term is a word without its case. A star stands for any characters, or none:
   inter*     terms that begin so
@@ -224,11 +312,16 @@ A term is a word without its case. A star stands for any characters, or none:
   re*ed      terms that begin and end so
   *tract*    terms that hold this
 
-Without --trust every byte of the index is checked, and an index that is damaged anywhere
-is an error. With --trust only what the pattern needs is read, which takes milliseconds;
-damage in a part that is not read is not noticed. Use it for files that ix wrote and that
-are kept well: `ix check` looks at a whole file.
+Of an index file every byte is checked, and damage anywhere is an error. With --trust only
+what the pattern needs is read, which takes milliseconds; a fault in a part that the
+pattern does not use is not noticed. Use it for files that ix wrote and that are kept well:
+`ix check` looks at a whole file.
 `-`, a pipe and a device are always read whole, with or without --trust.
+
+Of an archive only what the pattern needs is read, since its files stay as ix wrote them.
+With --check each of them is read whole and compared with the digest that was noted of it,
+and damage anywhere is an error. Documents that were removed do not count, and a term that
+is in no other document is not printed.
 
 Exit status: 0 something was found, or help was asked for; 1 nothing was found;
 2 refused, and one line on the error output says why.
@@ -240,26 +333,32 @@ Examples:
 
 /// What `ix check --help` prints.
 pub const HELP_ON_CHECK: &str = "\
-Reads index files whole, and prints a line for each that is damaged.
+Reads index files and archives whole, and prints a line for each fault.
 
-Usage: ix check INDEX...
+Usage: ix check PATH...
 
-  INDEX...    the index files, one or more; `-` is the standard input
+  PATH...    the index files and the folders of archives, one or more; `-` is the
+             standard input
 
-Every byte of a file is checked, as in a search without --trust. Of an index that is
-sound nothing is printed. Of each other file a line is printed: its path, a TAB, and
-what is wrong with it. The file mail.ix was cut short, and old.ix cannot be read:
+Every byte is checked, as in a search with --check. Of an index file that is sound nothing
+is printed. Of each fault a line is printed: the path, a TAB, and what is wrong. The file
+mail.ix was cut short, old.ix cannot be read, and in mail.archive a file is missing:
   mail.ix<TAB>index 3: Trailer
   old.ix<TAB>file 1: Read
+  mail.archive<TAB>archive 5: Missing(2)
 
-All files are looked at, also those behind a file that is damaged.
+Of an archive that is sound a line is printed, with a TAB between its parts: the path, how
+many documents it has, how many removed documents its files still hold, how many segments
+it has, and how many bytes.
 
-Exit status: 0 all files are sound, or help was asked for; 2 at least one is not, or
-the command was refused, and then one line on the error output says why.
+All paths are looked at, also those behind one that has a fault.
+
+Exit status: 0 all are sound, or help was asked for; 2 at least one is not, or the command
+was refused, and then one line on the error output says why.
 
 Examples:
   ix check mail.ix
-  ix check mail.ix mail-2.ix
+  ix check mail.ix mail.archive
 ";
 
 /// What `ix run --help` prints.
@@ -367,6 +466,8 @@ fn help_on_command(name: &str) -> &'static str
         "merge" => HELP_ON_MERGE,
         "upgrade" => HELP_ON_UPGRADE,
         "build" => HELP_ON_BUILD,
+        "add" => HELP_ON_ADD,
+        "remove" => HELP_ON_REMOVE,
         "live" => HELP_ON_LIVE,
         _ => HELP,
     }

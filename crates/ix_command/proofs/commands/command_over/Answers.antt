@@ -26,3 +26,9 @@ pub returns-in-Ok-run-clause-refused : goal.returns-in-Ok-run-clause-refused
 returns-in-Ok-run-clause-refused g c = λ two.
     let faults = rw (c.as_slice.ensures.value, c.in-Ok.ensures) at c.in-Ok-run.ensures.faults in
     inr (faults two, keeps_itself _)
+
+pub returns-in-Ok-run-clause-kept : goal.returns-in-Ok-run-clause-kept
+returns-in-Ok-run-clause-kept g c = rw (c.as_slice.ensures.value, c.in-Ok.ensures) at c.run.ensures.kept
+
+pub returns-clause-kept : goal.returns-clause-kept
+returns-clause-kept g c = rw (c.as_slice.ensures.value, c.in-Ok.ensures) at c.run.ensures.kept

@@ -16,5 +16,5 @@ returns-in_err-count-in-Ok-clause-refused g c =
 
 pub returns-in_ok-count-in-Ok-clause-found : goal.returns-in_ok-count-in-Ok-clause-found
 returns-in_ok-count-in-Ok-clause-found g c = λ none.
-    inr (status_found _ _ _ _ _ _ c.in-Ok.line c.in-Ok.ensures.ok (λ reads. true≢false (sym (c.reads_input_twice.ensures.1 reads) ∙ c.if-reads_input_twice.false))
+    inr (status_found _ _ _ _ _ _ _ c.in-Ok.line c.in-Ok.ensures.ok (λ reads. true≢false (sym (c.reads_input_twice.ensures.1 reads) ∙ c.if-reads_input_twice.false))
     c.is_check-checks.result c.in_ok-count-in-Ok.count c.is_check-checks.ensures c.in_ok-count-in-Ok.ensures.done (sym c.status_of.ensures ∙ none))
