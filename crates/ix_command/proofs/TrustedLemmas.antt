@@ -1,5 +1,5 @@
 -- What is so of an index file that was checked as a whole is so of one that is trusted, since an index text has one collection.
-use Rattle.std.proofs.Common.{◌≡◌, ◌≢◌, ℕ, ◌⊎◌, inl, sym, subst, refl, ⊎_elim, Option, Some, Result, Ok, Err, IfOk, IfErr, IfSome}
+use Rattle.std.proofs.Common.{◌≡◌, ◌≢◌, ℕ, ◌⊎◌, inl, sym, subst, refl, ⊎_elim, true≢false, Option, Some, Result, Ok, Err, IfOk, IfErr, IfSome, Bool, true, false}
 use Rattle.std.specs.Io.KnownBytes.{Keeps}
 use Rattle.clap.specs.Walk.{Text}
 use Rattle.ix_text.specs.Collections.{Collection, IsLawful}
@@ -17,8 +17,6 @@ use Rattle.ix_ask.specs.declared.ask_error.AskError.TheVariants as asking
 use Rattle.ix_ask.specs.declared.refusal.EngineRefusal.TheVariants as engine
 use Rattle.ix_ask.specs.declared.trust_error.TrustError.{TrustError}
 use Rattle.ix_ask.specs.declared.trust_error.TrustError.TheVariants as trusting
-use Rattle.ix_line.specs.declared.reading.Reading.{Reading}
-use Rattle.ix_line.specs.declared.reading.Reading.TheVariants.{Checking, Trusting, Usual}
 use Rattle.ix_command.specs.IndexFiles.{IsIndexHeld, IsListingRefused, IsPrintedFromFile, IsSearchRefused, IsSearchedFromFile, RefusesIndexText, no_index, no_lines, no_listed_index, no_names}
 use Rattle.ix_command.specs.Refusals.{IsUnread, Tells, TellsTrusting}
 use Rattle.ix_command.specs.TrustedFiles.{IsListingDone, IsListingUndone, IsSearchDone, IsSearchUndone, IsTrustedAnswer, IsTrustedListingRefused, IsTrustedRefused, IsTrustedSearchRefused, IsTrustedTold, LeavesTrusted, no_answer, unread}
@@ -158,12 +156,11 @@ search_wraps query old new collection asking.Write leaves = leaves
 search_wraps query old new collection asking.Memory leaves = leaves
 
 -- a file that was read as a whole, with or without trust
-pub search_done : (reading : Reading) (holds : Holding) (path query : Text) (old new : Option Text) (result : Result ℕ Refusal) → IfOk result (IsSearchedFromFile holds path query old new)
-    → IfOk result (IsSearchDone reading holds path query old new)
-search_done Usual holds path query old new result done = done
-search_done Checking holds path query old new result done = done
-search_done Trusting holds path query old new (Err told) done = tt
-search_done Trusting holds path query old new (Ok count) done =
+pub search_done : (trust : Bool) (holds : Holding) (path query : Text) (old new : Option Text) (result : Result ℕ Refusal) → IfOk result (IsSearchedFromFile holds path query old new)
+    → IfOk result (IsSearchDone trust holds path query old new)
+search_done false holds path query old new result done = done
+search_done true holds path query old new (Err told) done = tt
+search_done true holds path query old new (Ok count) done =
     trusted_whole holds path (λ collection. IsSearched collection query old new count) done.version done.collection done.held done.searched
 
 search_refused_whole : (holds : Holding) (path query : Text) (old new : Option Text) (told : Refusal) → IsSearchRefused holds path query old new told → IsTrustedSearchRefused holds path query old new told
@@ -171,40 +168,35 @@ search_refused_whole holds path query old new told (no_index refuses keeps) = un
 search_refused_whole holds path query old new told (no_names version collection held question) =
     no_answer (told_whole holds path _ old new version collection question.error told (search_orderly query old new) held question.tells question.leaves)
 
-pub search_undone : (reading : Reading) (holds : Holding) (path query : Text) (old new : Option Text) (result : Result ℕ Refusal) → IfErr result (IsSearchRefused holds path query old new)
-    → IfErr result (IsSearchUndone reading holds path query old new)
-search_undone Usual holds path query old new result refused = refused
-search_undone Checking holds path query old new result refused = refused
-search_undone Trusting holds path query old new (Ok count) refused = tt
-search_undone Trusting holds path query old new (Err told) refused = search_refused_whole holds path query old new told refused
+pub search_undone : (trust : Bool) (holds : Holding) (path query : Text) (old new : Option Text) (result : Result ℕ Refusal) → IfErr result (IsSearchRefused holds path query old new)
+    → IfErr result (IsSearchUndone trust holds path query old new)
+search_undone false holds path query old new result refused = refused
+search_undone true holds path query old new (Ok count) refused = tt
+search_undone true holds path query old new (Err told) refused = search_refused_whole holds path query old new told refused
 
 -- a file that is read by ranges
-pub search_unread : (reading : Reading) (holds : Holding) (path query : Text) (old new : Option Text) (told : Refusal) → reading ≡ Trusting → IsUnread path told → Keeps old new
-    → IsSearchUndone reading holds path query old new told
-search_unread Usual holds path query old new told with_trust why keeps = cc
-search_unread Checking holds path query old new told with_trust why keeps = cc
-search_unread Trusting holds path query old new told with_trust why keeps = unread why keeps
+pub search_unread : (trust : Bool) (holds : Holding) (path query : Text) (old new : Option Text) (told : Refusal) → trust ≡ true → IsUnread path told → Keeps old new
+    → IsSearchUndone trust holds path query old new told
+search_unread false holds path query old new told with_trust why keeps = absurd (true≢false (sym with_trust))
+search_unread true holds path query old new told with_trust why keeps = unread why keeps
 
 -- a path that cannot be looked at
-pub unread_at_all : (reading : Reading) (holds : Holding) (path query : Text) (old new : Option Text) (told : Refusal) → IsUnread path told → Keeps old new → IsSearchUndone reading holds path query old new told
-unread_at_all Usual holds path query old new told why keeps = no_index (inl why) keeps
-unread_at_all Checking holds path query old new told why keeps = no_index (inl why) keeps
-unread_at_all Trusting holds path query old new told why keeps = unread why keeps
+pub unread_at_all : (trust : Bool) (holds : Holding) (path query : Text) (old new : Option Text) (told : Refusal) → IsUnread path told → Keeps old new → IsSearchUndone trust holds path query old new told
+unread_at_all false holds path query old new told why keeps = no_index (inl why) keeps
+unread_at_all true holds path query old new told why keeps = unread why keeps
 
-pub search_ranged : (reading : Reading) (holds : Holding) (path query : Text) (old new : Option Text) (count : ℕ) (contents : Option Text) → reading ≡ Trusting → AreKnownOf (holds path) contents
+pub search_ranged : (trust : Bool) (holds : Holding) (path query : Text) (old new : Option Text) (count : ℕ) (contents : Option Text) → trust ≡ true → AreKnownOf (holds path) contents
     → ((version : Version) (collection : Collection) → HasIndexText contents version collection → IsSearched collection query old new count)
-    → ((collection : Collection) × IsLawful collection × IsSearched collection query old new count) → IsSearchDone reading holds path query old new count
-search_ranged Usual holds path query old new count contents with_trust known exact some = cc
-search_ranged Checking holds path query old new count contents with_trust known exact some = cc
-search_ranged Trusting holds path query old new count contents with_trust known exact some = record { contents = contents; known = known; exact = exact; some = some }
+    → ((collection : Collection) × IsLawful collection × IsSearched collection query old new count) → IsSearchDone trust holds path query old new count
+search_ranged false holds path query old new count contents with_trust known exact some = absurd (true≢false (sym with_trust))
+search_ranged true holds path query old new count contents with_trust known exact some = record { contents = contents; known = known; exact = exact; some = some }
 
-pub search_unranged : (reading : Reading) (holds : Holding) (path query : Text) (old new : Option Text) (contents : Option Text) (error : TrustError) (told : Refusal) → trust ≡ true
+pub search_unranged : (trust : Bool) (holds : Holding) (path query : Text) (old new : Option Text) (contents : Option Text) (error : TrustError) (told : Refusal) → trust ≡ true
     → AreKnownOf (holds path) contents → TellsTrusting path error told
     → ((version : Version) (collection : Collection) → HasIndexText contents version collection → LeavesTrusting collection query old new error)
-    → (error ≢ trusting.Ask asking.Write → Keeps old new) → IsSearchUndone reading holds path query old new told
-search_unranged Usual holds path query old new contents error told with_trust known tells leaves kept = cc
-search_unranged Checking holds path query old new contents error told with_trust known tells leaves kept = cc
-search_unranged Trusting holds path query old new contents error told with_trust known tells leaves kept =
+    → (error ≢ trusting.Ask asking.Write → Keeps old new) → IsSearchUndone trust holds path query old new told
+search_unranged false holds path query old new contents error told with_trust known tells leaves kept = absurd (true≢false (sym with_trust))
+search_unranged true holds path query old new contents error told with_trust known tells leaves kept =
     told_ranges holds path _ old new (λ collection error. LeavesTrusting collection query old new error) contents error told known tells leaves (search_wraps query old new) kept
 
 -- ---- terms
@@ -232,12 +224,11 @@ listing_wraps pattern old new collection asking.Write leaves = leaves
 listing_wraps pattern old new collection asking.Memory leaves = leaves
 
 -- a file that was read as a whole, with or without trust
-pub listing_done : (reading : Reading) (holds : Holding) (path pattern : Text) (old new : Option Text) (result : Result ℕ Refusal) → IfOk result (IsPrintedFromFile holds path pattern old new)
-    → IfOk result (IsListingDone reading holds path pattern old new)
-listing_done Usual holds path pattern old new result done = done
-listing_done Checking holds path pattern old new result done = done
-listing_done Trusting holds path pattern old new (Err told) done = tt
-listing_done Trusting holds path pattern old new (Ok count) done =
+pub listing_done : (trust : Bool) (holds : Holding) (path pattern : Text) (old new : Option Text) (result : Result ℕ Refusal) → IfOk result (IsPrintedFromFile holds path pattern old new)
+    → IfOk result (IsListingDone trust holds path pattern old new)
+listing_done false holds path pattern old new result done = done
+listing_done true holds path pattern old new (Err told) done = tt
+listing_done true holds path pattern old new (Ok count) done =
     trusted_whole holds path (λ collection. IsPrinted collection pattern old new count) done.version done.collection done.held done.printed
 
 listing_refused_whole : (holds : Holding) (path pattern : Text) (old new : Option Text) (told : Refusal) → IsListingRefused holds path pattern old new told → IsTrustedListingRefused holds path pattern old new told
@@ -245,34 +236,30 @@ listing_refused_whole holds path pattern old new told (no_listed_index refuses k
 listing_refused_whole holds path pattern old new told (no_lines version collection held question) =
     no_answer (told_whole holds path _ old new version collection question.error told (listing_orderly pattern old new) held question.tells question.leaves)
 
-pub listing_undone : (reading : Reading) (holds : Holding) (path pattern : Text) (old new : Option Text) (result : Result ℕ Refusal) → IfErr result (IsListingRefused holds path pattern old new)
-    → IfErr result (IsListingUndone reading holds path pattern old new)
-listing_undone Usual holds path pattern old new result refused = refused
-listing_undone Checking holds path pattern old new result refused = refused
-listing_undone Trusting holds path pattern old new (Ok count) refused = tt
-listing_undone Trusting holds path pattern old new (Err told) refused = listing_refused_whole holds path pattern old new told refused
+pub listing_undone : (trust : Bool) (holds : Holding) (path pattern : Text) (old new : Option Text) (result : Result ℕ Refusal) → IfErr result (IsListingRefused holds path pattern old new)
+    → IfErr result (IsListingUndone trust holds path pattern old new)
+listing_undone false holds path pattern old new result refused = refused
+listing_undone true holds path pattern old new (Ok count) refused = tt
+listing_undone true holds path pattern old new (Err told) refused = listing_refused_whole holds path pattern old new told refused
 
 -- a file that is read by ranges
-pub listing_unread : (reading : Reading) (holds : Holding) (path pattern : Text) (old new : Option Text) (told : Refusal) → reading ≡ Trusting → IsUnread path told → Keeps old new
-    → IsListingUndone reading holds path pattern old new told
-listing_unread Usual holds path pattern old new told with_trust why keeps = cc
-listing_unread Checking holds path pattern old new told with_trust why keeps = cc
-listing_unread Trusting holds path pattern old new told with_trust why keeps = unread why keeps
+pub listing_unread : (trust : Bool) (holds : Holding) (path pattern : Text) (old new : Option Text) (told : Refusal) → trust ≡ true → IsUnread path told → Keeps old new
+    → IsListingUndone trust holds path pattern old new told
+listing_unread false holds path pattern old new told with_trust why keeps = absurd (true≢false (sym with_trust))
+listing_unread true holds path pattern old new told with_trust why keeps = unread why keeps
 
-pub listing_ranged : (reading : Reading) (holds : Holding) (path pattern : Text) (old new : Option Text) (count : ℕ) (contents : Option Text) → reading ≡ Trusting → AreKnownOf (holds path) contents
+pub listing_ranged : (trust : Bool) (holds : Holding) (path pattern : Text) (old new : Option Text) (count : ℕ) (contents : Option Text) → trust ≡ true → AreKnownOf (holds path) contents
     → ((version : Version) (collection : Collection) → HasIndexText contents version collection → IsPrinted collection pattern old new count)
-    → ((collection : Collection) × IsLawful collection × IsPrinted collection pattern old new count) → IsListingDone reading holds path pattern old new count
-listing_ranged Usual holds path pattern old new count contents with_trust known exact some = cc
-listing_ranged Checking holds path pattern old new count contents with_trust known exact some = cc
-listing_ranged Trusting holds path pattern old new count contents with_trust known exact some = record { contents = contents; known = known; exact = exact; some = some }
+    → ((collection : Collection) × IsLawful collection × IsPrinted collection pattern old new count) → IsListingDone trust holds path pattern old new count
+listing_ranged false holds path pattern old new count contents with_trust known exact some = absurd (true≢false (sym with_trust))
+listing_ranged true holds path pattern old new count contents with_trust known exact some = record { contents = contents; known = known; exact = exact; some = some }
 
-pub listing_unranged : (reading : Reading) (holds : Holding) (path pattern : Text) (old new : Option Text) (contents : Option Text) (error : TrustError) (told : Refusal) → trust ≡ true
+pub listing_unranged : (trust : Bool) (holds : Holding) (path pattern : Text) (old new : Option Text) (contents : Option Text) (error : TrustError) (told : Refusal) → trust ≡ true
     → AreKnownOf (holds path) contents → TellsTrusting path error told
     → ((version : Version) (collection : Collection) → HasIndexText contents version collection → LeavesTrustingListing collection pattern old new error)
-    → (error ≢ trusting.Ask asking.Write → Keeps old new) → IsListingUndone reading holds path pattern old new told
-listing_unranged Usual holds path pattern old new contents error told with_trust known tells leaves kept = cc
-listing_unranged Checking holds path pattern old new contents error told with_trust known tells leaves kept = cc
-listing_unranged Trusting holds path pattern old new contents error told with_trust known tells leaves kept =
+    → (error ≢ trusting.Ask asking.Write → Keeps old new) → IsListingUndone trust holds path pattern old new told
+listing_unranged false holds path pattern old new contents error told with_trust known tells leaves kept = absurd (true≢false (sym with_trust))
+listing_unranged true holds path pattern old new contents error told with_trust known tells leaves kept =
     told_ranges holds path _ old new (λ collection error. LeavesTrustingListing collection pattern old new error) contents error told known tells leaves (listing_wraps pattern old new) kept
 
 -- what is in an option

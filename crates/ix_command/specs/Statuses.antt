@@ -17,14 +17,14 @@ use Rattle.ix_command.specs.Files.{Keeping}
 use Rattle.ix_files.specs.Outputs.{LeavesOthers, LeavesTarget, now_in}
 use Rattle.ix_files.specs.Reading.{Holding}
 use Rattle.ix_files.specs.Slots.{IsSame, Stops}
-use Rattle.ix_files.specs.Views.{GoesOn, LeavesOnly, View}
+use Rattle.ix_files.specs.Views.{LeavesOnly, View}
 use Rattle.ix_line.specs.Help.{AsksForHelp, as_flag, help_of}
 use Rattle.ix_line.specs.Lines.{Conflicts, Reads, texts_of}
 use Rattle.ix_command.specs.LiveScripts.{IsLiveRefused, IsLived}
 use Rattle.ix_command.specs.MergedRuns.{IsMerged, IsMergeRefused}
 use Rattle.ix_command.specs.Refusals.{IsTold, IsUnwritten}
 use Rattle.ix_command.specs.StandardInput.{ReadsInputTwice}
-use Rattle.ix_command.specs.StoredArchives.{AddsFiles, IsAddRefused, IsArchiveSearched, IsArchiveUnsearched, IsRemoveRefused, KeepsAdding, KeepsRemoving, RemovesSome, Storing}
+use Rattle.ix_command.specs.StoredArchives.{AddsFiles, ChangesArchive, IsAddRefused, IsArchiveSearched, IsArchiveUnsearched, IsRemoveRefused, KeepsAdding, KeepsRemoving, RemovesSome, Storing}
 use Rattle.ix_command.specs.TrustedFiles.{IsListingDone, IsListingUndone, IsSearchDone, IsSearchUndone}
 use Rattle.ix_command.specs.Upgrades.{IsUpgradeRefused, IsUpgraded}
 use Rattle.ix_command.specs.WrittenRuns.{IsRunRefused, IsRunSaved}
@@ -54,9 +54,9 @@ IsDone holds saves kept stored (Add stop_file plan archive collection) old new c
     AddsFiles holds stored stop_file archive.now collection.now × Keeps old new × (count ≡ 1)
 IsDone holds saves kept stored (Remove archive names) old new count = RemovesSome holds stored archive.now names count × Keeps old new
 IsDone holds saves kept stored (Live stop_file plan searchers script) old new count = IsLived holds stop_file script.now old new count
-IsDone holds saves kept stored (Search index query reading) old new count =
-    IsSearchDone reading holds index.now query.now old new count ⊎ IsArchiveSearched stored index.now query.now old new count
-IsDone holds saves kept stored (Terms index pattern reading) old new count = IsListingDone reading holds index.now pattern.now old new count
+IsDone holds saves kept stored (Search index query trust) old new count =
+    IsSearchDone trust holds index.now query.now old new count ⊎ IsArchiveSearched stored index.now query.now old new count
+IsDone holds saves kept stored (Terms index pattern trust) old new count = IsListingDone trust holds index.now pattern.now old new count
 IsDone holds saves kept stored (Check paths) old new count = AreChecked holds (texts_of paths.items) old new count
 IsDone holds saves kept stored (Run stop_file first collection run) old new count =
     IsRunSaved holds saves stop_file first collection.now run.now × Keeps old new × (count ≡ 1)
@@ -66,12 +66,12 @@ IsDone holds saves kept stored (Upgrade old_file new_file) old new count =
     IsUpgraded holds saves old_file.now new_file.now × Keeps old new × (count ≡ 1)
 
 -- The line changes the file that it asks for, and no other, but `build` those of its runs, of which none is left; if it asks for
--- none, it changes none. `add` and `remove` change files of an archive.
+-- none, it changes none. `add` and `remove` change names in the folder of the archive.
 abbrev pub LeavesFiles : Line → View → View → Type 0
 LeavesFiles (Build stop_file plan collection index) old new =
     LeavesOthers index.now old new ⊎ LeavesNoRuns stop_file plan collection.now index.now old new
-LeavesFiles (Add stop_file plan archive collection) old new = GoesOn old new
-LeavesFiles (Remove archive names) old new = GoesOn old new
+LeavesFiles (Add stop_file plan archive collection) old new = ChangesArchive archive.now old new
+LeavesFiles (Remove archive names) old new = ChangesArchive archive.now old new
 LeavesFiles (Run stop_file first collection run) old new = LeavesOthers run.now old new
 LeavesFiles (Merge index inputs) old new = LeavesOthers index.now old new
 LeavesFiles (Upgrade old_file new_file) old new = LeavesOthers new_file.now old new
@@ -116,9 +116,9 @@ IsLineRefused holds stored (Add stop_file plan archive collection) old new told 
     IsAddRefused holds stop_file archive.now collection.now told × Keeps old new
 IsLineRefused holds stored (Remove archive names) old new told = IsRemoveRefused holds archive.now names told × Keeps old new
 IsLineRefused holds stored (Live stop_file plan searchers script) old new told = IsLiveRefused holds stop_file plan.workers script.now old new told
-IsLineRefused holds stored (Search index query reading) old new told =
-    IsSearchUndone reading holds index.now query.now old new told ⊎ IsArchiveUnsearched stored index.now query.now old new told
-IsLineRefused holds stored (Terms index pattern reading) old new told = IsListingUndone reading holds index.now pattern.now old new told
+IsLineRefused holds stored (Search index query trust) old new told =
+    IsSearchUndone trust holds index.now query.now old new told ⊎ IsArchiveUnsearched stored index.now query.now old new told
+IsLineRefused holds stored (Terms index pattern trust) old new told = IsListingUndone trust holds index.now pattern.now old new told
 IsLineRefused holds stored (Check paths) old new told = IsCheckRefused holds (texts_of paths.items) old new told
 IsLineRefused holds stored (Run stop_file first collection run) old new told = IsRunRefused holds stop_file first collection.now run.now told × Keeps old new
 IsLineRefused holds stored (Merge index inputs) old new told =

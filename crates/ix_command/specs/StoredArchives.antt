@@ -5,6 +5,7 @@ use Rattle.std.specs.Io.KnownBytes.{Appends, Keeps}
 use Rattle.std.specs.Str.Lines.{lines}
 use Rattle.clap.specs.Walk.{Text}
 use Rattle.ix_text.specs.Collections.{NamedText}
+use Rattle.ix_files.specs.Changes.{ChangesOnly}
 use Rattle.ix_files.specs.Reading.{Holding}
 use Rattle.ix_files.specs.Slots.{Nothing, Slots}
 use Rattle.ix_files.specs.Views.{LeavesOnly, View}
@@ -144,7 +145,11 @@ pub data IsRemoveRefused (holds : Holding) (archive : Text) (names : Removed) : 
   bad_list : {told : Refusal} → RefusesNames holds names told → IsRemoveRefused holds archive names told
   not_removed : {told : Refusal} (error : ChangeError) → TellsChange archive error told → IsRemoveRefused holds archive names told
 
--- ---- what a stop leaves
+-- ---- what is changed, and what a stop leaves
+
+-- Only names in the folder to which the path leads change, and a stop at any moment leaves at all others what it could leave before.
+abbrev pub ChangesArchive : Text → View → View → Type 0
+ChangesArchive path old new = ChangesOnly (λ place. place.folder ≡ old.folder path) old new
 
 -- A stop left of the archive in the folder what it could leave before, or the archive with the documents of the collection file.
 pub data IsLeftOrAdded (holds : Holding) (stop_file : Option (Bor Text)) (collection : Text) (folder : List ℕ) (among : List (Option Archive)) (now : Option Archive) (left : Slots) : Type 0 where

@@ -1,5 +1,5 @@
 -- What `search` and `terms` make of an index file that they trust: of which they read only what the question needs.
-use Rattle.std.specs.Prelude.{◌≡◌, ◌≢◌, ℕ, Option}
+use Rattle.std.specs.Prelude.{◌≡◌, ◌≢◌, ℕ, Bool, true, false, Option}
 use Rattle.std.specs.Io.KnownBytes.{Keeps}
 use Rattle.clap.specs.Walk.{Text}
 use Rattle.ix_text.specs.Collections.{Collection, IsLawful}
@@ -12,8 +12,6 @@ use Rattle.ix_ask.specs.Searching.{IsSearched, LeavesSearch}
 use Rattle.ix_ask.specs.declared.ask_error.AskError.{AskError}
 use Rattle.ix_ask.specs.declared.ask_error.AskError.TheVariants as asking
 use Rattle.ix_command.specs.IndexFiles.{IsListingRefused, IsPrintedFromFile, IsSearchRefused, IsSearchedFromFile}
-use Rattle.ix_line.specs.declared.reading.Reading.{Reading}
-use Rattle.ix_line.specs.declared.reading.Reading.TheVariants as reading
 use Rattle.ix_command.specs.Refusals.{IsUnread, Tells}
 use Rattle.ix_command.specs.declared.refusal.Refusal.{Refusal}
 
@@ -57,16 +55,14 @@ abbrev pub IsTrustedSearchRefused : Holding → Text → Text → Option Text �
 IsTrustedSearchRefused holds path query old new told = IsTrustedRefused holds path (λ collection error. LeavesSearch collection query old new error) old new told
 
 -- `search` was done, with or without trust in the index file.
-abbrev pub IsSearchDone : Reading → Holding → Text → Text → Option Text → Option Text → ℕ → Type 0
-IsSearchDone reading.Usual holds path query old new count = IsSearchedFromFile holds path query old new count
-IsSearchDone reading.Checking holds path query old new count = IsSearchedFromFile holds path query old new count
-IsSearchDone reading.Trusting holds path query old new count = IsTrustedSearch holds path query old new count
+abbrev pub IsSearchDone : Bool → Holding → Text → Text → Option Text → Option Text → ℕ → Type 0
+IsSearchDone false holds path query old new count = IsSearchedFromFile holds path query old new count
+IsSearchDone true holds path query old new count = IsTrustedSearch holds path query old new count
 
 -- Why it was refused.
-abbrev pub IsSearchUndone : Reading → Holding → Text → Text → Option Text → Option Text → Refusal → Type 0
-IsSearchUndone reading.Usual holds path query old new told = IsSearchRefused holds path query old new told
-IsSearchUndone reading.Checking holds path query old new told = IsSearchRefused holds path query old new told
-IsSearchUndone reading.Trusting holds path query old new told = IsTrustedSearchRefused holds path query old new told
+abbrev pub IsSearchUndone : Bool → Holding → Text → Text → Option Text → Option Text → Refusal → Type 0
+IsSearchUndone false holds path query old new told = IsSearchRefused holds path query old new told
+IsSearchUndone true holds path query old new told = IsTrustedSearchRefused holds path query old new told
 
 -- ---- terms
 
@@ -79,13 +75,11 @@ abbrev pub IsTrustedListingRefused : Holding → Text → Text → Option Text �
 IsTrustedListingRefused holds path pattern old new told = IsTrustedRefused holds path (λ collection error. LeavesListing collection pattern old new error) old new told
 
 -- `terms` was done, with or without trust in the index file.
-abbrev pub IsListingDone : Reading → Holding → Text → Text → Option Text → Option Text → ℕ → Type 0
-IsListingDone reading.Usual holds path pattern old new count = IsPrintedFromFile holds path pattern old new count
-IsListingDone reading.Checking holds path pattern old new count = IsPrintedFromFile holds path pattern old new count
-IsListingDone reading.Trusting holds path pattern old new count = IsTrustedListing holds path pattern old new count
+abbrev pub IsListingDone : Bool → Holding → Text → Text → Option Text → Option Text → ℕ → Type 0
+IsListingDone false holds path pattern old new count = IsPrintedFromFile holds path pattern old new count
+IsListingDone true holds path pattern old new count = IsTrustedListing holds path pattern old new count
 
 -- Why it was refused.
-abbrev pub IsListingUndone : Reading → Holding → Text → Text → Option Text → Option Text → Refusal → Type 0
-IsListingUndone reading.Usual holds path pattern old new told = IsListingRefused holds path pattern old new told
-IsListingUndone reading.Checking holds path pattern old new told = IsListingRefused holds path pattern old new told
-IsListingUndone reading.Trusting holds path pattern old new told = IsTrustedListingRefused holds path pattern old new told
+abbrev pub IsListingUndone : Bool → Holding → Text → Text → Option Text → Option Text → Refusal → Type 0
+IsListingUndone false holds path pattern old new told = IsListingRefused holds path pattern old new told
+IsListingUndone true holds path pattern old new told = IsTrustedListingRefused holds path pattern old new told

@@ -240,13 +240,13 @@ fn do_line<'a, R: Threads + Wait + Sync, F: Files, V: Watch, W: Write>(
         Line::Search {
             index,
             query,
-            reading,
-        } => search::run(rt, alloc, files, index, query, reading, out),
+            trust,
+        } => search::run(rt, alloc, files, index, query, trust, out),
         Line::Terms {
             index,
             pattern,
-            reading,
-        } => terms::run(rt, alloc, files, index, pattern, reading, out),
+            trust,
+        } => terms::run(rt, alloc, files, index, pattern, trust, out),
         Line::Add {
             stop,
             plan,
@@ -308,9 +308,7 @@ fn answer_without_line<'a, W: Write>(
     }
     match error {
         LineError::Clap(_) => Err(Refusal::Arguments),
-        LineError::Both | LineError::TrustAndCheck | LineError::NamesOrList => {
-            Err(Refusal::Arguments)
-        }
+        LineError::Both | LineError::NamesOrList => Err(Refusal::Arguments),
         LineError::Memory => Err(Refusal::Engine(EngineRefusal::Memory)),
     }
 }

@@ -1,16 +1,14 @@
 //! Index files, opened.
-ghost use Rattle.std.specs.Prelude.{◌≡◌, ◌↔◌, true, IfOk, IfErr, IfSome, IsTrue};
+ghost use Rattle.std.specs.Prelude.{◌≡◌, true, IfOk, IfErr, IfSome};
 ghost use Rattle.ix_files.specs.Reading.{AreKnownOf, held_in};
 ghost use Rattle.ix_files.specs.Slots.{Nothing};
 ghost use Rattle.ix_command.specs.IndexFiles.{IsOpened, RefusesIndex};
-ghost use Rattle.ix_line.specs.declared.reading.Reading.TheVariants.{Trusting};
 ghost use Rattle.ix_command.specs.Refusals.{IsUnread};
 
 use crate::refusal::Refusal;
 use ix_ask::EngineRefusal;
 use ix_file::Volume;
 use ix_files::{Files, Kind, read_front};
-use ix_line::Reading;
 use std::alloc::Global;
 use std::thread::Threads;
 
@@ -62,11 +60,4 @@ pub fn is_folder<'a, F: Files>(files: &F, path: &'a str) -> Result<bool, Refusal
         Ok(_) => Ok(false),
         Err(error) => Err(Refusal::unread(path, error)),
     }
-}
-
-/// Whether only what a question needs is read of a file.
-pub fn is_trusting(reading: Reading) -> bool
-    ensures { IsTrue result ↔ (reading ≡ Trusting) }
-{
-    matches!(reading, Reading::Trusting)
 }

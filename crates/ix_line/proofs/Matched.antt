@@ -12,7 +12,7 @@ use Rattle.ix_line.specs.Entered.{Entered}
 use Rattle.ix_line.specs.LineErrors.{SortsError}
 use Rattle.ix_line.specs.Lines.{IsMatched, Names, Refuses, RefusesRows}
 use Rattle.ix_line.specs.declared.error.LineError.{LineError}
-use Rattle.ix_line.specs.declared.error.LineError.TheVariants.{Both, Clap, Memory, NamesOrList, TrustAndCheck}
+use Rattle.ix_line.specs.declared.error.LineError.TheVariants.{Both, Clap, Memory, NamesOrList}
 use Rattle.ix_line.proofs.EachLemmas.{both}
 use Rattle.ix_line.proofs.NoFault.{entered_unless_fault, is_usual_app}
 
@@ -53,7 +53,6 @@ pub refuses_named : (words : List Text) (name : Text) (rows : List Row) (e : Lin
 refuses_named words name rows (Clap error) names refuses = absurd refuses
 refuses_named words name rows Memory names refuses = tt
 refuses_named words name rows Both names refuses = (name, rows, names, refuses)
-refuses_named words name rows TrustAndCheck names refuses = (name, rows, names, refuses)
 refuses_named words name rows NamesOrList names refuses = (name, rows, names, refuses)
 
 pub rows_refused_up : {T : Type 0} (result : Result T LineError) (words : List Text) (name : Text) (rows : List Row) (e : LineError) → Names words name rows → RefusesRows name rows e

@@ -60,12 +60,11 @@ build_shape = record (new_shape (codes "build")) {
       ∷ []);
 }
 
--- `add [--stop FILE] [--block N] [--bytes N] [--workers W] [--runs FOLDER] ARCHIVE COLLECTION`
+-- `add [--stop FILE] [--block N] [--bytes N] [--workers W] ARCHIVE COLLECTION`
 abbrev pub add_shape : Shape
 add_shape = record (new_shape (codes "add")) {
   rules = with_plan_rules (
-      option_rule (codes "runs")
-      ∷ operand_rule (codes "ARCHIVE")
+      operand_rule (codes "ARCHIVE")
       ∷ operand_rule (codes "COLLECTION")
       ∷ []);
 }
@@ -88,29 +87,27 @@ live_shape = record (new_shape (codes "live")) {
       ∷ []);
 }
 
--- `search [--trust] [--check] INDEX QUERY`
+-- `search [--trust] INDEX QUERY`
 abbrev pub search_shape : Shape
 search_shape = record (new_shape (codes "search")) {
   rules = flag_rule (codes "trust")
-      ∷ flag_rule (codes "check")
       ∷ operand_rule (codes "INDEX")
       ∷ operand_rule (codes "QUERY")
       ∷ [];
 }
 
--- `terms [--trust] [--check] INDEX PATTERN`
+-- `terms [--trust] INDEX PATTERN`
 abbrev pub terms_shape : Shape
 terms_shape = record (new_shape (codes "terms")) {
   rules = flag_rule (codes "trust")
-      ∷ flag_rule (codes "check")
       ∷ operand_rule (codes "INDEX")
       ∷ operand_rule (codes "PATTERN")
       ∷ [];
 }
 
--- `check PATH...`
+-- `check INDEX...`
 abbrev pub check_shape : Shape
-check_shape = record (new_shape (codes "check")) { rules = operands_rule (codes "PATH") ∷ [] }
+check_shape = record (new_shape (codes "check")) { rules = operands_rule (codes "INDEX") ∷ [] }
 
 -- `run [--stop FILE] [--first D] COLLECTION RUN`
 abbrev pub run_shape : Shape

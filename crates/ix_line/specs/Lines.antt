@@ -20,12 +20,10 @@ use Rattle.ix_build.specs.declared.plan.Cut.TheVariants.{Bytes, Docs}
 use Rattle.ix_line.specs.Commands.{ix_app}
 use Rattle.ix_line.specs.declared.line.Line.{Line}
 use Rattle.ix_line.specs.declared.line.Line.TheVariants.{Add, Ask, Build, Check, Live, Merge, Remove, Run, Search, Terms, Upgrade}
-use Rattle.ix_line.specs.declared.reading.Reading.{Reading}
-use Rattle.ix_line.specs.declared.reading.Reading.TheVariants.{Checking, Trusting, Usual}
 use Rattle.ix_line.specs.declared.removed.Removed.{Removed}
 use Rattle.ix_line.specs.declared.removed.Removed.TheVariants as removed
 use Rattle.ix_line.specs.declared.error.LineError.{LineError}
-use Rattle.ix_line.specs.declared.error.LineError.TheVariants.{Both, Clap, Memory, NamesOrList, TrustAndCheck}
+use Rattle.ix_line.specs.declared.error.LineError.TheVariants.{Both, Clap, Memory, NamesOrList}
 
 -- the words behind references
 abbrev pub texts_of : List (Bor Text) → List Text
@@ -49,19 +47,9 @@ HasOperands id rows fields = all_of id rows ≡ Some (texts_of fields)
 abbrev pub source_of : Text → List Row → Option ValueSource
 source_of id rows = option_and_then (λ r. r.source) (find (λ r. bytes_eq r.id id) rows)
 
--- the words give the flag
-abbrev pub IsGiven : Text → List Row → Type 0
-IsGiven id rows = source_of id rows ≡ Some CommandLine
-
 -- whether the words give a flag
 abbrev pub HasFlag : Text → List Row → Bool → Type 0
-HasFlag id rows field = IsTrue field ↔ IsGiven id rows
-
--- the flag of `--trust` and `--check` that the words give
-abbrev pub HasReading : List Row → Reading → Type 0
-HasReading rows Usual = ¬ (IsGiven (codes "trust") rows) × ¬ (IsGiven (codes "check") rows)
-HasReading rows Trusting = IsGiven (codes "trust") rows × ¬ (IsGiven (codes "check") rows)
-HasReading rows Checking = ¬ (IsGiven (codes "trust") rows) × IsGiven (codes "check") rows
+HasFlag id rows field = IsTrue field ↔ (source_of id rows ≡ Some CommandLine)
 
 -- the words give names, or the option `--names` with a file of them, and not both
 abbrev pub HasRemoved : List Row → Removed → Type 0
@@ -116,10 +104,6 @@ pub record HasPlan (rows : List Row) (folder : Option Text) (plan : PlanValue) :
 abbrev pub HasBoth : List Row → Type 0
 HasBoth rows = IsSome (one_of (codes "block") rows) × IsSome (one_of (codes "bytes") rows)
 
--- the words give `--trust` and `--check`
-abbrev pub HasTrustAndCheck : List Row → Type 0
-HasTrustAndCheck rows = IsGiven (codes "trust") rows × IsGiven (codes "check") rows
-
 -- the words give a name and `--names`, or neither
 abbrev pub HasNamesTwiceOrNever : List Row → Type 0
 HasNamesTwiceOrNever rows = (IsSome (all_of (codes "NAME") rows) × IsSome (first_of (codes "names") rows))
@@ -130,7 +114,6 @@ abbrev pub IsConflict : Text → List Row → LineError → Type 0
 IsConflict name rows (Clap e) = ⊥
 IsConflict name rows Memory = ⊥
 IsConflict name rows Both = HasBoth rows
-IsConflict name rows TrustAndCheck = HasTrustAndCheck rows
 IsConflict name rows NamesOrList = (name ≡ codes "remove") × HasNamesTwiceOrNever rows
 
 -- ---- a line
@@ -149,7 +132,7 @@ Holds name rows (Build stop plan collection index) = (name ≡ codes "build")
     × HasOperand (codes "INDEX") rows index
 Holds name rows (Add stop plan archive collection) = (name ≡ codes "add")
     × HasText (codes "stop") rows stop
-    × HasPlan rows (first_of (codes "runs") rows) plan
+    × HasPlan rows None plan
     × HasOperand (codes "ARCHIVE") rows archive
     × HasOperand (codes "COLLECTION") rows collection
 Holds name rows (Remove archive names) = (name ≡ codes "remove")
@@ -160,16 +143,16 @@ Holds name rows (Live stop plan searchers script) = (name ≡ codes "live")
     × HasPlan rows None plan
     × HasNumberOr (codes "searchers") 2 rows searchers
     × HasOperand (codes "SCRIPT") rows script
-Holds name rows (Search index query reading) = (name ≡ codes "search")
+Holds name rows (Search index query trust) = (name ≡ codes "search")
     × HasOperand (codes "INDEX") rows index
     × HasOperand (codes "QUERY") rows query
-    × HasReading rows reading
-Holds name rows (Terms index pattern reading) = (name ≡ codes "terms")
+    × HasFlag (codes "trust") rows trust
+Holds name rows (Terms index pattern trust) = (name ≡ codes "terms")
     × HasOperand (codes "INDEX") rows index
     × HasOperand (codes "PATTERN") rows pattern
-    × HasReading rows reading
+    × HasFlag (codes "trust") rows trust
 Holds name rows (Check paths) = (name ≡ codes "check")
-    × HasOperands (codes "PATH") rows paths.items
+    × HasOperands (codes "INDEX") rows paths.items
 Holds name rows (Run stop first collection run) = (name ≡ codes "run")
     × HasText (codes "stop") rows stop
     × HasNumberOr (codes "first") 0 rows first

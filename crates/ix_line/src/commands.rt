@@ -62,7 +62,6 @@ const SEARCH: Form = Form {
     name: "search",
     arguments: &[
         Argument::Flag("trust"),
-        Argument::Flag("check"),
         Argument::Operand("INDEX"),
         Argument::Operand("QUERY"),
     ],
@@ -72,7 +71,6 @@ const TERMS: Form = Form {
     name: "terms",
     arguments: &[
         Argument::Flag("trust"),
-        Argument::Flag("check"),
         Argument::Operand("INDEX"),
         Argument::Operand("PATTERN"),
     ],
@@ -80,7 +78,7 @@ const TERMS: Form = Form {
 
 const CHECK: Form = Form {
     name: "check",
-    arguments: &[Argument::Operands("PATH")],
+    arguments: &[Argument::Operands("INDEX")],
 };
 
 const RUN: Form = Form {
@@ -123,7 +121,6 @@ const ADD: Form = Form {
         Argument::Number("block", 1, MOST_DOCUMENTS),
         Argument::Number("bytes", 1, MOST_BYTES),
         Argument::Number("workers", 1, MAX_WORKERS),
-        Argument::Text("runs"),
         Argument::Operand("ARCHIVE"),
         Argument::Operand("COLLECTION"),
     ],

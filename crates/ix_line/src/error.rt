@@ -19,9 +19,6 @@ pub enum LineError {
     /// `--block` is given together with `--bytes`.
     #[error("Both")]
     Both,
-    /// `--trust` is given together with `--check`.
-    #[error("TrustAndCheck")]
-    TrustAndCheck,
     /// A name to be removed is given together with `--names`, or neither is given.
     #[error("NamesOrList")]
     NamesOrList,
@@ -36,8 +33,7 @@ impl LineError {
             LineError::Clap(_) => 1,
             LineError::Memory => 2,
             LineError::Both => 3,
-            LineError::TrustAndCheck => 4,
-            LineError::NamesOrList => 5,
+            LineError::NamesOrList => 4,
         }
     }
 

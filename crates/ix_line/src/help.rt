@@ -19,13 +19,13 @@ Commands, in the order in which they are met:
             ix build examples/mail.txt mail.ix
   search    prints the names of the documents of an index or an archive that answer a query
             ix search mail.ix 'contract AND NOT hotel'
-  terms     prints the terms of an index or an archive that match a pattern
+  terms     prints the terms of an index that match a pattern
             ix terms mail.ix 'contr*'
   add       adds the documents of a collection to an archive, a folder that grows
             ix add mail.archive examples/mail.txt
   remove    removes documents from an archive, by their names
             ix remove mail.archive 2026-03-06/anna-3
-  check     looks for damage in index files and archives, and prints what it finds
+  check     looks for damage in index files, and prints what it finds
             ix check mail.ix
   run       inverts a part of a collection into a run file, to be merged elsewhere
             ix run examples/mail.txt mail.run
@@ -136,13 +136,11 @@ pub const HELP_ON_ADD: &str = "\
 Adds the documents of a collection to an archive: a folder that grows, and that is searched
 as an index is.
 
-Usage: ix add [--stop FILE] [--block N] [--bytes N] [--workers W] [--runs FOLDER]
-              ARCHIVE COLLECTION
+Usage: ix add [--stop FILE] [--block N] [--bytes N] [--workers W] ARCHIVE COLLECTION
 
   ARCHIVE        the folder of the archive; a path that does not exist, or an empty
                  folder, becomes an archive
-  COLLECTION     the file of documents, or an index file with the stop words of the
-                 archive; `-` is the standard input, for documents
+  COLLECTION     the file of documents; `-` is the standard input
   --stop FILE    a file of words to leave out, one a line: those of an archive are the
                  ones of its first call; without it they are used again
   --block N      at most how many documents are inverted at a time,
@@ -150,8 +148,6 @@ Usage: ix add [--stop FILE] [--block N] [--bytes N] [--workers W] [--runs FOLDER
   --bytes N      in place of --block: documents are inverted at a time until their
                  texts have this many bytes, from 1 to 268435456
   --workers W    how many threads invert them, from 1 to 64; without it 4
-  --runs FOLDER  a folder, which has to exist: what was inverted waits in files there
-                 until all of it is merged, and takes less memory; without it in memory
 
 The documents come behind those of the archive. All documents of a call are added, or none:
 so it is after an error, and if the program is killed or the machine loses power at any
@@ -163,7 +159,7 @@ documents, remove their names first.
 A collection is a text in which each line is a document:
 its name, a TAB, and its text.
 
-Nothing is printed; on a terminal the error output says how many documents were added.
+Nothing is printed.
 
 Exit status: 0 the documents were added, or help was asked for; 2 refused, and one line
 on the error output says why.
@@ -171,7 +167,7 @@ on the error output says why.
 Examples:
   ix add mail.archive examples/mail.txt
   ix search mail.archive 'contract AND NOT hotel'
-  ix add --stop examples/stop.txt notes.archive notes.txt
+  ix add --stop examples/stop.txt letters.archive examples/mail.txt
 ";
 
 /// What `ix remove --help` prints.
@@ -193,8 +189,7 @@ All of these documents are removed, or none: so it is after an error, and if the
 killed or the machine loses power at any moment. After status 0 they are removed, whatever
 happens then.
 
-Nothing is printed; on a terminal the error output says how many documents were removed,
-and of how many names there is none.
+Nothing is printed.
 
 Exit status: 0 documents were removed, or help was asked for; 1 there is no document of
 these names, and the archive is as it was; 2 refused, and one line on the error output
@@ -254,25 +249,23 @@ pub const HELP_ON_SEARCH: &str = "\
 Prints the names of the documents of an index or an archive that answer a query, one a
 line.
 
-Usage: ix search [--trust | --check] INDEX QUERY
+Usage: ix search [--trust] INDEX QUERY
 
   INDEX          the file of the index, or the folder of an archive; `-` is the standard
                  input
   QUERY          the query, as one argument
-  --trust        read only what the query needs; without it this is so of an archive
-  --check        read and check all of INDEX; without it this is so of an index file
+  --trust        read only the parts of INDEX that the query needs, and trust the rest
 
 The words that were left out of the index are no words of a query either.
 
-Of an index file every byte is checked, and damage anywhere is an error. With --trust only
-what the query needs is read, so that a search of a large index takes milliseconds; a fault
-in a part that the query does not use is not noticed. Use it for files that ix wrote and
-that are kept well: `ix check` looks at a whole file.
+Without --trust every byte of an index file is checked, and a file that is damaged anywhere
+is an error. With --trust only what the query needs is read, so that a search of a large
+index takes milliseconds; damage in a part that is not read is not noticed. Use it for
+files that ix wrote and that are kept well: `ix check` looks at a whole file.
 `-`, a pipe and a device are always read whole, with or without --trust.
 
-Of an archive only what the query needs is read, since its files stay as ix wrote them.
-With --check each of them is read whole and compared with the digest that was noted of it,
-and damage anywhere is an error.
+Of an archive only what the query needs is read, with or without --trust, since its files
+stay as ix wrote them.
 
 What can be asked:
   fox               documents that hold the word, in any case
@@ -296,15 +289,14 @@ Examples:
 
 /// What `ix terms --help` prints.
 pub const HELP_ON_TERMS: &str = "\
-Prints the terms of an index or an archive that match a pattern, one a line, in the order
-of their bytes: the term, a TAB, and in how many documents it is.
+Prints the terms of an index that match a pattern, one a line, in the order of
+their bytes: the term, a TAB, and in how many documents it is.
 
-Usage: ix terms [--trust | --check] INDEX PATTERN
+Usage: ix terms [--trust] INDEX PATTERN
 
-  INDEX      the file of the index, or the folder of an archive; `-` is the standard input
+  INDEX      the file of the index; `-` is the standard input
   PATTERN    the pattern, as one argument, with at least one star
-  --trust    read only what the pattern needs; without it this is so of an archive
-  --check    read and check all of INDEX; without it this is so of an index file
+  --trust    read only the parts of INDEX that the pattern needs, and trust the rest
 
 A term is a word without its case. A star stands for any characters, or none:
   inter*     terms that begin so
@@ -312,16 +304,11 @@ A term is a word without its case. A star stands for any characters, or none:
   re*ed      terms that begin and end so
   *tract*    terms that hold this
 
-Of an index file every byte is checked, and damage anywhere is an error. With --trust only
-what the pattern needs is read, which takes milliseconds; a fault in a part that the
-pattern does not use is not noticed. Use it for files that ix wrote and that are kept well:
-`ix check` looks at a whole file.
+Without --trust every byte of the index is checked, and an index that is damaged anywhere
+is an error. With --trust only what the pattern needs is read, which takes milliseconds;
+damage in a part that is not read is not noticed. Use it for files that ix wrote and that
+are kept well: `ix check` looks at a whole file.
 `-`, a pipe and a device are always read whole, with or without --trust.
-
-Of an archive only what the pattern needs is read, since its files stay as ix wrote them.
-With --check each of them is read whole and compared with the digest that was noted of it,
-and damage anywhere is an error. Documents that were removed do not count, and a term that
-is in no other document is not printed.
 
 Exit status: 0 something was found, or help was asked for; 1 nothing was found;
 2 refused, and one line on the error output says why.
@@ -333,32 +320,26 @@ Examples:
 
 /// What `ix check --help` prints.
 pub const HELP_ON_CHECK: &str = "\
-Reads index files and archives whole, and prints a line for each fault.
+Reads index files whole, and prints a line for each that is damaged.
 
-Usage: ix check PATH...
+Usage: ix check INDEX...
 
-  PATH...    the index files and the folders of archives, one or more; `-` is the
-             standard input
+  INDEX...    the index files, one or more; `-` is the standard input
 
-Every byte is checked, as in a search with --check. Of an index file that is sound nothing
-is printed. Of each fault a line is printed: the path, a TAB, and what is wrong. The file
-mail.ix was cut short, old.ix cannot be read, and in mail.archive a file is missing:
+Every byte of a file is checked, as in a search without --trust. Of an index that is
+sound nothing is printed. Of each other file a line is printed: its path, a TAB, and
+what is wrong with it. The file mail.ix was cut short, and old.ix cannot be read:
   mail.ix<TAB>index 3: Trailer
   old.ix<TAB>file 1: Read
-  mail.archive<TAB>archive 5: Missing(2)
 
-Of an archive that is sound a line is printed, with a TAB between its parts: the path, how
-many documents it has, how many removed documents its files still hold, how many segments
-it has, and how many bytes.
+All files are looked at, also those behind a file that is damaged.
 
-All paths are looked at, also those behind one that has a fault.
-
-Exit status: 0 all are sound, or help was asked for; 2 at least one is not, or the command
-was refused, and then one line on the error output says why.
+Exit status: 0 all files are sound, or help was asked for; 2 at least one is not, or
+the command was refused, and then one line on the error output says why.
 
 Examples:
   ix check mail.ix
-  ix check mail.ix mail.archive
+  ix check mail.ix mail-2.ix
 ";
 
 /// What `ix run --help` prints.

@@ -7,7 +7,6 @@ mod fields;
 mod help;
 mod line;
 mod plan;
-mod reading;
 mod removed;
 mod searchers;
 mod worked;
@@ -20,7 +19,6 @@ pub use help::{
 };
 pub use ix_build::Plan;
 pub use line::{Line, read_line};
-pub use reading::Reading;
 pub use removed::Removed;
 pub use searchers::Searchers;
 pub use worked::worked_lines;

@@ -9,7 +9,6 @@ use crate::commands;
 use crate::error::LineError;
 use crate::fields::{flag, number_or, operand, operands, option};
 use crate::plan::{read_plan, runs_in};
-use crate::reading::{Reading, read_reading};
 use crate::removed::{Removed, read_removed};
 use crate::searchers::{Searchers, read_searchers};
 use clap::ArgMatches;
@@ -43,16 +42,16 @@ pub enum Line<'a> {
         /// The index file to be written.
         index: &'a str,
     },
-    /// `ix add [--stop FILE] [--block N] [--bytes N] [--workers W] [--runs FOLDER] ARCHIVE COLLECTION`.
+    /// `ix add [--stop FILE] [--block N] [--bytes N] [--workers W] ARCHIVE COLLECTION`.
     Add {
         /// The file of stop words, if one is named.
         stop: Option<&'a str>,
-        /// How the collection is cut into blocks, by how many workers these are made, and where
-        /// their runs are kept.
+        /// How the collection is cut into blocks, and by how many workers these are made; runs are
+        /// kept in memory.
         plan: Plan,
         /// The folder of the archive.
         archive: &'a str,
-        /// The file of documents, or an index file.
+        /// The file of documents.
         collection: &'a str,
     },
     /// `ix remove ARCHIVE NAME...` or `ix remove --names FILE ARCHIVE`.
@@ -73,27 +72,28 @@ pub enum Line<'a> {
         /// The file of the script.
         script: &'a str,
     },
-    /// `ix search [--trust | --check] INDEX QUERY`.
+    /// `ix search [--trust] INDEX QUERY`.
     Search {
         /// The file of the index, or the folder of an archive.
         index: &'a str,
         /// The text of the query.
         query: &'a str,
-        /// How it is read.
-        reading: Reading,
+        /// Whether only what the query needs is read of an index file. Of an archive no more is
+        /// read in any case.
+        trust: bool,
     },
-    /// `ix terms [--trust | --check] INDEX PATTERN`.
+    /// `ix terms [--trust] INDEX PATTERN`.
     Terms {
-        /// The file of the index, or the folder of an archive.
+        /// The file of the index.
         index: &'a str,
         /// The text of the pattern.
         pattern: &'a str,
-        /// How it is read.
-        reading: Reading,
+        /// Whether only what the pattern needs is read of the index.
+        trust: bool,
     },
-    /// `ix check PATH...`.
+    /// `ix check INDEX...`.
     Check {
-        /// The index files and folders of archives; there is one.
+        /// The index files; there is one.
         paths: Vec<&'a str>,
     },
     /// `ix run [--stop FILE] [--first D] COLLECTION RUN`.
@@ -126,9 +126,9 @@ pub enum Line<'a> {
 /// Reads the words after the program's name.
 ///
 /// # Errors
-/// `Clap` if `clap` rejects the words or they ask for help, `Both` if `--block` is given together with
-/// `--bytes`, `TrustAndCheck` if `--trust` is given together with `--check`, `NamesOrList` if a name to be
-/// removed is given together with `--names` or neither is given, and `Memory` if memory ran out.
+/// `Clap` if `clap` rejects the words or they ask for help, `Both` if `--block` is given together
+/// with `--bytes`, `NamesOrList` if a name to be removed is given together with `--names` or neither
+/// is given, and `Memory` if memory ran out.
 pub fn read_line<'a>(alloc: Global, words: &'a [&'a str]) -> Result<Line<'a>, LineError>
     ensures ok { IfOk result (Reads (texts_of words.entry.now)) }
     ensures err { IfErr result (Refuses (texts_of words.entry.now)) }
@@ -167,10 +167,10 @@ fn line_of<'a>(alloc: Global, name: &str, matches: &ArgMatches<'a>) -> Result<Li
         "ask" => ask_line(matches),
         "build" => build_line(alloc, matches),
         "live" => live_line(matches),
-        "add" => add_line(alloc, matches),
+        "add" => add_line(matches),
         "remove" => remove_line(alloc, matches),
-        "search" => search_line(matches),
-        "terms" => terms_line(matches),
+        "search" => Ok(search_line(matches)),
+        "terms" => Ok(terms_line(matches)),
         "check" => check_line(alloc, matches),
         "run" => Ok(run_line(matches)),
         "merge" => merge_line(alloc, matches),
@@ -215,23 +215,19 @@ fn build_line<'a>(alloc: Global, matches: &ArgMatches<'a>) -> Result<Line<'a>, L
     })
 }
 
-fn add_line<'a>(alloc: Global, matches: &ArgMatches<'a>) -> Result<Line<'a>, LineError>
+fn add_line<'a>(matches: &ArgMatches<'a>) -> Result<Line<'a>, LineError>
     requires { Entered ix_built (codes "add") (rows_of (found_of matches.now)) }
     ensures line { IfOk result (Holds (codes "add") (rows_of (found_of matches.now))) }
     ensures refused { IfErr result (RefusesRows (codes "add") (rows_of (found_of matches.now))) }
 {
-    let runs = runs_in(alloc, option(matches, "runs"))?;
-    let Some(plan) = read_plan(matches, runs) else {
+    let Some(plan) = read_plan(matches, Runs::Memory) else {
         return Err(LineError::Both);
     };
-    let stop = option(matches, "stop");
-    let archive = operand(matches, "ARCHIVE");
-    let collection = operand(matches, "COLLECTION");
     Ok(Line::Add {
-        stop,
+        stop: option(matches, "stop"),
         plan,
-        archive,
-        collection,
+        archive: operand(matches, "ARCHIVE"),
+        collection: operand(matches, "COLLECTION"),
     })
 }
 
@@ -261,34 +257,26 @@ fn live_line<'a>(matches: &ArgMatches<'a>) -> Result<Line<'a>, LineError>
     })
 }
 
-fn search_line<'a>(matches: &ArgMatches<'a>) -> Result<Line<'a>, LineError>
+fn search_line<'a>(matches: &ArgMatches<'a>) -> Line<'a>
     requires { Entered ix_built (codes "search") (rows_of (found_of matches.now)) }
-    ensures line { IfOk result (Holds (codes "search") (rows_of (found_of matches.now))) }
-    ensures refused { IfErr result (RefusesRows (codes "search") (rows_of (found_of matches.now))) }
+    ensures { Holds (codes "search") (rows_of (found_of matches.now)) result }
 {
-    let Some(reading) = read_reading(matches) else {
-        return Err(LineError::TrustAndCheck);
-    };
-    Ok(Line::Search {
+    Line::Search {
         index: operand(matches, "INDEX"),
         query: operand(matches, "QUERY"),
-        reading,
-    })
+        trust: flag(matches, "trust"),
+    }
 }
 
-fn terms_line<'a>(matches: &ArgMatches<'a>) -> Result<Line<'a>, LineError>
+fn terms_line<'a>(matches: &ArgMatches<'a>) -> Line<'a>
     requires { Entered ix_built (codes "terms") (rows_of (found_of matches.now)) }
-    ensures line { IfOk result (Holds (codes "terms") (rows_of (found_of matches.now))) }
-    ensures refused { IfErr result (RefusesRows (codes "terms") (rows_of (found_of matches.now))) }
+    ensures { Holds (codes "terms") (rows_of (found_of matches.now)) result }
 {
-    let Some(reading) = read_reading(matches) else {
-        return Err(LineError::TrustAndCheck);
-    };
-    Ok(Line::Terms {
+    Line::Terms {
         index: operand(matches, "INDEX"),
         pattern: operand(matches, "PATTERN"),
-        reading,
-    })
+        trust: flag(matches, "trust"),
+    }
 }
 
 fn check_line<'a>(alloc: Global, matches: &ArgMatches<'a>) -> Result<Line<'a>, LineError>
@@ -296,7 +284,7 @@ fn check_line<'a>(alloc: Global, matches: &ArgMatches<'a>) -> Result<Line<'a>, L
     ensures line { IfOk result (Holds (codes "check") (rows_of (found_of matches.now))) }
     ensures refused { IfErr result (RefusesRows (codes "check") (rows_of (found_of matches.now))) }
 {
-    let paths = operands(alloc, matches, "PATH")?;
+    let paths = operands(alloc, matches, "INDEX")?;
     Ok(Line::Check { paths })
 }
 

@@ -1,9 +1,8 @@
 //! `ix add`: adds the documents of a collection file to an archive.
 
 ghost use Rattle.std.specs.Prelude.{IfErr, OnOk};
-ghost use Rattle.ix_command.specs.StoredArchives.{AddsFiles, IsAddRefused, KeepsAdding, storing_of};
+ghost use Rattle.ix_command.specs.StoredArchives.{AddsFiles, ChangesArchive, IsAddRefused, KeepsAdding, storing_of};
 ghost use Rattle.ix_files.specs.Reading.{held_in};
-ghost use Rattle.ix_files.specs.Views.{GoesOn};
 
 use crate::commands::ask::{read_file, read_stop_list};
 use crate::commands::build::documents_of;
@@ -32,7 +31,7 @@ pub fn run<'a, R: Threads + Wait + Sync, F: Files, V: Watch>(
         collection.entry.now) }
     ensures kept { (F.view files.new).honest → KeepsAdding (held_in (F.view files.old)) stop.entry
         archive.entry.now collection.entry.now (F.view files.old) (F.view files.new) }
-    ensures goes_on { GoesOn (F.view files.old) (F.view files.new) }
+    ensures changes { ChangesArchive archive.entry.now (F.view files.old) (F.view files.new) }
     ensures refused { IfErr result (IsAddRefused (held_in (F.view files.old)) stop.entry
         archive.entry.now collection.entry.now) }
 {

@@ -1,9 +1,8 @@
 //! `ix remove`: removes documents of an archive by their names.
 
 ghost use Rattle.std.specs.Prelude.{◌≡◌, ℕ, IfErr, IfOk};
-ghost use Rattle.ix_command.specs.StoredArchives.{AreNamed, AreNamesIn, IsRemoveRefused, KeepsRemoving, RemovesSome, storing_of};
+ghost use Rattle.ix_command.specs.StoredArchives.{AreNamed, AreNamesIn, ChangesArchive, IsRemoveRefused, KeepsRemoving, RemovesSome, storing_of};
 ghost use Rattle.ix_files.specs.Reading.{held_in};
-ghost use Rattle.ix_files.specs.Views.{GoesOn};
 ghost use Rattle.ix_line.specs.Lines.{texts_of};
 ghost use Rattle.ix_line.specs.declared.removed.Removed.{Removed as SeenRemoved};
 
@@ -27,7 +26,7 @@ pub fn run<'a, F: Files>(
         (storing_of (F.view files.old) (F.view files.new)) archive.entry.now names.now) }
     ensures kept { (F.view files.new).honest → KeepsRemoving (held_in (F.view files.old)) names.now
         archive.entry.now (F.view files.old) (F.view files.new) }
-    ensures goes_on { GoesOn (F.view files.old) (F.view files.new) }
+    ensures changes { ChangesArchive archive.entry.now (F.view files.old) (F.view files.new) }
     ensures refused { IfErr result (IsRemoveRefused (held_in (F.view files.old)) archive.entry.now
         names.now) }
 {
@@ -61,7 +60,7 @@ fn remove_names<'a, F: Files>(
         → AreNamed (held_in (F.view files.old)) line (texts_of names.now)
         → KeepsRemoving (held_in (F.view files.old)) line archive.entry.now (F.view files.old)
         (F.view files.new) }
-    ensures goes_on { GoesOn (F.view files.old) (F.view files.new) }
+    ensures changes { ChangesArchive archive.entry.now (F.view files.old) (F.view files.new) }
     ensures refused { (line : SeenRemoved) → IfErr result
         (IsRemoveRefused (held_in (F.view files.old)) archive.entry.now line) }
 {

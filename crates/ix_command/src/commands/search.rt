@@ -7,63 +7,61 @@ ghost use Rattle.ix_command.specs.StoredArchives.{IsArchiveSearched, IsArchiveUn
 ghost use Rattle.ix_command.specs.TrustedFiles.{IsSearchDone, IsSearchUndone};
 
 use crate::commands::search_archive::search_archive;
-use crate::index_file::{is_folder, is_trusting, open_index, open_ranges};
+use crate::index_file::{is_folder, open_index, open_ranges};
 use crate::refusal::Refusal;
 use ix_ask::{search, search_trusting};
 use ix_files::Files;
-use ix_line::Reading;
 use std::alloc::Global;
 use std::io::Write;
 use std::thread::Threads;
 
-/// Writes the names of the documents of an index file or an archive that answer the query, and returns how many there are.
-///
-/// A folder is an archive, unless all of it is to be checked: then it is no file that can be read.
+/// Writes the names of the documents of an index file or an archive that satisfy the query, and
+/// returns how many there are. A folder is an archive.
 pub fn run<'a, R: Threads + Sync, F: Files, W: Write>(
     rt: &R,
     alloc: Global,
     files: &F,
     index: &'a str,
     query: &str,
-    reading: Reading,
+    trust: bool,
     out: &mut W,
 ) -> Result<usize, Refusal<'a>>
-    ensures answered { IfOk result (λ count. IsSearchDone reading (held_in (F.view files.now))
+    ensures answered { IfOk result (λ count. IsSearchDone trust (held_in (F.view files.now))
         index.entry.now query.now (W.contents out.old) (W.contents out.new) count
         ⊎ IsArchiveSearched (storing_of (F.view files.now) (F.view files.now))
         index.entry.now query.now (W.contents out.old) (W.contents out.new) count) }
-    ensures refused { IfErr result (λ told. IsSearchUndone reading (held_in (F.view files.now))
+    ensures refused { IfErr result (λ told. IsSearchUndone trust (held_in (F.view files.now))
         index.entry.now query.now (W.contents out.old) (W.contents out.new) told
         ⊎ IsArchiveUnsearched (storing_of (F.view files.now) (F.view files.now))
         index.entry.now query.now (W.contents out.old) (W.contents out.new) told) }
 {
     let is_archive = is_folder(files, index)?;
-    if is_archive && !matches!(reading, Reading::Checking) {
+    if is_archive {
         return search_archive(rt, alloc, files, index, query, out);
     }
-    search_file(rt, alloc, files, index, query, reading, out)
+    search_file(rt, alloc, files, index, query, trust, out)
 }
 
 /// The same of an index file. The query is read under the stop list of the index.
 ///
-/// With `--trust` only what the query needs is read of a regular file, and a fault elsewhere in it is not noticed.
+/// With `trust` only what the query needs is read of a regular file, and a fault elsewhere in it is not noticed.
 fn search_file<'a, R: Threads + Sync, F: Files, W: Write>(
     rt: &R,
     alloc: Global,
     files: &F,
     index: &'a str,
     query: &str,
-    reading: Reading,
+    trust: bool,
     out: &mut W,
 ) -> Result<usize, Refusal<'a>>
-    ensures answered { IfOk result (IsSearchDone reading (held_in (F.view files.now))
+    ensures answered { IfOk result (IsSearchDone trust (held_in (F.view files.now))
         index.entry.now query.now
         (W.contents out.old) (W.contents out.new)) }
-    ensures refused { IfErr result (IsSearchUndone reading (held_in (F.view files.now))
+    ensures refused { IfErr result (IsSearchUndone trust (held_in (F.view files.now))
         index.entry.now query.now
         (W.contents out.old) (W.contents out.new)) }
 {
-    if is_trusting(reading) {
+    if trust {
         if let Some(ranges) = open_ranges(files, index)? {
             return match search_trusting(alloc, &ranges, query, out) {
                 Ok(count) => Ok(count),

@@ -95,7 +95,7 @@ pub returns-in-Add : goal.returns-in-Add
 returns-in-Add g c = record {
   done = done_of _ _ _ _ _ _ _ _ c.in-Add.is c.one_file-in-Add.result (file_done _ _ c.run-in-Add.result c.one_file-in-Add.result c.one_file-in-Add.ensures.done c.one_file-in-Add.ensures.refused c.run-in-Add.ensures.added);
   refused = refused_of _ _ _ _ _ _ c.in-Add.is c.one_file-in-Add.result (file_refused _ _ c.run-in-Add.result c.one_file-in-Add.result c.one_file-in-Add.ensures.done c.one_file-in-Add.ensures.refused c.run-in-Add.ensures.refused);
-  files = leaves_of _ _ _ _ c.in-Add.is (λ _. c.run-in-Add.ensures.goes_on);
+  files = leaves_of _ _ _ _ c.in-Add.is (λ _. c.run-in-Add.ensures.changes);
   kept = keeps_of _ _ _ _ c.in-Add.is _ c.run-in-Add.ensures.kept;
   undone = undone_of _ _ _ _ c.in-Add.is _ _ c.one_file-in-Add.result (after_error _ c.one_file-in-Add.result (λ _. tt));
 }
@@ -104,7 +104,7 @@ pub returns-in-Remove : goal.returns-in-Remove
 returns-in-Remove g c = record {
   done = done_of _ _ _ _ _ _ _ _ c.in-Remove.is c.run-in-Remove.result (ok_too _ _ c.run-in-Remove.result c.run-in-Remove.ensures.removed);
   refused = refused_of _ _ _ _ _ _ c.in-Remove.is c.run-in-Remove.result (err_too _ _ c.run-in-Remove.result c.run-in-Remove.ensures.refused);
-  files = leaves_of _ _ _ _ c.in-Remove.is (λ _. c.run-in-Remove.ensures.goes_on);
+  files = leaves_of _ _ _ _ c.in-Remove.is (λ _. c.run-in-Remove.ensures.changes);
   kept = keeps_of _ _ _ _ c.in-Remove.is _ c.run-in-Remove.ensures.kept;
   undone = undone_of _ _ _ _ c.in-Remove.is _ _ c.run-in-Remove.result (after_error _ c.run-in-Remove.result (λ _. tt));
 }

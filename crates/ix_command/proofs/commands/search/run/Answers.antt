@@ -10,4 +10,4 @@ use Rattle.ix_command.proofs.commands.search.run.Goals as goal
 pub returns-in_err-is_archive-clause-refused : goal.returns-in_err-is_archive-clause-refused
 returns-in_err-is_archive-clause-refused g c =
     handed_up _ c.from_residual.result c.in_err-is_archive.field-0.0 c.from_residual.ensures.1
-    (inl (unread_at_all c.args.reading (held_in (g.F.Files.view c.args.files.now)) c.args.index.now c.args.query.now _ _ c.in_err-is_archive.field-0.0 c.in_err-is_archive.ensures.refused (keeps_itself _)))
+    (inl (unread_at_all c.args.trust (held_in (g.F.Files.view c.args.files.now)) c.args.index.now c.args.query.now _ _ c.in_err-is_archive.field-0.0 c.in_err-is_archive.ensures.refused (keeps_itself _)))

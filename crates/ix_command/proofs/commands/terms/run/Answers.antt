@@ -9,7 +9,7 @@ use Rattle.ix_command.proofs.commands.terms.run.Goals.{in-Ok, in-Err}
 pub returns-in_err-ranges-clause-refused : goal.returns-in_err-ranges-clause-refused
 returns-in_err-ranges-clause-refused g c =
     handed_up _ c.from_residual.result c.in_err-ranges.field-0.0 c.from_residual.ensures.1
-    (listing_unread c.args.reading (held_in (g.F.Files.view c.args.files.now)) c.args.index.now c.args.pattern.now _ _ c.in_err-ranges.field-0.0 (c.is_trusting.ensures.0 c.if-is_trusting.true) c.in_err-ranges.ensures.refused (keeps_itself _))
+    (listing_unread c.args.trust (held_in (g.F.Files.view c.args.files.now)) c.args.index.now c.args.pattern.now _ _ c.in_err-ranges.field-0.0 c.if-trust.true c.in_err-ranges.ensures.refused (keeps_itself _))
 
 pub returns-in-Some-clause-printed : goal.returns-in-Some-clause-printed
 returns-in-Some-clause-printed g c =
@@ -17,7 +17,7 @@ returns-in-Some-clause-printed g c =
     let known = from_some (λ ranges. AreKnownOf (holds c.args.index.now) (g.F.Ranges.ReadAt.contents ranges)) _ c.in-Some.ranges c.in-Some.is c.in_ok-ranges.ensures.opened in
     elim c.match-list_terms_trusting.branch [
       | in-Ok w ↦ ok_at _ c.match-list_terms_trusting.result w.in-Ok.count w.result-is
-          (listing_ranged c.args.reading holds c.args.index.now c.args.pattern.now _ _ w.in-Ok.count _ (c.is_trusting.ensures.0 c.if-is_trusting.true) known w.in-Ok.ensures.printed w.in-Ok.ensures.lawful)
+          (listing_ranged c.args.trust holds c.args.index.now c.args.pattern.now _ _ w.in-Ok.count _ c.if-trust.true known w.in-Ok.ensures.printed w.in-Ok.ensures.lawful)
       | in-Err w ↦ ok_not _ c.match-list_terms_trusting.result _ w.result-is
     ]
 
@@ -28,11 +28,11 @@ returns-in-Some-clause-refused g c =
     elim c.match-list_terms_trusting.branch [
       | in-Ok w ↦ err_not _ c.match-list_terms_trusting.result w.in-Ok.count w.result-is
       | in-Err w ↦ err_at _ c.match-list_terms_trusting.result w.of_trusting.result w.result-is
-          (listing_unranged c.args.reading holds c.args.index.now c.args.pattern.now _ _ _ w.in-Err.error w.of_trusting.result (c.is_trusting.ensures.0 c.if-is_trusting.true) known w.of_trusting.ensures w.in-Err.ensures.refused w.in-Err.ensures.kept)
+          (listing_unranged c.args.trust holds c.args.index.now c.args.pattern.now _ _ _ w.in-Err.error w.of_trusting.result c.if-trust.true known w.of_trusting.ensures w.in-Err.ensures.refused w.in-Err.ensures.kept)
     ]
 
 pub returns-clause-printed : goal.returns-clause-printed
-returns-clause-printed g c = listing_done c.args.reading _ _ _ _ _ c.list_whole.result c.list_whole.ensures.printed
+returns-clause-printed g c = listing_done c.args.trust _ _ _ _ _ c.list_whole.result c.list_whole.ensures.printed
 
 pub returns-clause-refused : goal.returns-clause-refused
-returns-clause-refused g c = listing_undone c.args.reading _ _ _ _ _ c.list_whole.result c.list_whole.ensures.refused
+returns-clause-refused g c = listing_undone c.args.trust _ _ _ _ _ c.list_whole.result c.list_whole.ensures.refused

@@ -1,0 +1,46 @@
+//! Removing documents of an archive by their names.
+
+ghost use Rattle.std.specs.Prelude.{◌≡◌, List, Option, Some, Contains, IfOk};
+ghost use Rattle.ix_files.specs.Changes.{ChangesOnly};
+ghost use Rattle.ix_files.specs.Views.{GoesOn, LeavesOnly};
+ghost use Rattle.ix_archive.specs.Archives.{Archive};
+ghost use Rattle.ix_archive.specs.Folders.{IsArchiveAt};
+ghost use Rattle.ix_archive_writer.specs.Changes.{IsNewlyGone, texts_in};
+ghost use Rattle.ix_archive_writer.specs.Commits.{IsLeftOrWithout, LeavesAmong, LeavesWithout};
+
+use crate::ChangeError;
+use ix_files::Files;
+use std::alloc::Global;
+
+/// Removes the documents of these names that the archive in a folder has now, by one commit, and returns how many were there. A
+/// document that is added later under one of the names is there. If none is there, nothing changes.
+///
+/// # Errors
+/// `Memory`; `Read`; `Write`; `Archive`: `Locked`, `NoManifest` if there is no archive, `Manifest`, `Missing`, `Segment`, `Differs`,
+/// and `TooLarge` if there is no number for a new file. After these the archive is as it was. `Archive` with `NotKept`: it is as
+/// it was or without the documents.
+pub fn remove<F: Files>(
+    alloc: Global,
+    files: &mut F,
+    path: &str,
+    names: &[&str],
+) -> Result<u64, ChangeError>
+    // From now on each stop leaves the archive without the documents.
+    ensures done { IfOk result (λ count. (F.view files.new).honest → (archive : Archive)
+        → IsArchiveAt ((F.view files.old).folder path.now) (Some archive) (F.view files.old).slots
+        → IsNewlyGone (texts_in names.now) archive count
+        × LeavesWithout ((F.view files.old).folder path.now) (texts_in names.now) archive
+        (F.view files.new).slots) }
+    // A stop at any moment leaves what it could leave before, or the archive without the documents.
+    ensures any_moment { (F.view files.new).honest
+        → (among : List (Option Archive)) (archive : Archive) → Contains among (Some archive)
+        → LeavesAmong ((F.view files.old).folder path.now) among (F.view files.old).slots
+        → IsArchiveAt ((F.view files.old).folder path.now) (Some archive) (F.view files.old).slots
+        → LeavesOnly (IsLeftOrWithout ((F.view files.old).folder path.now) among
+        (texts_in names.now) archive) (F.view files.old) (F.view files.new) }
+    ensures changes { ChangesOnly (λ place. place.folder ≡ (F.view files.old).folder path.now)
+        (F.view files.old) (F.view files.new) }
+    ensures goes_on { GoesOn (F.view files.old) (F.view files.new) }
+{
+    Err(ChangeError::Memory)
+}
