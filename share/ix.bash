@@ -9,8 +9,9 @@ _ix() {
     fi
     case ${COMP_WORDS[1]} in
         ask) options="--stop --block --bytes --workers --help" ;;
-        build | add) options="--stop --block --bytes --workers --runs --help" ;;
-        search | terms) options="--trust --check --help" ;;
+        build) options="--stop --block --bytes --workers --runs --help" ;;
+        add) options="--stop --block --bytes --workers --help" ;;
+        search | terms) options="--trust --help" ;;
         remove) options="--names --help" ;;
         run) options="--stop --first --help" ;;
         live) options="--stop --block --bytes --workers --searchers --help" ;;

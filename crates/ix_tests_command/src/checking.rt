@@ -27,10 +27,6 @@ $ ix terms --trust no-such y*
 ! ix: file 1: Read(no-such)
 $ ix search --trust --trust five.ix y
 ! ix: arguments refused
-$ ix search --trust --check five.ix y
-! ix: arguments refused
-$ ix terms --check five.ix y* --trust
-! ix: arguments refused
 ";
 
 /// Index files with a fault and without one.

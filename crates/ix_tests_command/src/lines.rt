@@ -27,7 +27,7 @@ fn shown(alloc: Global, text: &str) -> Result<String, Fail> {
     }
 }
 
-const LINES: [(&str, &str); 28] = [
+const LINES: [(&str, &str); 26] = [
     (
         "ask --stop=s.txt c.txt red",
         r#"Ask { stop: Some("s.txt"), plan: Plan { cut: Docs(1024), workers: 4, runs: Memory }, collection: "c.txt", query: "red" }"#,
@@ -41,8 +41,8 @@ const LINES: [(&str, &str); 28] = [
         r#"Build { stop: None, plan: Plan { cut: Docs(7), workers: 4, runs: Memory }, collection: "c.txt", index: "c.ix" }"#,
     ),
     (
-        "add a --runs=r c.txt --bytes 7",
-        r#"Add { stop: None, plan: Plan { cut: Bytes(7), workers: 4, runs: Folder("r") }, archive: "a", collection: "c.txt" }"#,
+        "add a c.txt --bytes 7",
+        r#"Add { stop: None, plan: Plan { cut: Bytes(7), workers: 4, runs: Memory }, archive: "a", collection: "c.txt" }"#,
     ),
     (
         "add --stop s.txt a -",
@@ -58,27 +58,19 @@ const LINES: [(&str, &str); 28] = [
     ),
     (
         "search c.ix red",
-        r#"Search { index: "c.ix", query: "red", reading: Usual }"#,
+        r#"Search { index: "c.ix", query: "red", trust: false }"#,
     ),
     (
         "search c.ix red --trust",
-        r#"Search { index: "c.ix", query: "red", reading: Trusting }"#,
-    ),
-    (
-        "search --check c.ix red",
-        r#"Search { index: "c.ix", query: "red", reading: Checking }"#,
+        r#"Search { index: "c.ix", query: "red", trust: true }"#,
     ),
     (
         "terms c.ix re*",
-        r#"Terms { index: "c.ix", pattern: "re*", reading: Usual }"#,
+        r#"Terms { index: "c.ix", pattern: "re*", trust: false }"#,
     ),
     (
         "terms --trust c.ix re*",
-        r#"Terms { index: "c.ix", pattern: "re*", reading: Trusting }"#,
-    ),
-    (
-        "terms c.ix re* --check",
-        r#"Terms { index: "c.ix", pattern: "re*", reading: Checking }"#,
+        r#"Terms { index: "c.ix", pattern: "re*", trust: true }"#,
     ),
     (
         "check c.ix -- -d.ix",
@@ -98,9 +90,9 @@ const LINES: [(&str, &str); 28] = [
     ("run --first=-1 c.txt c.run", "1 Clap(ValueValidation)"),
     ("remove --names=f", "1 Clap(MissingRequiredArgument)"),
     ("ask --block 7 --bytes 7 c.txt red", "3 Both"),
-    ("search --trust --check c.ix red", "4 TrustAndCheck"),
-    ("remove --names=f a n", "5 NamesOrList"),
-    ("remove a", "5 NamesOrList"),
+    ("add --runs r a c.txt", "1 Clap(UnknownArgument)"),
+    ("remove --names=f a n", "4 NamesOrList"),
+    ("remove a", "4 NamesOrList"),
 ];
 
 #[test]
@@ -119,7 +111,7 @@ const HELPS: [(&str, &str, &str); 14] = [
     ("ask -h five", HELP_ON_ASK, "\n  inter*, re*ed "),
     ("help search", HELP_ON_SEARCH, "\n  a NEAR/3 b "),
     ("terms -h", HELP_ON_TERMS, "Usage: ix terms "),
-    ("check -h", HELP_ON_CHECK, "Usage: ix check PATH...\n"),
+    ("check -h", HELP_ON_CHECK, "Usage: ix check INDEX...\n"),
     ("build --help", HELP_ON_BUILD, "Usage: ix build "),
     ("add --help", HELP_ON_ADD, "Usage: ix add "),
     (
