@@ -8,6 +8,9 @@ use Rattle.ix_files.specs.Slots.{Slots, Stops}
 use Rattle.ix_files.specs.Views.{LeavesOnly, View}
 use Rattle.ix_folder.proofs.Laws.{narrowed, stops_at}
 use Rattle.ix_archive.specs.Archives.{Archive}
+use Rattle.ix_archive.specs.Findings.{RefusesFinding}
+use Rattle.ix_archive.specs.Openings.{IsOutside}
+use Rattle.ix_archive.specs.declared.read_error.ReadError.{ReadError}
 use Rattle.ix_archive.specs.Folders.{IsArchiveAt}
 use Rattle.ix_archive_writer.specs.Changes.{after_adding, stop_given}
 use Rattle.ix_archive_writer.specs.Commits.{HasWithout, IsLeftArchive, IsLeftOrWithout, LeavesAmong}
@@ -15,7 +18,7 @@ use Rattle.ix_merge.proofs.Laying.{contains_cases}
 use Rattle.ix_line.specs.declared.removed.Removed.{Removed}
 use Rattle.ix_command.specs.AskedFiles.{IsStopHeld}
 use Rattle.ix_command.specs.BuiltIndexes.{AreOfFiles}
-use Rattle.ix_command.specs.StoredArchives.{AreNamed, IsLeftOrAdded, IsLeftOrRemoved, KeepsAdding, KeepsRemoving, not_yet, not_yet_gone, with_all, without_all}
+use Rattle.ix_command.specs.StoredArchives.{AddsFiles, AreNamed, IsLeftOrAdded, IsLeftOrRemoved, KeepsAdding, KeepsRemoving, added_in, not_yet, not_yet_gone, storing_of, with_all, without_all}
 
 -- one of a list with one more is the one or of the list
 left_first : (folder : List ℕ) (one : Option Archive) (among : List (Option Archive)) (left : Slots) → IsLeftArchive folder (one ∷ among) left
@@ -47,6 +50,17 @@ module _ (holds : Holding) (stop_file : Option (Bor Text)) (archive collection :
   keeps_added old new stop documents of_files moments among now named leaves there =
       narrowed (λ left is. ⊎_elim (λ old_one. not_yet old_one) (λ new_one. with_all stop documents of_files new_one) (left_first (old.folder archive) (Some (after_adding now stop documents)) among left is))
       (moments among now named leaves there)
+
+  pub adds : (old new : View) (stop : List Text) (documents : List NamedText) → AreOfFiles holds stop_file collection stop documents → added_in old new archive stop documents
+      → AddsFiles holds (storing_of old new) stop_file archive collection
+  adds old new stop documents of_files added = record { stop = stop; documents = documents; of_files = of_files; added = added }
+
+-- ---- search
+
+-- out of memory, or a read that failed, is no fault of a query
+pub outside_refuses : (stop : List Text) (query : Text) (error : ReadError) → IsOutside error → RefusesFinding stop query error
+outside_refuses stop query error (inl memory) = subst (RefusesFinding stop query) (sym memory) tt
+outside_refuses stop query error (inr read) = subst (RefusesFinding stop query) (sym read) tt
 
 -- ---- remove
 

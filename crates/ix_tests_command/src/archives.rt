@@ -56,7 +56,7 @@ $ ix add A d
 $ ix remove A d
 $ ix add A d
 $ show A removals-2
-1	d
+1\td
 $ show A manifest
 ix archive 1
 next 4
@@ -92,7 +92,7 @@ $ ix remove --names c1 A 1
 $ ix add --stop - A -
 ! ix: arguments refused
 $ ix add --stop the A c1
-$ ix search A 'the AND fox'
+$ ix search A the
 ! ix: query 7: OnlyStopWords
 $ ix search A fox
 1

@@ -1,5 +1,6 @@
 //! Files in memory, and what a session says of them.
 
+use super::session::tell_bytes;
 use ix_files::MemoryFiles;
 use std::alloc::Global;
 use std::io;
@@ -51,8 +52,7 @@ impl Disk {
     /// Tells the text of a file in a folder.
     fn show(&self, folder: &str, name: &str, told: &mut String) -> Result<(), Fail> {
         let bytes = self.files.bytes_at(folder, name).unwrap_or(b"no such file\n");
-        told.push_str(str::from_utf8(bytes)?)?;
-        Ok(())
+        tell_bytes(bytes, told)
     }
 
     /// Tells how many bytes a file has, or whether it differs from another one.

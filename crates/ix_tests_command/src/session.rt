@@ -54,7 +54,7 @@ pub(super) fn tell<R: AllocGlobal + Threads + Wait + Sync>(
 }
 
 /// Tells a text, with `\t` for a tab.
-fn tell_bytes(bytes: &[u8], told: &mut String) -> Result<(), Fail> {
+pub(super) fn tell_bytes(bytes: &[u8], told: &mut String) -> Result<(), Fail> {
     let Ok(text) = str::from_utf8(bytes) else {
         return Err("no text")?;
     };

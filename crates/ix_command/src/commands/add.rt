@@ -1,8 +1,10 @@
 //! `ix add`: adds the documents of a collection file to an archive.
 
-ghost use Rattle.std.specs.Prelude.{IfErr, OnOk};
+ghost use Rattle.std.specs.Prelude.{◌≡◌, IfErr, OnOk};
+ghost use Rattle.ix_archive_writer.specs.Changes.{stop_given};
+ghost use Rattle.ix_command.specs.AskedFiles.{IsStopHeld};
 ghost use Rattle.ix_command.specs.StoredArchives.{AddsFiles, ChangesArchive, IsAddRefused, KeepsAdding, storing_of};
-ghost use Rattle.ix_files.specs.Reading.{held_in};
+ghost use Rattle.ix_files.specs.Reading.{Holding, held_in};
 
 use crate::commands::ask::{read_file, read_stop_list};
 use crate::commands::build::documents_of;
@@ -10,12 +12,14 @@ use crate::refusal::Refusal;
 use ix_archive_writer::add;
 use ix_build::{Plan, Watch};
 use ix_files::Files;
+use ix_text::StopList;
 use std::alloc::Global;
 use std::sync::Wait;
 use std::thread::Threads;
 
-/// Adds the documents of a collection file to the archive in a folder, by one commit. A new archive has the stop words of the stop
-/// file, if one is named; of an archive that is there they have to be its own.
+/// Adds the documents of a collection file to the archive in a folder, by one commit. A new archive
+/// has the stop words of the stop file, if one is named; of an archive that is there they have to be
+/// its own.
 pub fn run<'a, R: Threads + Wait + Sync, F: Files, V: Watch>(
     rt: &R,
     alloc: Global,
@@ -38,12 +42,20 @@ pub fn run<'a, R: Threads + Wait + Sync, F: Files, V: Watch>(
     let list = read_stop_list(alloc, files, stop)?;
     let text = read_file(alloc, files, collection)?;
     let documents = documents_of(alloc, &text)?;
-    let given = match stop {
-        Some(_) => Some(&list),
-        None => None,
-    };
+    let given = given(stop, &list);
     match add(rt, alloc, files, watch, archive, given, &documents, plan) {
         Ok(()) => Ok(()),
         Err(error) => Err(Refusal::of_change(archive, error)),
+    }
+}
+
+/// The stop list of the stop file, if one is named.
+fn given<'l>(stop: Option<&str>, list: &'l StopList) -> Option<&'l StopList>
+    ensures { (holds : Holding) → IsStopHeld holds stop.entry list.now
+        → stop_given result ≡ list.now }
+{
+    match stop {
+        Some(_) => Some(list),
+        None => None,
     }
 }

@@ -5,6 +5,7 @@ ghost use Rattle.ix_command.specs.StoredArchives.{AreNamed, AreNamesIn, ChangesA
 ghost use Rattle.ix_files.specs.Reading.{held_in};
 ghost use Rattle.ix_line.specs.Lines.{texts_of};
 ghost use Rattle.ix_line.specs.declared.removed.Removed.{Removed as SeenRemoved};
+ghost use Rattle.ix_line.specs.declared.removed.Removed.TheVariants.{List as Listed};
 
 use crate::commands::ask::read_text;
 use crate::refusal::Refusal;
@@ -15,7 +16,8 @@ use ix_line::Removed;
 use std::alloc::{AllocError, Global};
 use std::str;
 
-/// Removes the documents that an archive has now under the names of a line, by one commit, and returns how many there were.
+/// Removes the documents that an archive has now under the names of a line, by one commit, and
+/// returns how many there were.
 pub fn run<'a, F: Files>(
     alloc: Global,
     files: &mut F,
@@ -32,16 +34,32 @@ pub fn run<'a, F: Files>(
 {
     match names {
         Removed::Names(names) => remove_names(alloc, files, archive, names),
-        Removed::List(path) => {
-            let text = read_text(alloc, files, path)?;
-            let Ok(text) = str::from_utf8(&text) else {
-                return Err(Refusal::NotUtf8(path));
-            };
-            match names_in(alloc, text) {
-                Ok(names) => remove_names(alloc, files, archive, &names),
-                Err(AllocError) => Err(Refusal::Engine(EngineRefusal::Memory)),
-            }
-        }
+        Removed::List(path) => remove_listed(alloc, files, archive, path),
+    }
+}
+
+/// Removes the documents of the names in a file.
+fn remove_listed<'a, F: Files>(
+    alloc: Global,
+    files: &mut F,
+    archive: &'a str,
+    path: &'a str,
+) -> Result<usize, Refusal<'a>>
+    ensures removed { IfOk result (RemovesSome (held_in (F.view files.old))
+        (storing_of (F.view files.old) (F.view files.new)) archive.entry.now (Listed path.entry)) }
+    ensures kept { (F.view files.new).honest → KeepsRemoving (held_in (F.view files.old))
+        (Listed path.entry) archive.entry.now (F.view files.old) (F.view files.new) }
+    ensures changes { ChangesArchive archive.entry.now (F.view files.old) (F.view files.new) }
+    ensures refused { IfErr result (IsRemoveRefused (held_in (F.view files.old)) archive.entry.now
+        (Listed path.entry)) }
+{
+    let text = read_text(alloc, files, path)?;
+    let Ok(text) = str::from_utf8(&text) else {
+        return Err(Refusal::NotUtf8(path));
+    };
+    match names_in(alloc, text) {
+        Ok(names) => remove_names(alloc, files, archive, &names),
+        Err(AllocError) => Err(Refusal::Engine(EngineRefusal::Memory)),
     }
 }
 
