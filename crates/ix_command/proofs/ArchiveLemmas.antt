@@ -45,7 +45,7 @@ module _ (holds : Holding) (stop_file : Option (Bor Text)) (archive collection :
 
   pub keeps_added : (old new : View) (stop : List Text) (documents : List NamedText) → AreOfFiles holds stop_file collection stop documents
       → ((among : List (Option Archive)) (now : Option Archive) → Contains among now → LeavesAmong (old.folder archive) among old.slots → IsArchiveAt (old.folder archive) now old.slots
-        → LeavesOnly (IsLeftArchive (old.folder archive) (Some (after_adding now stop documents) ∷ among)) old new)
+      → LeavesOnly (IsLeftArchive (old.folder archive) (Some (after_adding now stop documents) ∷ among)) old new)
       → KeepsAdding holds stop_file archive collection old new
   keeps_added old new stop documents of_files moments among now named leaves there =
       narrowed (λ left is. ⊎_elim (λ old_one. not_yet old_one) (λ new_one. with_all stop documents of_files new_one) (left_first (old.folder archive) (Some (after_adding now stop documents)) among left is))
@@ -70,7 +70,7 @@ module _ (holds : Holding) (names : Removed) (archive : Text) where
 
   pub keeps_removed : (old new : View) (texts : List Text) → AreNamed holds names texts
       → ((among : List (Option Archive)) (now : Archive) → Contains among (Some now) → LeavesAmong (old.folder archive) among old.slots → IsArchiveAt (old.folder archive) (Some now) old.slots
-        → LeavesOnly (IsLeftOrWithout (old.folder archive) among texts now) old new)
+      → LeavesOnly (IsLeftOrWithout (old.folder archive) among texts now) old new)
       → KeepsRemoving holds names archive old new
   keeps_removed old new texts are moments among now named leaves there =
       narrowed (λ left is. ⊎_elim (λ old_one. not_yet_gone old_one) (λ new_one. without_all texts are new_one) is) (moments among now named leaves there)

@@ -252,9 +252,7 @@ fn do_line<'a, R: Threads + Wait + Sync, F: Files, V: Watch, W: Write>(
             plan,
             archive,
             collection,
-        } => one_file(add::run(
-            rt, alloc, files, watch, stop, &plan, archive, collection,
-        )),
+        } => one_file(add::run(rt, alloc, files, watch, stop, &plan, archive, collection)),
         Line::Remove { archive, names } => remove::run(alloc, files, archive, &names),
         Line::Build {
             stop,

@@ -223,11 +223,14 @@ fn add_line<'a>(matches: &ArgMatches<'a>) -> Result<Line<'a>, LineError>
     let Some(plan) = read_plan(matches, Runs::Memory) else {
         return Err(LineError::Both);
     };
+    let stop = option(matches, "stop");
+    let archive = operand(matches, "ARCHIVE");
+    let collection = operand(matches, "COLLECTION");
     Ok(Line::Add {
-        stop: option(matches, "stop"),
+        stop,
         plan,
-        archive: operand(matches, "ARCHIVE"),
-        collection: operand(matches, "COLLECTION"),
+        archive,
+        collection,
     })
 }
 

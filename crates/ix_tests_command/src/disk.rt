@@ -51,7 +51,10 @@ impl Disk {
 
     /// Tells the text of a file in a folder.
     fn show(&self, folder: &str, name: &str, told: &mut String) -> Result<(), Fail> {
-        let bytes = self.files.bytes_at(folder, name).unwrap_or(b"no such file\n");
+        let bytes = self
+            .files
+            .bytes_at(folder, name)
+            .unwrap_or(b"no such file\n");
         tell_bytes(bytes, told)
     }
 

@@ -17,10 +17,10 @@ pub read_plan-requires-clause-workers : goal.read_plan-requires-clause-workers
 unfolding ix_app
 read_plan-requires-clause-workers c = number_in_given ix_built (codes "add") (codes "workers") _ 1 64 (lit< tt) refl c.requires
 
-pub operand-requires : goal.operand-requires
+pub operand-archive-requires : goal.operand-archive-requires
 unfolding ix_app
-operand-requires c = operand_given ix_built (codes "add") _ _ refl c.requires
+operand-archive-requires c = operand_given ix_built (codes "add") _ _ refl c.requires
 
-pub operand-requires-2 : goal.operand-requires-2
+pub operand-collection-requires : goal.operand-collection-requires
 unfolding ix_app
-operand-requires-2 c = operand_given ix_built (codes "add") _ _ refl c.requires
+operand-collection-requires c = operand_given ix_built (codes "add") _ _ refl c.requires
