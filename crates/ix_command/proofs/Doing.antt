@@ -1,5 +1,5 @@
 -- What was done of a line, or refused of it, and what that leaves of the files, by what its own command says.
-use Rattle.std.proofs.Common.{◌≡◌, ℕ, arith, inl, List, Option, Some, None, Result, Ok, Err, OnOk, OnErr, IfOk, IfErr, refl, subst, sym}
+use Rattle.std.proofs.Common.{◌≡◌, ◌⊎◌, ℕ, arith, inl, inr, List, Option, Some, None, Result, Ok, Err, OnOk, OnErr, IfOk, IfErr, refl, subst, sym}
 use Rattle.std.specs.Io.KnownBytes.{Keeps}
 use Rattle.ix_command.specs.Files.{Keeping}
 use Rattle.ix_command.specs.Statuses.{IsDone, IsLineRefused, IsUndone, KeepsArchive, LeavesFiles}
@@ -70,3 +70,20 @@ ok_too P known (Err told) holds = tt
 pub err_too : (P : Refusal → Type 0) (known : Option (List ℕ)) (result : Result ℕ Refusal) → IfErr result P → IfErr result (λ told. P told × Keeps known known)
 err_too P known (Ok count) holds = tt
 err_too P known (Err told) holds = (holds, keeps_itself known)
+
+-- what is so by one of two reasons
+pub ok_first : (P Q : ℕ → Type 0) (result : Result ℕ Refusal) → IfOk result P → IfOk result (λ count. P count ⊎ Q count)
+ok_first P Q (Ok count) is = inl is
+ok_first P Q (Err told) is = tt
+
+pub ok_second : (P Q : ℕ → Type 0) (result : Result ℕ Refusal) → IfOk result Q → IfOk result (λ count. P count ⊎ Q count)
+ok_second P Q (Ok count) is = inr is
+ok_second P Q (Err told) is = tt
+
+pub err_first : (P Q : Refusal → Type 0) (result : Result ℕ Refusal) → IfErr result P → IfErr result (λ told. P told ⊎ Q told)
+err_first P Q (Ok count) is = tt
+err_first P Q (Err told) is = inl is
+
+pub err_second : (P Q : Refusal → Type 0) (result : Result ℕ Refusal) → IfErr result Q → IfErr result (λ told. P told ⊎ Q told)
+err_second P Q (Ok count) is = tt
+err_second P Q (Err told) is = inr is

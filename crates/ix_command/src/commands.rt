@@ -247,13 +247,6 @@ fn do_line<'a, R: Threads + Wait + Sync, F: Files, V: Watch, W: Write>(
             pattern,
             trust,
         } => terms::run(rt, alloc, files, index, pattern, trust, out),
-        Line::Add {
-            stop,
-            plan,
-            archive,
-            collection,
-        } => one_file(add::run(rt, alloc, files, watch, stop, &plan, archive, collection)),
-        Line::Remove { archive, names } => remove::run(alloc, files, archive, &names),
         Line::Build {
             stop,
             plan,
@@ -275,6 +268,13 @@ fn do_line<'a, R: Threads + Wait + Sync, F: Files, V: Watch, W: Write>(
         Line::Merge { index, inputs } => one_file(merge::run(rt, alloc, files, index, &inputs)),
         Line::Upgrade { old, new } => one_file(upgrade::run(rt, alloc, files, old, new)),
         Line::Check { paths } => check::run(rt, alloc, files, &paths, out),
+        Line::Add {
+            stop,
+            plan,
+            archive,
+            collection,
+        } => one_file(add::run(rt, alloc, files, watch, stop, &plan, archive, collection)),
+        Line::Remove { archive, names } => remove::run(alloc, files, archive, &names),
     }
 }
 
