@@ -4,7 +4,7 @@
 usage: share/prove.py CRATE..     (needs the command rt; RT_JOBS=N: at most N checks at once)
 
 One `rt` at a time works in a checkout, so each lane has a copy of the sources below build/lanes. What a lane builds of a
-proved crate is copied into the other lanes and into this checkout, where `rt` takes it if the sources are the same. A lane
+proved crate is linked into the other lanes and into this checkout, where `rt` takes it if the sources are the same. A lane
 takes 4 GB; the processors that no other crate waits for go to the crates that are being proved. A crate is not looked at
 again until its sources, or those of a crate that it uses, change.
 """
@@ -69,12 +69,12 @@ def lanes_here() -> int:
 
 
 def hand_out(crate: str, lane: Path, lanes: int) -> None:
-    """Copies what the lane built of a crate into the other lanes and into this checkout."""
+    """Gives what the lane built of a crate to the other lanes and to this checkout, as links to the same files."""
     built = Path("crates") / crate / "out" / "rlib"
     for to in [TOP, *(LANES / str(it) for it in range(lanes))]:
         if to != lane:
             shutil.rmtree(to / built, ignore_errors=True)
-            shutil.copytree(lane / built, to / built)
+            shutil.copytree(lane / built, to / built, copy_function=os.link)
 
 
 def fill(lane: Path, crates: list[str]) -> None:

@@ -76,6 +76,10 @@ widened Fewer Excepted more changes = record {
   any_moment = λ honest. narrowed (λ left old place other. old place (λ is. other (more place is))) (changes.any_moment honest);
 }
 
+-- a name changed, or names in its folder
+pub in_folder : (place : Place) {old new : View} → ChangesOnly (λ other. other ≡ place) old new → ChangesOnly (λ other. other.folder ≡ place.folder) old new
+in_folder place changes = widened (λ other. other ≡ place) (λ other. other.folder ≡ place.folder) (λ other same. ap (λ (p : Place). p.folder) same) changes
+
 -- a stop left what it could leave before, but at names of no file of the manifest
 pub stands_left : (Excepted : Place → Type 0) (folder : List ℕ) (now : Option Standing) (slots left : Slots) → IsSettled folder now slots
     → ¬ (Excepted (manifest_place folder)) → All (λ file. ¬ (Excepted file.place)) (files_of now) → IsOld Excepted slots left → Stands folder now left

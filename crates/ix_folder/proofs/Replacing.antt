@@ -1,16 +1,16 @@
 -- A new manifest takes the place of the one before.
 use Rattle.std.proofs.Common.{◌≡◌, ◌≢◌, ◌⊎◌, inl, inr, ⊎_elim, ℕ, List, All, Option, Some, Result, Ok, Err, IfErr, length, sym, ap, subst, ◌∙◌, arith}
-use Rattle.ix_files.specs.Changes.{IsOld, StopsAt}
+use Rattle.ix_files.specs.Changes.{ChangesOnly, IsOld, StopsAt}
 use Rattle.ix_files.specs.Drafts.{IsOldOrNew}
 use Rattle.ix_files.specs.Slots.{Kept, Place, Slot, Slots, Stops, at_rest}
 use Rattle.ix_files.specs.Views.{LeavesOnly, View}
-use Rattle.ix_files.proofs.Drafting.{unchanged}
+use Rattle.ix_files.proofs.Drafting.{changed_again, unchanged}
 use Rattle.ix_folder.specs.FolderNames.{draft_place, manifest_place}
 use Rattle.ix_folder.specs.PublishErrors.{IsBefore}
 use Rattle.ix_folder.specs.Publishing.{IsPrepared, IsReplaced, Rests}
 use Rattle.ix_folder.specs.Standings.{AreFileNames, AreKept, IsEither, IsFileOf, IsFilePlace, IsKeptIn, IsSettled, NamedFile, RestsIn, Standing, Stands, files_of, manifest_of}
 use Rattle.ix_folder.specs.declared.publish_error.PublishError.{PublishError}
-use Rattle.ix_folder.proofs.Laws.{all_by, kept_left, manifest_left, narrowed, stands_left}
+use Rattle.ix_folder.proofs.Laws.{all_by, kept_left, manifest_left, narrowed, stands_left, widened}
 
 other_names : (folder : List ℕ) → draft_place folder ≢ manifest_place folder
 other_names folder same = let long : 12 ≡ 8 = ap (λ (place : Place). length place.name) same in absurd (omega (arith, long))
@@ -81,6 +81,19 @@ module _ (folder : List ℕ) (draft : Place) (is_draft : draft ≡ draft_place f
             files = files_left named named_are named_kept;
           }))
           (is_left manifest (λ same. no_manifest (sym is_manifest ∙ same)))
+
+-- what changes in the folder
+module _ (folder : List ℕ) (draft : Place) (is_draft : draft ≡ draft_place folder) {old mid : View} where
+  pub prepared_in : ChangesOnly (λ place. place.folder ≡ draft.folder) old mid → ChangesOnly (λ place. place.folder ≡ folder) old mid
+  prepared_in changes = widened (λ place. place.folder ≡ draft.folder) (λ place. place.folder ≡ folder) (λ place inside. inside ∙ ap (λ (p : Place). p.folder) is_draft) changes
+
+  pub replaced_in : (manifest : Place) → manifest ≡ manifest_place folder → {new : View} → ChangesOnly (λ place. place.folder ≡ draft.folder) old mid
+      → ChangesOnly (λ place. (place.folder ≡ draft.folder) ⊎ (place.folder ≡ manifest.folder)) mid new → (new.honest → mid.honest)
+      → ChangesOnly (λ place. place.folder ≡ folder) old new
+  replaced_in manifest is_manifest prepared replaced honest = changed_again (prepared_in prepared)
+      (widened (λ place. (place.folder ≡ draft.folder) ⊎ (place.folder ≡ manifest.folder)) (λ place. place.folder ≡ folder)
+      (λ place either. ⊎_elim (λ inside. inside ∙ ap (λ (p : Place). p.folder) is_draft) (λ inside. inside ∙ ap (λ (p : Place). p.folder) is_manifest) either) replaced)
+      honest
 
 -- a claim of each error before the rename
 pub if_before : {T P : Type 0} (result : Result T PublishError) → P → IfErr result (λ error. IsBefore error → P)

@@ -38,6 +38,8 @@ pub fn settle<F: Files>(files: &mut F, folder: &str) -> Result<(), FileError>
     // A stop leaves what it could leave before.
     ensures any_moment { (F.view files.new).honest
         → LeavesOnly (AreStops (F.view files.old).slots) (F.view files.old) (F.view files.new) }
+    ensures changes { ChangesOnly (λ place. place.folder ≡ folder.now) (F.view files.old)
+        (F.view files.new) }
     ensures goes_on { GoesOn (F.view files.old) (F.view files.new) }
     ensures cause { OnErr result ((F.view files.new).honest
         → (F.view files.old).faults < (F.view files.new).faults) }
@@ -75,6 +77,8 @@ pub fn publish<F: Files>(
         → LeavesOnly
         (IsEither folder.now now (Some (record { manifest = text.now; files = named })))
         (F.view files.old) (F.view files.new) }
+    ensures changes { ChangesOnly (λ place. place.folder ≡ folder.now) (F.view files.old)
+        (F.view files.new) }
     ensures goes_on { GoesOn (F.view files.old) (F.view files.new) }
     ensures cause { (F.view files.new).honest → IsErrOf result NotKept
         → (F.view files.old).faults < (F.view files.new).faults }
@@ -108,6 +112,8 @@ fn prepare<F: Files>(files: &mut F, draft: &Location, text: &[u8]) -> Result<(),
         → Rests (place_of draft.now) (F.view files.old).slots (F.view files.new).slots }
     ensures any_moment { (F.view files.new).honest
         → LeavesOnly (IsOld (λ place. place ≡ place_of draft.now) (F.view files.old).slots)
+        (F.view files.old) (F.view files.new) }
+    ensures changes { ChangesOnly (λ place. place.folder ≡ (place_of draft.now).folder)
         (F.view files.old) (F.view files.new) }
     ensures goes_on { GoesOn (F.view files.old) (F.view files.new) }
     ensures before { IfErr result IsBefore }
@@ -151,6 +157,8 @@ fn replace<F: Files>(files: &mut F, draft: &Location, manifest: &Location) -> Re
         → ((F.view files.old).slots (place_of draft.now)).now ≡ Kept text
         → LeavesOnly (IsOldOrNew (λ place. place ≡ place_of draft.now) (place_of manifest.now) text
         (F.view files.old).slots) (F.view files.old) (F.view files.new) }
+    ensures changes { ChangesOnly (λ place. (place.folder ≡ (place_of draft.now).folder)
+        ⊎ (place.folder ≡ (place_of manifest.now).folder)) (F.view files.old) (F.view files.new) }
     ensures goes_on { GoesOn (F.view files.old) (F.view files.new) }
     ensures cause { OnErr result ((F.view files.new).honest
         → (F.view files.old).faults < (F.view files.new).faults) }

@@ -1,5 +1,5 @@
 //! The removals of an archive.
-ghost use Rattle.std.specs.Prelude.{◌≡◌, ◌↔◌, ◌⊎◌, ◌<◌, ◌^◌, ◌++◌, ◌∷◌, [], ℕ, List, length, map, All, Contains, IfOk, OnOk, IsTrue, string_bytes};
+ghost use Rattle.std.specs.Prelude.{◌≡◌, ◌↔◌, ◌⊎◌, ◌<◌, ◌≤◌, ◌^◌, ◌++◌, ◌∷◌, [], ℕ, List, length, map, All, Contains, IfOk, OnOk, IsTrue, string_bytes};
 ghost use Rattle.std.specs.Cmp.Lexicographic.{slice_cmp};
 ghost use Rattle.std.specs.Ordering.{nat_cmp};
 ghost use Rattle.std.specs.declared.cmp.Ordering.TheVariants.{Less};
@@ -59,6 +59,13 @@ impl Removals {
         ensures { IsTrue result ↔ IsRemoved self.now name.now number }
     {
         number < self.bound(name)
+    }
+
+    /// Whether none of the bounds is above a number. Takes no memory.
+    pub fn are_within(&self, number: u64) -> bool
+        ensures { IsTrue result ↔ All (λ removal. removal.below ≤ number) self.now }
+    {
+        self.bounds.values().all(|bound| *bound <= number)
     }
 
     /// The number below which the documents of a name are removed.

@@ -1,7 +1,9 @@
 use Rattle.std.proofs.Common.{ap, ◌∙◌}
 use Rattle.ix_files.specs.Locations.{place_of}
-use Rattle.ix_files.specs.Slots.{Slot, at_rest}
+use Rattle.ix_files.specs.Slots.{Place, Slot, at_rest}
+use Rattle.ix_files.proofs.Drafting.{changed}
 use Rattle.ix_files.proofs.Moments.{settled_now}
+use Rattle.ix_folder.proofs.Laws.{in_folder}
 use Rattle.ix_folder.proofs.Preparing.{changed_rests, removed_rests, run_of, settled_rests, then_removed, then_settled}
 use Rattle.ix_folder.proofs.publishing.prepare.Goals as goal
 
@@ -35,3 +37,15 @@ returns-in-Err-clause-any_moment g c honest =
     let settle = c.sync_folder.ensures.call in
     let remove = c.remove-removed.ensures.call in
     (then_removed (then_settled (run_of _ _ _ c.write_draft.ensures.changes (settle.honest (remove.honest honest))) (settle.passes (remove.honest honest))) (remove.passes honest)).moments
+
+pub returns-in_err-write_draft-clause-changes : goal.returns-in_err-write_draft-clause-changes
+returns-in_err-write_draft-clause-changes g c = in_folder _ c.write_draft.ensures.changes
+
+pub returns-in-Ok-clause-changes : goal.returns-in-Ok-clause-changes
+returns-in-Ok-clause-changes g c =
+    changed (in_folder _ c.write_draft.ensures.changes) c.sync_folder.ensures.call (λ slots did place other. did.outside place (λ inside. other (cc)))
+
+pub returns-in-Err-clause-changes : goal.returns-in-Err-clause-changes
+returns-in-Err-clause-changes g c =
+    changed (changed (in_folder _ c.write_draft.ensures.changes) c.sync_folder.ensures.call (λ slots did place other. did.outside place (λ inside. other (cc))))
+    c.remove-removed.ensures.call (λ slots did place other. did.elsewhere place (λ same. other (ap (λ (p : Place). p.folder) same)))

@@ -1,8 +1,9 @@
 use Rattle.std.proofs.Common.{inl, ⊎_elim, arith, rules}
 use Rattle.std.proofs.lemmas.Grind.{common_steps}
 use Rattle.ix_files.specs.Locations.{place_of}
+use Rattle.ix_files.proofs.Drafting.{unchanged}
 use Rattle.ix_folder.proofs.Laws.{chained, narrowed}
-use Rattle.ix_folder.proofs.Replacing.{after_names, before_rename, if_before, nothing_done, other_places, published, still_settled}
+use Rattle.ix_folder.proofs.Replacing.{after_names, before_rename, if_before, nothing_done, other_places, published, replaced_in, still_settled, prepared_in}
 use Rattle.ix_folder.proofs.publishing.publish.Goals as goal
 
 pub replace-requires : goal.replace-requires
@@ -59,3 +60,20 @@ returns-clause-any_moment g c honest now names settled named named_are kept =
     (view c.args.files.now).slots (view c.prepare.new.files).slots prepared now names settled left new named named_are kept)
     either)
     (chained (c.prepare.ensures.any_moment prepared_honest) (c.replace.ensures.any_moment honest c.args.text.now prepared.written))
+
+pub returns-in_err-draft-clause-changes : goal.returns-in_err-draft-clause-changes
+returns-in_err-draft-clause-changes g c = unchanged _ _ (g.met.F.Files.only_now c.args.files.now)
+
+pub returns-in_err-manifest-clause-changes : goal.returns-in_err-manifest-clause-changes
+returns-in_err-manifest-clause-changes g c = unchanged _ _ (g.met.F.Files.only_now c.args.files.now)
+
+pub returns-in_err-prepare-clause-changes : goal.returns-in_err-prepare-clause-changes
+returns-in_err-prepare-clause-changes g c = prepared_in c.args.folder.now (place_of c.in_ok-draft.draft) c.in_ok-draft.ensures c.prepare.ensures.changes
+
+pub returns-in-Ok-clause-changes : goal.returns-in-Ok-clause-changes
+returns-in-Ok-clause-changes g c = replaced_in c.args.folder.now (place_of c.in_ok-draft.draft) c.in_ok-draft.ensures (place_of c.in_ok-manifest.manifest) c.in_ok-manifest.ensures
+    c.prepare.ensures.changes c.replace.ensures.changes c.replace.ensures.goes_on.honest
+
+pub returns-clause-changes : goal.returns-clause-changes
+returns-clause-changes g c = replaced_in c.args.folder.now (place_of c.in_ok-draft.draft) c.in_ok-draft.ensures (place_of c.in_ok-manifest.manifest) c.in_ok-manifest.ensures
+    c.prepare.ensures.changes c.replace.ensures.changes c.replace.ensures.goes_on.honest

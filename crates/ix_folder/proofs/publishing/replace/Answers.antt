@@ -1,5 +1,6 @@
-use Rattle.std.proofs.Common.{ap, ◌∙◌}
-use Rattle.ix_files.specs.Slots.{Slot, at_rest}
+use Rattle.std.proofs.Common.{inl, inr, ap, ◌∙◌}
+use Rattle.ix_files.specs.Slots.{Place, Slot, at_rest}
+use Rattle.ix_files.proofs.Drafting.{changed, unchanged}
 use Rattle.ix_files.proofs.Finishing.{after_folder, after_rename}
 use Rattle.ix_folder.proofs.Preparing.{beginning}
 use Rattle.ix_folder.proofs.publishing.replace.Goals as goal
@@ -28,3 +29,19 @@ returns-in_err-sync_folder-clause-any_moment g c honest text is_kept =
 pub returns-in_err-rename-clause-any_moment : goal.returns-in_err-rename-clause-any_moment
 returns-in_err-rename-clause-any_moment g c honest text is_kept =
     (after_rename (beginning _ _ text (g.met.F.Files.only_now c.args.files.now)) is_kept (c.rename.ensures.call.passes honest)).moments
+
+pub returns-in_err-rename-clause-changes : goal.returns-in_err-rename-clause-changes
+returns-in_err-rename-clause-changes g c = changed (unchanged _ _ (g.met.F.Files.only_now c.args.files.now)) c.rename.ensures.call
+    (λ slots did place other. did.elsewhere place (λ same. other (inl (ap (λ (p : Place). p.folder) same))) (λ same. other (inr (ap (λ (p : Place). p.folder) same))))
+
+pub returns-in_err-sync_folder-clause-changes : goal.returns-in_err-sync_folder-clause-changes
+returns-in_err-sync_folder-clause-changes g c =
+    changed (changed (unchanged _ _ (g.met.F.Files.only_now c.args.files.now)) c.rename.ensures.call
+    (λ slots did place other. did.elsewhere place (λ same. other (inl (ap (λ (p : Place). p.folder) same))) (λ same. other (inr (ap (λ (p : Place). p.folder) same)))))
+    c.sync_folder.ensures.call (λ slots did place other. did.outside place (λ inside. other (inr (cc))))
+
+pub returns-clause-changes : goal.returns-clause-changes
+returns-clause-changes g c =
+    changed (changed (unchanged _ _ (g.met.F.Files.only_now c.args.files.now)) c.rename.ensures.call
+    (λ slots did place other. did.elsewhere place (λ same. other (inl (ap (λ (p : Place). p.folder) same))) (λ same. other (inr (ap (λ (p : Place). p.folder) same)))))
+    c.sync_folder.ensures.call (λ slots did place other. did.outside place (λ inside. other (inr (cc))))

@@ -1,5 +1,6 @@
 use Rattle.std.proofs.Common.{refl, ap, ◌∙◌}
 use Rattle.ix_files.specs.Slots.{at_rest}
+use Rattle.ix_files.proofs.Drafting.{changed, unchanged}
 use Rattle.ix_files.proofs.Moments.{settled_now, stays}
 use Rattle.ix_folder.specs.FolderNames.{manifest_place}
 use Rattle.ix_folder.specs.Standings.{IsFileOf, IsKeptIn, RestsIn, files_of}
@@ -29,3 +30,9 @@ returns-clause-any_moment g c honest =
 pub returns-in_err-sync_folder-clause-any_moment : goal.returns-in_err-sync_folder-clause-any_moment
 returns-in_err-sync_folder-clause-any_moment g c honest =
     (then_settled (begun (g.F.Files.view c.args.files.now) (g.met.F.Files.only_now c.args.files.now)) (c.sync_folder.ensures.call.passes honest)).moments
+
+pub returns-clause-changes : goal.returns-clause-changes
+returns-clause-changes g c = changed (unchanged _ _ (g.met.F.Files.only_now c.args.files.now)) c.sync_folder.ensures.call (λ slots did place other. did.outside place other)
+
+pub returns-in_err-sync_folder-clause-changes : goal.returns-in_err-sync_folder-clause-changes
+returns-in_err-sync_folder-clause-changes g c = changed (unchanged _ _ (g.met.F.Files.only_now c.args.files.now)) c.sync_folder.ensures.call (λ slots did place other. did.outside place other)
