@@ -1,5 +1,6 @@
 -- What a stop leaves of an archive that a line changes, by what the call says that changes it.
-use Rattle.std.proofs.Common.{◌≡◌, ◌⊎◌, ⊎_elim, Contains, List, [], ◌∷◌, ℕ, Option, None, Some, Result, Ok, Err, IfOk, IfErr, OnOk, arith, inl, inr, refl, subst, sym}
+use Rattle.std.proofs.Common.{◌≡◌, ◌∙◌, ◌⊎◌, ⊎_elim, Contains, List, [], ◌∷◌, ℕ, Option, None, Some, Result, Ok, Err, IfOk, IfErr, OnOk, arith, inl, inr, refl, subst, sym}
+use Rattle.std.specs.Prelude.{IsSome}
 use Rattle.std.specs.Borrow.{Bor}
 use Rattle.clap.specs.Walk.{Text}
 use Rattle.ix_text.specs.Collections.{NamedText}
@@ -54,6 +55,12 @@ module _ (holds : Holding) (stop_file : Option (Bor Text)) (archive collection :
   pub adds : (old new : View) (stop : List Text) (documents : List NamedText) → AreOfFiles holds stop_file collection stop documents → added_in old new archive stop documents
       → AddsFiles holds (storing_of old new) stop_file archive collection
   adds old new stop documents of_files added = record { stop = stop; documents = documents; of_files = of_files; added = added }
+
+-- what is given are the stop terms that the stop file has
+pub given_held : (holds : Holding) (stop_file : Option (Bor Text)) (given : Option (Bor (List Text))) (stop : List Text) → (IsSome stop_file → stop_given given ≡ stop)
+    → (stop_file ≡ None → stop_given given ≡ []) → IsStopHeld holds stop_file stop → stop_given given ≡ stop
+given_held holds None given stop named none held = none refl ∙ sym held
+given_held holds (Some path) given stop named none held = named tt
 
 -- ---- search
 

@@ -130,8 +130,9 @@ pub record RemovesSome (holds : Holding) (stored : Storing) (path : Text) (names
   pub named : AreNamed holds names texts
   pub removed : stored.removed path texts count
 
--- the refusal tells that the file of this path is not UTF-8
+-- the refusal tells that the file of this path is not UTF-8, or that memory ran out
 abbrev pub IsNoNameText : Text → Text → Refusal → Type 0
+IsNoNameText path text (refusal.Engine engine.Memory) = Unit {0}
 IsNoNameText path text (refusal.NotUtf8 named) = (named.now ≡ path) × ¬ (IsUtf8 text)
 IsNoNameText path text _ = ⊥
 

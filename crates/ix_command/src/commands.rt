@@ -306,7 +306,8 @@ fn answer_without_line<'a, W: Write>(
     }
     match error {
         LineError::Clap(_) => Err(Refusal::Arguments),
-        LineError::Both | LineError::NamesOrList => Err(Refusal::Arguments),
+        LineError::Both => Err(Refusal::Arguments),
+        LineError::NamesOrList => Err(Refusal::Arguments),
         LineError::Memory => Err(Refusal::Engine(EngineRefusal::Memory)),
     }
 }

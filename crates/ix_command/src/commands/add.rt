@@ -1,10 +1,9 @@
 //! `ix add`: adds the documents of a collection file to an archive.
 
-ghost use Rattle.std.specs.Prelude.{◌≡◌, IfErr, OnOk};
+ghost use Rattle.std.specs.Prelude.{◌≡◌, [], None, IfErr, IsSome, OnOk};
 ghost use Rattle.ix_archive_writer.specs.Changes.{stop_given};
-ghost use Rattle.ix_command.specs.AskedFiles.{IsStopHeld};
 ghost use Rattle.ix_command.specs.StoredArchives.{AddsFiles, ChangesArchive, IsAddRefused, KeepsAdding, storing_of};
-ghost use Rattle.ix_files.specs.Reading.{Holding, held_in};
+ghost use Rattle.ix_files.specs.Reading.{held_in};
 
 use crate::commands::ask::{read_file, read_stop_list};
 use crate::commands::build::documents_of;
@@ -51,8 +50,8 @@ pub fn run<'a, R: Threads + Wait + Sync, F: Files, V: Watch>(
 
 /// The stop list of the stop file, if one is named.
 fn given<'l>(stop: Option<&str>, list: &'l StopList) -> Option<&'l StopList>
-    ensures { (holds : Holding) → IsStopHeld holds stop.entry list.now
-        → stop_given result ≡ list.now }
+    ensures named { IsSome stop.entry → stop_given result ≡ list.now }
+    ensures none { stop.entry ≡ None → stop_given result ≡ [] }
 {
     match stop {
         Some(_) => Some(list),

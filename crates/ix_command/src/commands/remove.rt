@@ -1,7 +1,7 @@
 //! `ix remove`: removes documents of an archive by their names.
 
 ghost use Rattle.std.specs.Prelude.{◌≡◌, ℕ, IfErr, IfOk};
-ghost use Rattle.ix_command.specs.StoredArchives.{AreNamed, AreNamesIn, ChangesArchive, IsRemoveRefused, KeepsRemoving, RemovesSome, storing_of};
+ghost use Rattle.ix_command.specs.StoredArchives.{AreNamed, AreNamesIn, ChangesArchive, IsNoNameText, IsRemoveRefused, KeepsRemoving, RemovesSome, storing_of};
 ghost use Rattle.ix_files.specs.Reading.{held_in};
 ghost use Rattle.ix_line.specs.Lines.{texts_of};
 ghost use Rattle.ix_line.specs.declared.removed.Removed.{Removed as SeenRemoved};
@@ -54,13 +54,8 @@ fn remove_listed<'a, F: Files>(
         (Listed path.entry)) }
 {
     let text = read_text(alloc, files, path)?;
-    let Ok(text) = str::from_utf8(&text) else {
-        return Err(Refusal::NotUtf8(path));
-    };
-    match names_in(alloc, text) {
-        Ok(names) => remove_names(alloc, files, archive, &names),
-        Err(AllocError) => Err(Refusal::Engine(EngineRefusal::Memory)),
-    }
+    let names = names_of(alloc, path, &text)?;
+    remove_names(alloc, files, archive, &names)
 }
 
 /// Removes the documents of these names, which are those of a line.
@@ -85,6 +80,24 @@ fn remove_names<'a, F: Files>(
     match remove(alloc, files, archive, names) {
         Ok(count) => Ok(count as usize),
         Err(error) => Err(Refusal::of_change(archive, error)),
+    }
+}
+
+/// The names in what a file has.
+fn names_of<'t, 'a>(
+    alloc: Global,
+    path: &'a str,
+    bytes: &'t [u8],
+) -> Result<Vec<&'t str>, Refusal<'a>>
+    ensures read { IfOk result (λ names. AreNamesIn bytes.entry.now (texts_of names.items)) }
+    ensures refused { IfErr result (IsNoNameText path.entry.now bytes.entry.now) }
+{
+    let Ok(text) = str::from_utf8(bytes) else {
+        return Err(Refusal::NotUtf8(path));
+    };
+    match names_in(alloc, text) {
+        Ok(names) => Ok(names),
+        Err(AllocError) => Err(Refusal::Engine(EngineRefusal::Memory)),
     }
 }
 

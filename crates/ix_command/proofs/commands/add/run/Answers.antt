@@ -2,7 +2,7 @@
 use Rattle.std.proofs.Common.{sym}
 use Rattle.ix_files.proofs.Drafting.{unchanged}
 use Rattle.ix_command.specs.StoredArchives.{bad_documents, bad_stop_list, not_added, unread_documents}
-use Rattle.ix_command.proofs.ArchiveLemmas.{adds, keeps_added, not_added_yet}
+use Rattle.ix_command.proofs.ArchiveLemmas.{adds, given_held, keeps_added, not_added_yet}
 use Rattle.ix_command.proofs.BuildLemmas.{documents_of_files, refuses_documents_whole}
 use Rattle.ix_command.proofs.FileLemmas.{handed_up}
 use Rattle.ix_command.proofs.commands.add.run.Goals as goal
@@ -42,21 +42,21 @@ pub returns-in-Ok-clause-added : goal.returns-in-Ok-clause-added
 returns-in-Ok-clause-added g c =
     let read = rw c.deref.ensures.value at c.in_ok-documents.ensures.read in
     let of_files = documents_of_files _ _ _ _ _ _ c.in_ok-text.ensures.front c.in_ok-list.ensures.held read in
-    let done = rw (c.given.ensures _ c.in_ok-list.ensures.held) at c.in-Ok.ensures.done in
+    let done = rw (given_held _ _ _ _ c.given.ensures.named c.given.ensures.none c.in_ok-list.ensures.held) at c.in-Ok.ensures.done in
     adds _ _ _ _ _ _ _ c.in_ok-documents.documents of_files done
 
 pub returns-in-Ok-clause-kept : goal.returns-in-Ok-clause-kept
 returns-in-Ok-clause-kept g c honest =
     let read = rw c.deref.ensures.value at c.in_ok-documents.ensures.read in
     let of_files = documents_of_files _ _ _ _ _ _ c.in_ok-text.ensures.front c.in_ok-list.ensures.held read in
-    let moments = rw (c.given.ensures _ c.in_ok-list.ensures.held) at c.add.ensures.any_moment in
+    let moments = rw (given_held _ _ _ _ c.given.ensures.named c.given.ensures.none c.in_ok-list.ensures.held) at c.add.ensures.any_moment in
     keeps_added _ _ _ _ _ _ _ c.in_ok-documents.documents of_files (moments honest)
 
 pub returns-in-Err-clause-kept : goal.returns-in-Err-clause-kept
 returns-in-Err-clause-kept g c honest =
     let read = rw c.deref.ensures.value at c.in_ok-documents.ensures.read in
     let of_files = documents_of_files _ _ _ _ _ _ c.in_ok-text.ensures.front c.in_ok-list.ensures.held read in
-    let moments = rw (c.given.ensures _ c.in_ok-list.ensures.held) at c.add.ensures.any_moment in
+    let moments = rw (given_held _ _ _ _ c.given.ensures.named c.given.ensures.none c.in_ok-list.ensures.held) at c.add.ensures.any_moment in
     keeps_added _ _ _ _ _ _ _ c.in_ok-documents.documents of_files (moments honest)
 
 pub returns-in-Err-clause-refused : goal.returns-in-Err-clause-refused
