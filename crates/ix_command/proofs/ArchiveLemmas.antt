@@ -60,7 +60,7 @@ module _ (holds : Holding) (stop_file : Option (Bor Text)) (archive collection :
 pub given_held : (holds : Holding) (stop_file : Option (Bor Text)) (given : Option (Bor (List Text))) (stop : List Text) → (IsSome stop_file → stop_given given ≡ stop)
     → (stop_file ≡ None → stop_given given ≡ []) → IsStopHeld holds stop_file stop → stop_given given ≡ stop
 given_held holds None given stop named none held = none refl ∙ sym held
-given_held holds (Some path) given stop named none held = named tt
+given_held holds (Some path) given stop named none held = named refl
 
 -- ---- search
 

@@ -22,8 +22,8 @@ returns-in_ok-count-in-Ok-clause-found g c = λ none.
 pub returns-then-reads_input_twice-clause-kept : goal.returns-then-reads_input_twice-clause-kept
 returns-then-reads_input_twice-clause-kept g c = λ _. inl (nothing_yet _ (g.met.F.Files.only_now c.args.files.now))
 
-pub returns-in_err-answer_without_line-clause-kept : goal.returns-in_err-answer_without_line-clause-kept
-returns-in_err-answer_without_line-clause-kept g c = λ _. inl (nothing_yet _ (g.met.F.Files.only_now c.args.files.now))
+pub returns-in_err-answer_without_line-in-Err-clause-kept : goal.returns-in_err-answer_without_line-in-Err-clause-kept
+returns-in_err-answer_without_line-in-Err-clause-kept g c = λ _. inl (nothing_yet _ (g.met.F.Files.only_now c.args.files.now))
 
-pub returns-in-Err-clause-kept : goal.returns-in-Err-clause-kept
-returns-in-Err-clause-kept g c = λ _. inl (nothing_yet _ (g.met.F.Files.only_now c.args.files.now))
+pub returns-in_ok-answer_without_line-in-Err-clause-kept : goal.returns-in_ok-answer_without_line-in-Err-clause-kept
+returns-in_ok-answer_without_line-in-Err-clause-kept g c = λ _. inl (nothing_yet _ (g.met.F.Files.only_now c.args.files.now))

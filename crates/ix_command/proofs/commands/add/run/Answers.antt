@@ -52,12 +52,12 @@ returns-in-Ok-clause-kept g c honest =
     let moments = rw (given_held _ _ _ _ c.given.ensures.named c.given.ensures.none c.in_ok-list.ensures.held) at c.add.ensures.any_moment in
     keeps_added _ _ _ _ _ _ _ c.in_ok-documents.documents of_files (moments honest)
 
-pub returns-in-Err-clause-kept : goal.returns-in-Err-clause-kept
-returns-in-Err-clause-kept g c honest =
+pub returns-clause-kept : goal.returns-clause-kept
+returns-clause-kept g c honest =
     let read = rw c.deref.ensures.value at c.in_ok-documents.ensures.read in
     let of_files = documents_of_files _ _ _ _ _ _ c.in_ok-text.ensures.front c.in_ok-list.ensures.held read in
     let moments = rw (given_held _ _ _ _ c.given.ensures.named c.given.ensures.none c.in_ok-list.ensures.held) at c.add.ensures.any_moment in
     keeps_added _ _ _ _ _ _ _ c.in_ok-documents.documents of_files (moments honest)
 
-pub returns-in-Err-clause-refused : goal.returns-in-Err-clause-refused
-returns-in-Err-clause-refused g c = not_added c.in-Err.error c.of_change.ensures
+pub returns-clause-refused : goal.returns-clause-refused
+returns-clause-refused g c = not_added c.in-Err.error c.of_change.ensures
