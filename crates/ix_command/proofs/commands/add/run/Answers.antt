@@ -42,21 +42,21 @@ pub returns-in-Ok-clause-added : goal.returns-in-Ok-clause-added
 returns-in-Ok-clause-added g c =
     let read = rw c.deref.ensures.value at c.in_ok-documents.ensures.read in
     let of_files = documents_of_files _ _ _ _ _ _ c.in_ok-text.ensures.front c.in_ok-list.ensures.held read in
-    let done = rw (given_held _ _ _ _ c.given.ensures.named c.given.ensures.none c.in_ok-list.ensures.held) at c.in-Ok.ensures.done in
-    adds _ _ _ _ _ _ _ c.in_ok-documents.documents of_files done
+    let done = rw (given_held _ _ _ _ c.given-given.ensures.named c.given-given.ensures.none c.in_ok-list.ensures.held) at c.in-Ok.ensures.done in
+    adds _ _ _ _ (g.F.Files.view c.args.files.now) (g.F.Files.view c.add.new.files) _ c.in_ok-documents.documents of_files done
 
 pub returns-in-Ok-clause-kept : goal.returns-in-Ok-clause-kept
 returns-in-Ok-clause-kept g c honest =
     let read = rw c.deref.ensures.value at c.in_ok-documents.ensures.read in
     let of_files = documents_of_files _ _ _ _ _ _ c.in_ok-text.ensures.front c.in_ok-list.ensures.held read in
-    let moments = rw (given_held _ _ _ _ c.given.ensures.named c.given.ensures.none c.in_ok-list.ensures.held) at c.add.ensures.any_moment in
+    let moments = rw (given_held _ _ _ _ c.given-given.ensures.named c.given-given.ensures.none c.in_ok-list.ensures.held) at c.add.ensures.any_moment in
     keeps_added _ _ _ _ _ _ _ c.in_ok-documents.documents of_files (moments honest)
 
 pub returns-clause-kept : goal.returns-clause-kept
 returns-clause-kept g c honest =
     let read = rw c.deref.ensures.value at c.in_ok-documents.ensures.read in
     let of_files = documents_of_files _ _ _ _ _ _ c.in_ok-text.ensures.front c.in_ok-list.ensures.held read in
-    let moments = rw (given_held _ _ _ _ c.given.ensures.named c.given.ensures.none c.in_ok-list.ensures.held) at c.add.ensures.any_moment in
+    let moments = rw (given_held _ _ _ _ c.given-given.ensures.named c.given-given.ensures.none c.in_ok-list.ensures.held) at c.add.ensures.any_moment in
     keeps_added _ _ _ _ _ _ _ c.in_ok-documents.documents of_files (moments honest)
 
 pub returns-clause-refused : goal.returns-clause-refused
