@@ -1,10 +1,10 @@
 -- What is found in an archive that is open, by what is found in each of its segments.
-use Rattle.std.proofs.Common.{◌≡◌, ℕ, zero, suc, ◌+◌, ◌-◌, ◌^◌, ◌<◌, ◌≤◌, ◌⊎◌, inl, inr, List, [], ◌∷◌, ◌++◌, Some, None, Option, map, take, drop, length, get_or, refl, sym, ap, ◌∙◌, subst, arith}
-use Rattle.std.specs.Prelude.{◌≢◌, Contains, Err, MatchResult, Ok, Result, flat_map, min, option_map, slice_get, sum_by}
+use Rattle.std.proofs.Common.{◌≡◌, ℕ, zero, suc, ◌-◌, ◌^◌, ◌<◌, ◌⊎◌, inl, inr, List, [], ◌∷◌, Some, None, Option, map, take, drop, length, get_or, refl, sym, ap, ◌∙◌, subst, arith}
+use Rattle.std.specs.Prelude.{◌≢◌, Contains, Err, MatchResult, Ok, Result, min, option_map, slice_get}
 use Rattle.std.proofs.lemmas.List.{length-map}
 use Rattle.std.proofs.lemmas.List.Folds.{flat_map-map}
-use Rattle.std.proofs.lemmas.Option.{get_or_from_slice_get, slice_get-get_or, slice_get-map, slice_get_within}
-use Rattle.ix_text.specs.Collections.{Collection, Document}
+use Rattle.std.proofs.lemmas.Option.{get_or_from_slice_get, slice_get-map, slice_get_within}
+use Rattle.ix_text.specs.Collections.{Document}
 use Rattle.ix_text.proofs.PartsLawful.{sum_by-map}
 use Rattle.ix_index_text.specs.Sections.{Version}
 use Rattle.ix_extract.specs.Projections.{HasIndexText}

@@ -1,21 +1,14 @@
 -- What a query finds in the index of a segment, and why it finds nothing.
-use Rattle.std.proofs.Common.{◌≡◌, ◌∙◌, refl, sym, ap, ℕ, List, length, Option, map, subst}
+use Rattle.std.proofs.Common.{◌≡◌, ◌∙◌, refl, sym, ap, ℕ, List, length, subst}
 use Rattle.std.specs.Prelude.{Err, IfErr, IfOk, MatchResult, Ok, Result}
 use Rattle.std.specs.List.Sorted.{IsStrictlyIncreasing}
-use Rattle.ix_text.specs.Collections.{Collection, Document}
-use Rattle.ix_text.specs.Parts.{ArePartsOf, Parts, row_of}
-use Rattle.ix_file.specs.Opened.{names_of}
+use Rattle.ix_text.specs.Collections.{Collection}
 use Rattle.ix_file.specs.declared.open_error.OpenError.{OpenError}
 use Rattle.ix_file.specs.declared.open_error.OpenError.TheVariants as opening
-use Rattle.ix_index_text.specs.Sections.{Version}
-use Rattle.ix_extract.specs.Projections.{HasIndexText}
 use Rattle.ix_extract.specs.Refusals.{IsQueryRefused}
 use Rattle.ix_extract.specs.declared.extract_error.ExtractError.{ExtractError}
 use Rattle.ix_extract.specs.declared.extract_error.ExtractError.TheVariants as extracting
-use Rattle.ix_projection.specs.Alike.{ScansAlike}
-use Rattle.ix_projection.specs.Asked.{KeepsAsked}
 use Rattle.ix_projection.specs.Kept.{Test, kept_collection}
-use Rattle.ix_projection.proofs.KeptLemmas.{names_kept}
 use Rattle.ix_query.specs.Scans.{IsScan}
 use Rattle.ix_query_text.specs.Grammar.{Reads}
 use Rattle.ix_query_text.specs.Machine.{query_of}
@@ -24,7 +17,6 @@ use Rattle.ix_query_text.specs.declared.error.QueryError.{QueryError}
 use Rattle.ix_query_text.specs.declared.tree.Tree.{Tree}
 use Rattle.ix_scan.specs.ScansWithout.{IsScanWithout}
 use Rattle.ix_ask.specs.NameLines.{name_lines, names_indexed}
-use Rattle.ix_ask.proofs.NameLemmas.{names_told}
 use Rattle.ix_removals.specs.RemovalsText.{Removal}
 use Rattle.ix_archive.specs.Findings.{AreLeft, FindsIn, IsGoneFrom, RefusesFinding, error_of_extract, error_of_open}
 use Rattle.ix_archive.specs.declared.read_error.ReadError.{ReadError}

@@ -1,7 +1,6 @@
 -- What a query finds in segments that follow one another.
-use Rattle.std.proofs.Common.{◌≡◌, ℕ, zero, suc, ◌+◌, ◌-◌, ◌<◌, ◌≤◌, ◌⊎◌, inl, inr, List, [], ◌∷◌, ◌++◌, Some, map, length, flat_map, refl, sym, ap, ap₂, ◌∙◌, subst, arith, append_assoc, length-append}
+use Rattle.std.proofs.Common.{◌≡◌, ℕ, zero, suc, ◌+◌, ◌-◌, ◌<◌, ◌≤◌, inl, inr, List, [], ◌∷◌, ◌++◌, map, length, flat_map, refl, sym, ap, ap₂, ◌∙◌, subst, arith, length-append}
 use Rattle.std.specs.Prelude.{Contains, ◌↔◌, ⊤, slice_get, sum_by}
-use Rattle.std.specs.List.Sorted.{IsStrictlyIncreasing}
 use Rattle.std.proofs.lemmas.Bool.{cases_lt}
 use Rattle.std.proofs.lemmas.Grind.{flat_map-append}
 use Rattle.std.proofs.lemmas.List.{append-nil, length-map, map-append}
@@ -12,7 +11,7 @@ use Rattle.ix_text.specs.Collections.{Document}
 use Rattle.ix_query.specs.Scans.{SatisfiesAt}
 use Rattle.ix_query_text.specs.declared.tree.Tree.{Tree}
 use Rattle.ix_scan.specs.ScansWithout.{IsScanWithout, of_documents}
-use Rattle.ix_scan.proofs.Members.{in_shifted, increasing_joined, none_in_nil, shifted_has, shifted_increasing}
+use Rattle.ix_scan.proofs.Members.{in_shifted, increasing_joined, shifted_has, shifted_increasing}
 use Rattle.ix_ask.specs.NameLines.{name_line, name_lines, names_indexed}
 use Rattle.ix_removals.specs.RemovalsText.{IsRemoved, Removal}
 use Rattle.ix_archive.specs.Archives.{joined}
@@ -56,7 +55,10 @@ module _ (removals : List Removal) (first : ℕ) (xs ys : List Document) where
   abbrev gone_in : List Document → ℕ → ℕ → Type 0
   gone_in documents from = IsGoneFrom removals from (names_indexed documents)
 
-  gone_left : (n : ℕ) → n < length xs → gone_in (xs ++ ys) first n ↔ gone_in xs first n
+  pub gone_within : (n : ℕ) → gone_in xs first n → n < length xs
+  gone_within n gone = let within = slice_get_within (names_indexed xs) n gone.name gone.numbered in let size = names_length xs in omega arith
+
+  pub gone_left : (n : ℕ) → n < length xs → gone_in (xs ++ ys) first n ↔ gone_in xs first n
   gone_left n within =
       let same : slice_get (names_indexed (xs ++ ys)) n ≡ slice_get (names_indexed xs) n =
       ap (λ (names : List (List ℕ)). slice_get names n) (names_joined xs ys) ∙ slice_get_left (names_indexed xs) (names_indexed ys) n (let size = names_length xs in omega arith) in (
@@ -64,7 +66,7 @@ module _ (removals : List Removal) (first : ℕ) (xs ys : List Document) where
         λ gone. record { name = gone.name; numbered = same ∙ gone.numbered; removed = gone.removed },
       )
 
-  gone_right : (n k : ℕ) → length xs + k ≡ n → gone_in (xs ++ ys) first n ↔ gone_in ys (first + length xs) k
+  pub gone_right : (n k : ℕ) → length xs + k ≡ n → gone_in (xs ++ ys) first n ↔ gone_in ys (first + length xs) k
   gone_right n k is =
       let same : slice_get (names_indexed (xs ++ ys)) n ≡ slice_get (names_indexed ys) k =
       ap (λ (names : List (List ℕ)). slice_get names n) (names_joined xs ys) ∙ slice_get_right (names_indexed xs) (names_indexed ys) n k (let size = names_length xs in omega arith) in

@@ -1,4 +1,6 @@
 pub mod AnswerLemmas
+pub mod CheckLemmas
+pub mod CountLemmas
 pub mod FoundLemmas
 pub mod JoinedLemmas
 pub mod LeftLemmas

@@ -1,10 +1,9 @@
 -- The files of an archive that is opened.
-use Rattle.std.proofs.Common.{◌≡◌, ℕ, zero, suc, ◌+◌, ◌<◌, ◌≤◌, ◌⊎◌, inl, inr, List, [], ◌∷◌, ◌++◌, Some, None, Option, map, take, length, get_or, refl, sym, ap, ◌∙◌, subst, arith, add-one, length-append}
-use Rattle.std.specs.Prelude.{All, Err, IfErr, IfOk, MatchResult, Ok, Result, option_map}
+use Rattle.std.proofs.Common.{◌≡◌, ℕ, zero, suc, ◌+◌, ◌<◌, ◌≤◌, inl, inr, List, [], ◌∷◌, ◌++◌, Some, None, Option, map, take, length, get_or, refl, sym, ap, ◌∙◌, subst, arith, add-one, length-append}
+use Rattle.std.specs.Prelude.{Err, IfErr, IfOk, MatchResult, Ok, Result, option_map}
 use Rattle.std.proofs.lemmas.List.{map_push, take_all}
-use Rattle.std.proofs.lemmas.Option.{same_Some}
 use Rattle.ix_files.specs.Opened.{IsFoundAt}
-use Rattle.ix_files.specs.Slots.{Entry, Kept, Nothing, Place, Slots, bytes_of}
+use Rattle.ix_files.specs.Slots.{Kept, Nothing, Place, Slots, bytes_of}
 use Rattle.ix_files.specs.Views.{View}
 use Rattle.ix_files.specs.declared.file_error.FileError.{FileError}
 use Rattle.ix_files.specs.declared.file_error.FileError.TheVariants as file
@@ -16,8 +15,8 @@ use Rattle.ix_manifest.specs.declared.manifest.Removals.{Removals as RemovalsLin
 use Rattle.ix_manifest.specs.declared.manifest.Segment.{Segment}
 use Rattle.ix_removals.specs.RemovalsText.{Removal}
 use Rattle.ix_archive.specs.Archives.{Archive}
-use Rattle.ix_archive.specs.Folders.{IsArchiveIn, removals_files, removals_place, segment_files, segment_place, standing_of}
-use Rattle.ix_archive.specs.Layouts.{AreRemovalsIn, AreSegmentsOf, IsLaidOut, IsRemovalsFile}
+use Rattle.ix_archive.specs.Folders.{removals_files, removals_place, segment_files, segment_place}
+use Rattle.ix_archive.specs.Layouts.{AreRemovalsIn, AreSegmentsOf, IsRemovalsFile}
 use Rattle.ix_archive.specs.Openings.{AreRemovalsAt, AreTexts, IsArchiveOf, IsOutside, IsText}
 use Rattle.ix_archive.specs.ReadErrors.{error_of_file}
 use Rattle.ix_archive.specs.declared.read_error.ReadError.{ReadError}

@@ -1,5 +1,5 @@
 -- Lines that are joined part by part, and numbers that are summed so.
-use Rattle.std.proofs.Common.{◌≡◌, ℕ, ◌+◌, ◌-◌, ◌^◌, ◌<◌, ◌≤◌, List, [], ◌∷◌, ◌++◌, map, take, length, get_or, refl, sym, ap, ◌∙◌, subst, arith}
+use Rattle.std.proofs.Common.{◌≡◌, ℕ, ◌+◌, ◌-◌, ◌^◌, ◌<◌, ◌≤◌, List, [], ◌∷◌, ◌++◌, map, take, length, get_or, refl, sym, ap, ◌∙◌, arith}
 use Rattle.std.specs.Prelude.{None, Ok, Option, Result, Some, flat_map, min, sum_by}
 use Rattle.std.specs.Option.{SomeIff, ok_or}
 use Rattle.std.specs.Result.{result_unwrap_or}

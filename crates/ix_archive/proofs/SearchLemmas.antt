@@ -1,25 +1,21 @@
 -- What is found in all segments of an archive.
-use Rattle.std.proofs.Common.{◌≡◌, ℕ, zero, suc, ◌+◌, ◌-◌, ◌^◌, ◌<◌, ◌≤◌, ◌⊎◌, inl, inr, List, [], ◌∷◌, ◌++◌, Some, None, Option, map, take, drop, length, get_or, refl, sym, ap, ◌∙◌, subst, arith}
-use Rattle.std.specs.Prelude.{◌↔◌, Contains, Ok, Err, Result, MatchResult, flat_map, min, option_map, slice_get, sum_by}
-use Rattle.std.proofs.lemmas.List.Folds.{flat_map-map}
+use Rattle.std.proofs.Common.{◌≡◌, ℕ, zero, suc, ◌+◌, ◌-◌, ◌^◌, List, [], ◌∷◌, Some, None, Option, map, take, drop, length, get_or, refl, sym, ap, subst, arith}
+use Rattle.std.specs.Prelude.{◌↔◌, min, option_map, slice_get, sum_by}
 use Rattle.std.proofs.lemmas.List.Sums.{sum_by-cons}
 use Rattle.std.proofs.lemmas.Option.{same_Some}
 use Rattle.ix_text.specs.Collections.{Collection, Document}
-use Rattle.ix_text.proofs.PartsLawful.{sum_by-map}
 use Rattle.ix_index_text.specs.Sections.{Version}
 use Rattle.ix_extract.specs.Projections.{HasIndexText}
 use Rattle.ix_manifest.specs.declared.manifest.Segment.{Segment}
-use Rattle.ix_query_text.specs.declared.tree.Tree.{Tree}
-use Rattle.ix_scan.specs.ScansWithout.{IsScanWithout, of_documents}
+use Rattle.ix_scan.specs.ScansWithout.{of_documents}
 use Rattle.ix_scan.proofs.ScanLemmas.{scan_of_same}
-use Rattle.ix_ask.specs.NameLines.{name_lines, names_indexed}
+use Rattle.ix_ask.specs.NameLines.{names_indexed}
 use Rattle.ix_ask.specs.declared.output.Lines.{Lines}
 use Rattle.ix_removals.specs.RemovalsText.{AreRemovals, IsRemoved, Removal}
-use Rattle.ix_archive.specs.Archives.{Archive, IsArchiveFound, IsGone, joined}
+use Rattle.ix_archive.specs.Archives.{Archive, IsArchiveFound, IsGone}
 use Rattle.ix_archive.specs.Findings.{FindsIn, IsGoneFrom}
 use Rattle.ix_archive.specs.Layouts.{AreSegmentsOf, IsSegmentOf}
-use Rattle.ix_archive.specs.OpenedArchives.{first_after}
-use Rattle.ix_archive.proofs.JoinedLemmas.{AreFoundIn, all_found, count_in, lines_in}
+use Rattle.ix_archive.proofs.JoinedLemmas.{AreFoundIn}
 use Rattle.ix_archive.proofs.LeftLemmas.{removed_alike}
 
 -- ---- numbers that do not fit
@@ -100,7 +96,7 @@ name_numbered [] n document at = absurd (let none = at in cc)
 name_numbered (first ∷ documents) zero document at = ap (option_map (λ (d : Document). d.name)) at
 name_numbered (first ∷ documents) (suc n) document at = name_numbered documents n document at
 
-gone_alike_in : (archive : Archive) (n : ℕ) → IsGoneFrom archive.removals 0 (names_indexed archive.documents) n ↔ IsGone archive n
+pub gone_alike_in : (archive : Archive) (n : ℕ) → IsGoneFrom archive.removals 0 (names_indexed archive.documents) n ↔ IsGone archive n
 gone_alike_in archive n = (
   λ gone.
       let found = document_named archive.documents n gone.name gone.numbered in

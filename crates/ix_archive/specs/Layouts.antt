@@ -31,6 +31,7 @@ pub record IsRemovalsText (removals : List Removal) (line : RemovalsLine) (text 
   pub listed : AreRemovals removals
   pub written : text ≡ removals_text removals
   pub counted : line.count ≡ length removals
+  pub sized : line.bytes ≡ length text
   pub digested : line.digest ≡ sha256 text
 
 -- The text is that of the removals, none of which takes a document behind this many, and the manifest says so of it.

@@ -1,5 +1,7 @@
 pub mod ArchiveErrors
 pub mod Archives
+pub mod Checks
+pub mod Counting
 pub mod Findings
 pub mod Folders
 pub mod Layouts

@@ -2,7 +2,6 @@
 use Rattle.std.specs.Prelude.{◌≡◌, ◌⊎◌, ⊤, ℕ, List, [], ◌∷◌, length, Option, None, Some}
 use Rattle.ix_files.specs.Slots.{Kept, Place}
 use Rattle.ix_files.specs.Views.{View}
-use Rattle.ix_manifest.specs.ManifestText.{ManifestView}
 use Rattle.ix_manifest.specs.declared.manifest.Removals.{Removals as RemovalsLine}
 use Rattle.ix_manifest.specs.declared.manifest.Segment.{Segment}
 use Rattle.ix_removals.specs.RemovalsText.{Removal}

@@ -146,7 +146,7 @@ fn leave_out(
 }
 
 /// Whether the document of a number is removed, if the documents count from `first` on.
-fn is_gone(index: &Index<'_>, removals: &Removals, first: u64, number: u32) -> bool
+pub(crate) fn is_gone(index: &Index<'_>, removals: &Removals, first: u64, number: u32) -> bool
     requires { number < length index.now.parts.rows }
     ensures { MatchBool result
         (IsGoneFrom removals.now first (names_of index.now.parts.rows) number)

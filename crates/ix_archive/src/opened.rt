@@ -1,5 +1,9 @@
 //! An archive that is open to be searched.
-ghost use Rattle.std.specs.Prelude.{◌≡◌, length};
+ghost use Rattle.std.specs.Prelude.{◌≡◌, ◌≢◌, [], length, MatchOption};
+ghost use Rattle.std.proofs.Props.{props};
+ghost use Rattle.ix_manifest.specs.ManifestText.{IsManifest, view_of};
+ghost use Rattle.ix_removals.specs.RemovalsText.{removals_text};
+ghost use Rattle.ix_archive.specs.Layouts.{IsRemovalsText};
 
 use ix_manifest::Manifest;
 use ix_removals::Removals;
@@ -15,4 +19,8 @@ pub struct Opened<S> {
     /// The files of the segments, in the order of the manifest.
     pub sources: Vec<S>,
     ghost each_opened: { length sources.items ≡ length manifest.segments.items },
+    ghost lawful: { IsManifest (view_of manifest) } by { Prim.hlevel props },
+    ghost has_segment: { manifest.segments.items ≢ [] },
+    ghost listed: { MatchOption manifest.removals (removals ≡ [])
+        (λ line. IsRemovalsText removals line (removals_text removals)) } by { Prim.hlevel props },
 }

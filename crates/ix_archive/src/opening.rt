@@ -1,10 +1,10 @@
 //! Opening an archive to read it.
-ghost use Rattle.std.specs.Prelude.{◌≡◌, ℕ, List, Some, length, map, false, IfErr, IfOk, MatchResult};
+ghost use Rattle.std.specs.Prelude.{◌≡◌, ◌≢◌, ℕ, List, [], Some, length, map, false, IfErr, IfOk, MatchResult};
 ghost use Rattle.ix_files.specs.Locations.{place_of};
 ghost use Rattle.ix_files.specs.Opened.{IsReadError};
 ghost use Rattle.ix_folder.specs.FolderNames.{manifest_place};
 ghost use Rattle.ix_manifest.specs.ManifestText.{ManifestView, IsManifest, manifest_text, view_of};
-ghost use Rattle.ix_removals.specs.RemovalsText.{Removal};
+ghost use Rattle.ix_removals.specs.RemovalsText.{Removal, removals_text};
 ghost use Rattle.ix_archive.specs.Archives.{Archive};
 ghost use Rattle.ix_archive.specs.Folders.{removals_place};
 ghost use Rattle.ix_archive.specs.Layouts.{IsLaidOut, IsRemovalsFile, IsRemovalsText};
@@ -96,6 +96,8 @@ pub(crate) fn read_whole<S: ReadAt>(alloc: Global, source: &S) -> Result<Vec<u8>
 fn parse_manifest(alloc: Global, text: &[u8]) -> Result<Manifest, ReadError>
     ensures parsed { IfOk result (λ manifest. (view : ManifestView) → IsManifest view
         → text.now ≡ manifest_text view → view_of manifest ≡ view) }
+    ensures lawful { IfOk result (λ manifest. IsManifest (view_of manifest)) }
+    ensures has_segment { IfOk result (λ manifest. manifest.segments.items ≢ []) }
     ensures refused { IfErr result (λ error. (archive : Archive) (view : ManifestView)
         (texts : List (List ℕ)) (removals_file : _) → IsLaidOut archive view texts removals_file
         → text.now ≡ manifest_text view → IsOutside error) }
@@ -124,6 +126,8 @@ fn open_files<F: Files>(
     folder: &str,
     manifest: Manifest,
 ) -> Result<Opened<F::Ranges>, ReadError>
+    requires lawful { IsManifest (view_of manifest) }
+    requires has_segment { manifest.segments.items ≢ [] }
     ensures opened { IfOk result (λ opened. (archive : Archive) (texts : List (List ℕ))
         (removals_file : _) → IsLaidOut archive (view_of manifest) texts removals_file
         → AreTexts (F.view files.now) folder.now manifest.segments.items texts
@@ -201,6 +205,7 @@ fn open_removals<F: Files>(
     folder: &str,
     line: &RemovalsLine,
 ) -> Result<Removals, ReadError>
+    ensures listed { IfOk result (λ read. IsRemovalsText read line.now (removals_text read)) }
     ensures read { IfOk result (λ read. (documents : ℕ) (removals : List Removal)
         (text : List ℕ) → IsText (F.view files.now) (removals_place folder.now line.now.file) text
         → IsRemovalsFile documents removals line.now text → read ≡ removals) }
@@ -225,7 +230,7 @@ pub(crate) fn parse_removals(
         → IsRemovalsFile documents removals line.now text.now
         → MatchResult result (λ read. read ≡ removals) (λ error. error ≡ Memory) }
 {
-    if Sha256::digest(text) != line.digest {
+    if text.len() as u64 != line.bytes || Sha256::digest(text) != line.digest {
         return Err(ReadError::Archive(ArchiveError::Differs(line.file)));
     }
     match ix_removals::read(alloc, text) {

@@ -1,1 +1,16 @@
-mod Staying
+pub mod AddingLemmas
+pub mod CommitLemmas
+pub mod FindingLemmas
+pub mod FolderChanges
+pub mod Going
+pub mod LawfulNames
+pub mod Laying
+pub mod NamingLemmas
+pub mod OpeningLemmas
+pub mod Places
+pub mod Projected
+pub mod ReadingLemmas
+pub mod RemovalLemmas
+pub mod RemovingLemmas
+pub mod SegmentLemmas
+pub mod TakingLemmas

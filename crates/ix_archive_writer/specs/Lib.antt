@@ -1,2 +1,5 @@
 pub mod Changes
 pub mod Commits
+pub mod Errors
+pub mod Readings
+pub mod Takings

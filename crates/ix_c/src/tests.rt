@@ -182,6 +182,14 @@ fn a_run_is_made_and_merged(rt: HostRuntime) -> Result<(), Fail> {
         &out,
         &Row(1, 0, b"merge 4: Source(0, Magic)"),
     );
+    let status = ix_merge(rt.alloc(), b"PIIXRUN1\0\0\0\0", &[12], &mut out, &mut found);
+    expect(
+        &rt,
+        status,
+        &found,
+        &out,
+        &Row(1, 0, b"merge 4: Source(0, Number(Cut))"),
+    );
     Ok(())
 }
 

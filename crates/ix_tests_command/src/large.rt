@@ -5,11 +5,12 @@ use super::session::{FILES, play};
 use std::alloc::Global;
 use std::test::Fail;
 
-/// A hundred thousand documents and some more, each with a word of its own.
+/// A hundred thousand documents and some more, each with a word of its own behind eight times the one that all have. Its
+/// list has more than a million bytes.
 fn numbered(alloc: Global) -> Result<String, Fail> {
     let mut text = String::new(alloc);
     for number in 0u32..100_100 {
-        let line = format!(in alloc; "n{number}\tw{number:06}\n")?;
+        let line = format!(in alloc; "n{number}\tx x x x x x x x w{number:06}\n")?;
         text.push_str(&line)?;
     }
     Ok(text)
@@ -18,7 +19,7 @@ fn numbered(alloc: Global) -> Result<String, Fail> {
 /// An index of more than two MiB, and the merge of it alone.
 const LARGE: &str = r"$ ix build large large.ix
 $ size large.ix
-2719149
+3720166
 $ ix ask large w100099
 n100099
 $ ix search large.ix w100099
@@ -81,6 +82,10 @@ fn long_paths_queries_and_groups(rt: HostRuntime) -> Result<(), Fail> {
             &LONG_PATH.replace(alloc, "PATH", &path)?,
         )?;
     }
+    // The longest word that a term may be.
+    let word = "w".repeat(alloc, 255)?;
+    let document = format!(in alloc; "$ put long d\\t{word}\\n\n$ ix ask long {word}\nd\n")?;
+    play(&rt, &mut disk, "", &document)?;
     let words = "x OR ".repeat(alloc, 2100)?;
     let query = format!(in alloc; "$ ix ask five '{words}x'\na\nd\ne\n")?;
     play(&rt, &mut disk, "", &query)?;

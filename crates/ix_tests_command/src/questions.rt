@@ -75,6 +75,9 @@ $ ix ask --stop stop one '"to london"'
 d
 $ ix ask --stop stop one to
 ! ix: query 7: OnlyStopWords
+$ put - to\n
+$ ix ask --stop - one to
+! ix: query 7: OnlyStopWords
 $ put letters d\ta b c d\n
 $ ix ask letters 'a NEAR/3 d'
 d
@@ -178,6 +181,10 @@ $ ix ask five y
 ! ix: memory 1: Memory
 $ ix ask --stop two-words no-tab x
 ! ix: stop 1: NotOneWord(1)
+$ ix ask --stop no-stop no/such/file y
+! ix: file 1: Read(no-stop)
+$ ix ask --stop - - y
+! ix: arguments refused
 $ ix ask --stop bytes one x
 ! ix: file 3: NotUtf8(bytes)
 $ ix search five 'x y'

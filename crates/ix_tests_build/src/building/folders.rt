@@ -284,19 +284,29 @@ fn a_full_disk_spills(rt: HostRuntime) -> Result<(), Fail> {
     Ok(())
 }
 
+/// Which call of the files fails, and why the build is refused, how many bytes it writes and of how many files it tells: the
+/// folder is located, and the file of each of the 1100 blocks is created and ended. The other blocks are saved.
+const MANY_BLOCKS: [(usize, Option<BuildError>, usize, u64); 2] = [
+    (2 + 2 * 1050, Some(BuildError::Spill(1050)), 0, 1099),
+    (0, None, 6_676, 1100),
+];
+
 #[test]
 fn more_than_a_thousand_blocks(rt: HostRuntime) -> Result<(), Fail> {
     let alloc = rt.alloc();
     let text = "a\tx\n".repeat(alloc, 1100)?;
     let runs = Runs::Folder(String::new(alloc));
     let plan = Plan::new(Cut::Docs(1), 1, runs).ok_or("no plan")?;
-    let mut files = MemoryFiles::new(alloc)?;
-    let counts = Counts::new(0);
-    let mut out = Vec::new(alloc);
     let text = text.as_bytes();
-    let refused = built_by(&rt, alloc, &mut files, text, &plan, &counts, &mut out)?;
-    assert!(rt; refused.is_none() && out.len() == 6_676);
-    assert!(rt; counts.told() == (1100, 1100));
+    for (number, want, bytes, told) in MANY_BLOCKS {
+        let mut files = MemoryFiles::new(alloc)?;
+        files.fail_at(number, false);
+        let counts = Counts::new(0);
+        let mut out = Vec::new(alloc);
+        let refused = built_by(&rt, alloc, &mut files, text, &plan, &counts, &mut out)?;
+        assert!(rt; refused == want && out.len() == bytes);
+        assert!(rt; counts.told() == (told, 1100));
+    }
     Ok(())
 }
 

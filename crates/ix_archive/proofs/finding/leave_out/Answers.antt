@@ -1,4 +1,3 @@
-use Rattle.std.proofs.Common.{arith}
 use Rattle.ix_archive.proofs.LeftLemmas.{left_gone, left_kept}
 use Rattle.ix_archive.proofs.finding.leave_out.Goals as goal
 use Rattle.ix_archive.proofs.finding.leave_out.Goals.{then-not-is_gone+in_ok-push, else-not-is_gone}

@@ -1,5 +1,5 @@
 -- If the archive is there, the first attempt opens it or fails from outside.
-use Rattle.std.proofs.Common.{◌≡◌, ◌∙◌, ap, length, subst, sym, List, ℕ, arith}
+use Rattle.std.proofs.Common.{◌∙◌, length, subst, sym, arith}
 use Rattle.std.proofs.lemmas.Result.{err_from_is_err_and}
 use Rattle.ix_manifest.specs.ManifestText.{ManifestView}
 use Rattle.ix_archive.specs.Layouts.{IsLaidOut}

@@ -1,11 +1,14 @@
-use Rattle.std.proofs.Common.{◌≡◌, ◌∙◌, sym, subst, ℕ, List}
-use Rattle.std.specs.Prelude.{MatchResult}
+use Rattle.std.proofs.Common.{◌≡◌, ◌∙◌, sym, subst}
+use Rattle.std.proofs.lemmas.Result.{IfOk-weaker}
 use Rattle.ix_files.specs.Slots.{Place}
-use Rattle.ix_removals.specs.RemovalsText.{Removal}
-use Rattle.ix_archive.specs.Layouts.{IsRemovalsFile}
+use Rattle.ix_archive.specs.Layouts.{IsRemovalsFile, IsRemovalsText}
 use Rattle.ix_archive.specs.Openings.{IsText}
 use Rattle.ix_archive.proofs.OpenLemmas.{removals_ok, removals_err}
 use Rattle.ix_archive.proofs.opening.open_removals.Goals as goal
+
+pub returns-clause-listed : goal.returns-clause-listed
+returns-clause-listed g c =
+    IfOk-weaker c.parse_removals.result _ _ (λ read is. subst (IsRemovalsText read c.args.line.now) is.written is) c.parse_removals.ensures.found
 
 pub returns-clause-read : goal.returns-clause-read
 returns-clause-read g c =

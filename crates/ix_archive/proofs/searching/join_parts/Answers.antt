@@ -1,4 +1,3 @@
-use Rattle.std.proofs.Common.{◌≡◌, ◌∙◌, ◌++◌, ap, List, ℕ}
 use Rattle.ix_archive.proofs.PartLemmas.{checked_sum, joined_more}
 use Rattle.ix_archive.proofs.searching.join_parts.Goals as goal
 
