@@ -63,9 +63,11 @@ def of_page():
                 words += rest
             elif kind == ".Op":
                 words.append("[" + " ".join(w.replace("-", "--", 1) if w.startswith("-") else w.upper() for w in rest if w not in ("Fl", "Ar")) + "]")
+            elif kind == ".Fl":
+                words.append("-" + rest[0] + "".join(" " + w.upper() for w in rest[2:]))
             elif kind == ".Ar":
                 words.append(" ".join(w.upper() for w in rest).replace(" ...", "..."))
-        usages[words[0]] = " ".join(words)
+        usages[words[0]] = " ix ".join(filter(None, [usages.get(words[0]), " ".join(words)]))
     return usages, page
 
 
@@ -75,7 +77,7 @@ def manual(usages):
     same("man page: commands", page_usages, usages)
     for command, usage in usages.items():
         check(f"man page: usage of {command}", page_usages.get(command) == usage, f"{page_usages.get(command)} for {usage}")
-    listed = re.findall(r"^\.It Fl -([a-z]+) ", page, re.M)
+    listed = re.findall(r"^\.It Fl -([a-z]+)\b", page, re.M)
     same("man page: each option is told", ["--" + name for name in listed], options_in(" ".join(usages.values())))
     numbers = set(re.findall(r"\d{4,}", "".join(re.split(r"\nExamples?:", printed(IX, command, "--help"))[0] for command in usages)))
     same("man page: the numbers of the help", set(re.findall(r"\b\d{4,}\b", page.split(".Sh QUERIES")[0].split(".Sh DESCRIPTION")[1])), numbers)

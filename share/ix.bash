@@ -4,17 +4,19 @@ _ix() {
     local word=${COMP_WORDS[COMP_CWORD]} before=${COMP_WORDS[COMP_CWORD-1]} options
     COMPREPLY=()
     if [ "$COMP_CWORD" = 1 ]; then
-        mapfile -t COMPREPLY < <(compgen -W "ask build search terms check run merge upgrade live help --help" -- "$word")
+        mapfile -t COMPREPLY < <(compgen -W "ask build search terms add remove check run merge upgrade live help --help" -- "$word")
         return
     fi
     case ${COMP_WORDS[1]} in
         ask) options="--stop --block --bytes --workers --help" ;;
         build) options="--stop --block --bytes --workers --runs --help" ;;
+        add) options="--stop --block --bytes --workers --help" ;;
         search | terms) options="--trust --help" ;;
+        remove) options="--names --help" ;;
         run) options="--stop --first --help" ;;
         live) options="--stop --block --bytes --workers --searchers --help" ;;
         help)
-            mapfile -t COMPREPLY < <(compgen -W "ask build search terms check run merge upgrade live" -- "$word")
+            mapfile -t COMPREPLY < <(compgen -W "ask build search terms add remove check run merge upgrade live" -- "$word")
             return
             ;;
         *) options="--help" ;;

@@ -11,7 +11,7 @@ use Rattle.ix_files.specs.Reading.{Holding}
 use Rattle.ix_line.specs.Lines.{texts_of}
 use Rattle.ix_ask.specs.declared.output.Lines.{Lines}
 use Rattle.ix_command.specs.CheckedFiles.{AreLookedAt, GainsFault, IsCheckRefused, IsJudged, IsLookedAt, LooksAt, TellsMemory, count_with, fault_line, fault_of, line_or_none}
-use Rattle.ix_command.specs.Statuses.{IsUnwritten}
+use Rattle.ix_command.specs.Refusals.{IsUnwritten}
 use Rattle.ix_command.specs.Refusals.{text_of}
 use Rattle.ix_command.specs.declared.refusal.Refusal.{Refusal}
 use Rattle.ix_command.specs.declared.refusal.Refusal.TheVariants as refusal
@@ -28,6 +28,7 @@ fault_text (refusal.Same path) other = refl
 fault_text (refusal.Locked path) other = refl
 fault_text (refusal.Script error) other = refl
 fault_text (refusal.Live error) other = refl
+fault_text (refusal.Archive error) other = refl
 
 -- its line
 pub gains_fault : (told : Refusal) (text path old new : Text) → ((named : Bor Text) → told ≡ refusal.Read named → ⊥) → IfSome (text_of told) (λ t. text ≡ t)
@@ -108,6 +109,7 @@ memory_refused holds paths old new (refusal.Same path) memory keeps = absurd mem
 memory_refused holds paths old new (refusal.Locked path) memory keeps = absurd memory
 memory_refused holds paths old new (refusal.Script error) memory keeps = absurd memory
 memory_refused holds paths old new (refusal.Live error) memory keeps = absurd memory
+memory_refused holds paths old new (refusal.Archive error) memory keeps = absurd memory
 
 pub cut_refused : (holds : Holding) (paths : List Text) (old new : Option Text) (lines : Text) (count : ℕ) (told : Refusal) → AreLookedAt holds paths lines count → IsUnwritten lines old new told
     → IsCheckRefused holds paths old new told
@@ -121,3 +123,4 @@ cut_refused holds paths old new lines count (refusal.Same path) looked unwritten
 cut_refused holds paths old new lines count (refusal.Locked path) looked unwritten = absurd unwritten
 cut_refused holds paths old new lines count (refusal.Script error) looked unwritten = absurd unwritten
 cut_refused holds paths old new lines count (refusal.Live error) looked unwritten = absurd unwritten
+cut_refused holds paths old new lines count (refusal.Archive error) looked unwritten = absurd unwritten

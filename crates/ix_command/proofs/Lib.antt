@@ -1,3 +1,4 @@
+pub mod ArchiveLemmas
 pub mod BuildLemmas
 pub mod CheckLemmas
 pub mod Doing

@@ -1,5 +1,5 @@
 -- What is so of an index file that was checked as a whole is so of one that is trusted, since an index text has one collection.
-use Rattle.std.proofs.Common.{◌≡◌, ◌≢◌, ℕ, ◌⊎◌, sym, subst, refl, ⊎_elim, true≢false, Option, Some, Result, Ok, Err, IfOk, IfErr, IfSome, Bool, true, false}
+use Rattle.std.proofs.Common.{◌≡◌, ◌≢◌, ℕ, ◌⊎◌, inl, sym, subst, refl, ⊎_elim, true≢false, Option, Some, Result, Ok, Err, IfOk, IfErr, IfSome, Bool, true, false}
 use Rattle.std.specs.Io.KnownBytes.{Keeps}
 use Rattle.clap.specs.Walk.{Text}
 use Rattle.ix_text.specs.Collections.{Collection, IsLawful}
@@ -100,6 +100,7 @@ module _ (holds : Holding) (path : Text) (Leaves : Collection → AskError → T
   unopened text (refusal.Locked named) held refuses keeps = absurd refuses
   unopened text (refusal.Script error) held refuses keeps = absurd refuses
   unopened text (refusal.Live error) held refuses keeps = absurd refuses
+  unopened text (refusal.Archive error) held refuses keeps = absurd refuses
 
   -- a file that gives no index
   pub unindexed : (told : Refusal) → (IsUnread path told ⊎ ((text : Text) × holds path text × RefusesIndexText text told)) → Keeps old new → IsTrustedRefused holds path Leaves old new told
@@ -120,6 +121,7 @@ module _ (holds : Holding) (path : Text) (Leaves : Collection → AskError → T
   told_ranges LeavesAny contents trusting.Read (refusal.Locked named) known tells leaves wraps kept = absurd tells
   told_ranges LeavesAny contents trusting.Read (refusal.Script error) known tells leaves wraps kept = absurd tells
   told_ranges LeavesAny contents trusting.Read (refusal.Live error) known tells leaves wraps kept = absurd tells
+  told_ranges LeavesAny contents trusting.Read (refusal.Archive error) known tells leaves wraps kept = absurd tells
   told_ranges LeavesAny contents (trusting.Ask error) told known tells leaves wraps kept = no_answer (record {
     error = error;
     tells = tells;
@@ -177,6 +179,11 @@ pub search_unread : (trust : Bool) (holds : Holding) (path query : Text) (old ne
     → IsSearchUndone trust holds path query old new told
 search_unread false holds path query old new told with_trust why keeps = absurd (true≢false (sym with_trust))
 search_unread true holds path query old new told with_trust why keeps = unread why keeps
+
+-- a path that cannot be looked at
+pub unread_at_all : (trust : Bool) (holds : Holding) (path query : Text) (old new : Option Text) (told : Refusal) → IsUnread path told → Keeps old new → IsSearchUndone trust holds path query old new told
+unread_at_all false holds path query old new told why keeps = no_index (inl why) keeps
+unread_at_all true holds path query old new told why keeps = unread why keeps
 
 pub search_ranged : (trust : Bool) (holds : Holding) (path query : Text) (old new : Option Text) (count : ℕ) (contents : Option Text) → trust ≡ true → AreKnownOf (holds path) contents
     → ((version : Version) (collection : Collection) → HasIndexText contents version collection → IsSearched collection query old new count)

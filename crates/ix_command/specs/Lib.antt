@@ -11,6 +11,7 @@ pub mod Refusals
 pub mod SavedIndexes
 pub mod StandardInput
 pub mod Statuses
+pub mod StoredArchives
 pub mod TrustedFiles
 pub mod Upgrades
 pub mod WrittenRuns

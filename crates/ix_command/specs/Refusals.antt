@@ -11,6 +11,7 @@ use Rattle.ix_ask.specs.EngineRefusals.{error_text, line_of}
 use Rattle.ix_ask.specs.declared.refusal.EngineRefusal.TheVariants as engine
 use Rattle.ix_ask.specs.declared.trust_error.TrustError.{TrustError}
 use Rattle.ix_ask.specs.declared.trust_error.TrustError.TheVariants as trusting
+use Rattle.ix_archive.specs.ArchiveErrors.{archive_error_name, archive_error_number}
 use Rattle.ix_build.specs.Plans.{PlanValue}
 use Rattle.ix_live.specs.LiveErrors.{live_error_name, live_error_number}
 use Rattle.ix_live.specs.declared.live_error.LiveError.{LiveError}
@@ -80,6 +81,11 @@ IsFolderLocked plan (refusal.Locked folder) = plan.folder ≡ Some (string_bytes
 IsFolderLocked plan (refusal.Engine engine.Memory) = Unit {0}
 IsFolderLocked plan _ = ⊥
 
+-- The refusal tells that the standard output cannot be written, which gained a beginning of the text.
+abbrev pub IsUnwritten : Text → Option Text → Option Text → Refusal → Type 0
+IsUnwritten text old new (refusal.Write path) = (path.now ≡ codes "-") × AppendsFront old new text
+IsUnwritten text old new _ = ⊥
+
 -- the refusal says which of both it was, as the error says
 abbrev pub TellsUnsaved : Text → FileError → Refusal → Type 0
 TellsUnsaved path file_error.Memory told = told ≡ refusal.Engine engine.Memory
@@ -105,6 +111,7 @@ text_of (refusal.Same path) = Some (codes "file 4: Same(" ++ path.now ++ codes "
 text_of (refusal.Locked path) = Some (codes "file 5: Locked(" ++ string_bytes path ++ codes ")")
 text_of (refusal.Script error) = Some (error_text (codes "script ") (script_error_number error) (script_error_name error))
 text_of (refusal.Live error) = Some (error_text (codes "live ") (live_error_number error) (live_error_name error))
+text_of (refusal.Archive error) = Some (error_text (codes "archive ") (archive_error_number error) (archive_error_name error))
 
 -- a control character as `\x` and two hexadecimal digits, and any other as it is
 abbrev pub shown_char : ℕ → Text
@@ -139,6 +146,7 @@ abbrev pub NeedsMemory : Refusal → Type 0
 NeedsMemory (refusal.Engine error) = Unit {0}
 NeedsMemory (refusal.Script error) = Unit {0}
 NeedsMemory (refusal.Live error) = Unit {0}
+NeedsMemory (refusal.Archive error) = Unit {0}
 NeedsMemory _ = ⊥
 
 -- The refusal was told; if its line needs memory, and there is none, it is told as out of memory.

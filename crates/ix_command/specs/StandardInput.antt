@@ -3,7 +3,7 @@ use Rattle.std.specs.Prelude.{◌≡◌, ◌<◌, Bool, Option, None, Some, byte
 use Rattle.std.specs.Borrow.{Bor}
 use Rattle.clap.specs.Walk.{Text}
 use Rattle.ix_line.specs.declared.line.Line.{Line}
-use Rattle.ix_line.specs.declared.line.Line.TheVariants.{Ask, Build, Check, Live, Merge, Run}
+use Rattle.ix_line.specs.declared.line.Line.TheVariants.{Add, Ask, Build, Check, Live, Merge, Run}
 
 -- the path is that of the standard input
 abbrev pub is_input : Bor Text → Bool
@@ -18,6 +18,7 @@ AreBothInput (Some path) other = (path.now ≡ codes "-") × (other ≡ codes "-
 abbrev pub ReadsInputTwice : Line → Type 0
 ReadsInputTwice (Ask stop_file plan collection query) = AreBothInput stop_file collection.now
 ReadsInputTwice (Build stop_file plan collection index) = AreBothInput stop_file collection.now
+ReadsInputTwice (Add stop_file plan archive collection) = AreBothInput stop_file collection.now
 ReadsInputTwice (Live stop_file plan searchers script) = AreBothInput stop_file script.now
 ReadsInputTwice (Run stop_file first collection run) = AreBothInput stop_file collection.now
 ReadsInputTwice (Merge index inputs) = 1 < count_by is_input inputs.items

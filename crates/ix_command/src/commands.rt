@@ -6,21 +6,26 @@
 ghost use Rattle.std.specs.Prelude.{◌≡◌, ◌≢◌, ◌≤◌, ◌↔◌, ◌⊎◌, IfOk, IfErr, IsTrue, OnErr, OnOk};
 ghost use Rattle.std.specs.Io.KnownBytes.{Appends, Keeps};
 ghost use Rattle.ix_command.specs.Files.{keeping_of};
+ghost use Rattle.ix_command.specs.Refusals.{IsUnwritten};
 ghost use Rattle.ix_line.specs.Lines.{Refuses, texts_of};
 ghost use Rattle.ix_command.specs.Statuses.{AreUndone, FindsFaults, FindsNoFault, FindsNone, FindsSome, IsCheck};
 ghost use Rattle.ix_command.specs.Statuses.{IsDone, IsHelped, IsLineRefused, status_of};
-ghost use Rattle.ix_command.specs.Statuses.{LeavesFilesOf, spelled};
+ghost use Rattle.ix_command.specs.Statuses.{KeepsArchive, KeepsArchiveOf, LeavesFilesOf, spelled};
+ghost use Rattle.ix_command.specs.StoredArchives.{storing_of};
 ghost use Rattle.ix_files.specs.Outputs.{saved_in};
 ghost use Rattle.ix_files.specs.Reading.{held_in};
-ghost use Rattle.ix_command.specs.Statuses.{IsLineless, IsUndone, IsUnwritten, IsRefused, IsRefusedFor, LeavesFiles};
+ghost use Rattle.ix_command.specs.Statuses.{IsLineless, IsUndone, IsRefused, IsRefusedFor, LeavesFiles};
 
+mod add;
 mod ask;
 mod build;
 mod check;
 mod live;
 mod merge;
+mod remove;
 mod run_file;
 mod search;
+mod search_archive;
 mod standard_input;
 mod terms;
 mod upgrade;
@@ -47,7 +52,7 @@ const NOTHING: u8 = 1;
 /// Some index files have a fault.
 const FAULTY: u8 = 2;
 
-/// How much a command that writes a file has done.
+/// How much a command has done that writes one file or changes one archive.
 const ONE_FILE: usize = 1;
 
 /// Does what the words after the program's name ask for, with the files that they name, and answers
@@ -73,29 +78,38 @@ pub fn command_over<R: Threads + Wait + Sync, F: Files, V: Watch, W: Write, E: W
         IsHelped (spelled words.now) (W.contents out.old) (W.contents out.new)
         ⊎ FindsSome (held_in (F.view files.old))
         (saved_in (F.sent files.new) (F.view files.old) (F.view files.new))
-        (keeping_of F.Shared.Reader.remaining F.Shared.shared F.Shared.back) (spelled words.now)
+        (keeping_of F.Shared.Reader.remaining F.Shared.shared F.Shared.back)
+        (storing_of (F.view files.old) (F.view files.new)) (spelled words.now)
         (W.contents out.old) (W.contents out.new)
         ⊎ FindsNoFault (held_in (F.view files.old))
         (saved_in (F.sent files.new) (F.view files.old) (F.view files.new))
-        (keeping_of F.Shared.Reader.remaining F.Shared.shared F.Shared.back) (spelled words.now)
+        (keeping_of F.Shared.Reader.remaining F.Shared.shared F.Shared.back)
+        (storing_of (F.view files.old) (F.view files.new)) (spelled words.now)
         (W.contents out.old) (W.contents out.new) }
     ensures nothing { result ≡ 1 →
         FindsNone (held_in (F.view files.old))
         (saved_in (F.sent files.new) (F.view files.old) (F.view files.new))
-        (keeping_of F.Shared.Reader.remaining F.Shared.shared F.Shared.back) (spelled words.now)
+        (keeping_of F.Shared.Reader.remaining F.Shared.shared F.Shared.back)
+        (storing_of (F.view files.old) (F.view files.new)) (spelled words.now)
         (W.contents out.old) (W.contents out.new) }
     ensures quiet { result ≢ 2 → Keeps (E.contents err.old) (E.contents err.new) }
     ensures refused { result ≡ 2 →
-        IsRefused (held_in (F.view files.old)) (spelled words.now)
+        IsRefused (held_in (F.view files.old))
+        (storing_of (F.view files.old) (F.view files.new)) (spelled words.now)
         (W.contents out.old) (W.contents out.new) (E.contents err.old) (E.contents err.new)
         ⊎ (FindsFaults (held_in (F.view files.old))
         (saved_in (F.sent files.new) (F.view files.old) (F.view files.new))
-        (keeping_of F.Shared.Reader.remaining F.Shared.shared F.Shared.back) (spelled words.now)
+        (keeping_of F.Shared.Reader.remaining F.Shared.shared F.Shared.back)
+        (storing_of (F.view files.old) (F.view files.new)) (spelled words.now)
         (W.contents out.old) (W.contents out.new) × Keeps (E.contents err.old) (E.contents err.new)) }
 
     // Only the file that the line asks for changes; if it was not saved, there is what was there.
     ensures files { (F.view files.new).honest
         → LeavesFilesOf (spelled words.now) (F.view files.old) (F.view files.new) }
+
+    // A stop at any moment leaves an archive as it was or with the whole change.
+    ensures kept { (F.view files.new).honest → KeepsArchiveOf (held_in (F.view files.old))
+        (spelled words.now) (F.view files.old) (F.view files.new) }
     ensures undone { result ≡ 2 → (F.view files.new).honest → AreUndone
         (held_in (F.view files.old)) (keeping_of F.Shared.Reader.remaining F.Shared.shared F.Shared.back)
         (spelled words.now) (F.view files.old) (F.view files.new) }
@@ -124,27 +138,34 @@ fn run<'a, R: Threads + Wait + Sync, F: Files, V: Watch, W: Write>(
         IsHelped (texts_of words.entry.now) (W.contents out.old) (W.contents out.new)
         ⊎ FindsSome (held_in (F.view files.old))
         (saved_in (F.sent files.new) (F.view files.old) (F.view files.new))
-        (keeping_of F.Shared.Reader.remaining F.Shared.shared F.Shared.back) (texts_of words.entry.now)
+        (keeping_of F.Shared.Reader.remaining F.Shared.shared F.Shared.back)
+        (storing_of (F.view files.old) (F.view files.new)) (texts_of words.entry.now)
         (W.contents out.old) (W.contents out.new)
         ⊎ FindsNoFault (held_in (F.view files.old))
         (saved_in (F.sent files.new) (F.view files.old) (F.view files.new))
-        (keeping_of F.Shared.Reader.remaining F.Shared.shared F.Shared.back) (texts_of words.entry.now)
+        (keeping_of F.Shared.Reader.remaining F.Shared.shared F.Shared.back)
+        (storing_of (F.view files.old) (F.view files.new)) (texts_of words.entry.now)
         (W.contents out.old) (W.contents out.new)) }
     ensures faults { IfOk result (λ status. status ≡ 2 →
         FindsFaults (held_in (F.view files.old))
         (saved_in (F.sent files.new) (F.view files.old) (F.view files.new))
-        (keeping_of F.Shared.Reader.remaining F.Shared.shared F.Shared.back) (texts_of words.entry.now)
+        (keeping_of F.Shared.Reader.remaining F.Shared.shared F.Shared.back)
+        (storing_of (F.view files.old) (F.view files.new)) (texts_of words.entry.now)
         (W.contents out.old) (W.contents out.new)) }
     ensures nothing { IfOk result (λ status. status ≡ 1 →
         FindsNone (held_in (F.view files.old))
         (saved_in (F.sent files.new) (F.view files.old) (F.view files.new))
-        (keeping_of F.Shared.Reader.remaining F.Shared.shared F.Shared.back) (texts_of words.entry.now)
+        (keeping_of F.Shared.Reader.remaining F.Shared.shared F.Shared.back)
+        (storing_of (F.view files.old) (F.view files.new)) (texts_of words.entry.now)
         (W.contents out.old) (W.contents out.new)) }
     ensures refused { IfErr result (IsRefusedFor (held_in (F.view files.old))
+        (storing_of (F.view files.old) (F.view files.new))
         (texts_of words.entry.now)
         (W.contents out.old) (W.contents out.new)) }
     ensures files { (F.view files.new).honest
         → LeavesFilesOf (texts_of words.entry.now) (F.view files.old) (F.view files.new) }
+    ensures kept { (F.view files.new).honest → KeepsArchiveOf (held_in (F.view files.old))
+        (texts_of words.entry.now) (F.view files.old) (F.view files.new) }
     ensures undone { OnErr result ((F.view files.new).honest → AreUndone
         (held_in (F.view files.old)) (keeping_of F.Shared.Reader.remaining F.Shared.shared F.Shared.back)
         (texts_of words.entry.now) (F.view files.old) (F.view files.new)) }
@@ -195,12 +216,16 @@ fn do_line<'a, R: Threads + Wait + Sync, F: Files, V: Watch, W: Write>(
 ) -> Result<usize, Refusal<'a>>
     ensures done { IfOk result (IsDone (held_in (F.view files.old))
         (saved_in (F.sent files.new) (F.view files.old) (F.view files.new))
-        (keeping_of F.Shared.Reader.remaining F.Shared.shared F.Shared.back) line.entry
+        (keeping_of F.Shared.Reader.remaining F.Shared.shared F.Shared.back)
+        (storing_of (F.view files.old) (F.view files.new)) line.entry
         (W.contents out.old) (W.contents out.new)) }
-    ensures refused { IfErr result (IsLineRefused (held_in (F.view files.old)) line.entry
+    ensures refused { IfErr result (IsLineRefused (held_in (F.view files.old))
+        (storing_of (F.view files.old) (F.view files.new)) line.entry
         (W.contents out.old) (W.contents out.new)) }
     ensures files { (F.view files.new).honest
         → LeavesFiles line.entry (F.view files.old) (F.view files.new) }
+    ensures kept { (F.view files.new).honest → KeepsArchive (held_in (F.view files.old)) line.entry
+        (F.view files.old) (F.view files.new) }
     ensures undone { OnErr result ((F.view files.new).honest → IsUndone
         (held_in (F.view files.old)) (keeping_of F.Shared.Reader.remaining F.Shared.shared F.Shared.back)
         line.entry (F.view files.old) (F.view files.new)) }
@@ -243,10 +268,17 @@ fn do_line<'a, R: Threads + Wait + Sync, F: Files, V: Watch, W: Write>(
         Line::Merge { index, inputs } => one_file(merge::run(rt, alloc, files, index, &inputs)),
         Line::Upgrade { old, new } => one_file(upgrade::run(rt, alloc, files, old, new)),
         Line::Check { paths } => check::run(rt, alloc, files, &paths, out),
+        Line::Add {
+            stop,
+            plan,
+            archive,
+            collection,
+        } => one_file(add::run(rt, alloc, files, watch, stop, &plan, archive, collection)),
+        Line::Remove { archive, names } => remove::run(alloc, files, archive, &names),
     }
 }
 
-/// How much a command has done that writes one file, or its refusal.
+/// How much a command has done that writes one file or changes one archive, or its refusal.
 fn one_file<'a>(done: Result<(), Refusal<'a>>) -> Result<usize, Refusal<'a>>
     ensures done { OnOk done.entry (result ≡ Ok 1) }
     ensures refused { IfErr done.entry (λ refusal. result ≡ Err refusal) }
@@ -275,6 +307,7 @@ fn answer_without_line<'a, W: Write>(
     match error {
         LineError::Clap(_) => Err(Refusal::Arguments),
         LineError::Both => Err(Refusal::Arguments),
+        LineError::NamesOrList => Err(Refusal::Arguments),
         LineError::Memory => Err(Refusal::Engine(EngineRefusal::Memory)),
     }
 }

@@ -1,6 +1,7 @@
 //! Index files, opened.
-ghost use Rattle.std.specs.Prelude.{IfOk, IfErr, IfSome};
+ghost use Rattle.std.specs.Prelude.{◌≡◌, true, IfOk, IfErr, IfSome};
 ghost use Rattle.ix_files.specs.Reading.{AreKnownOf, held_in};
+ghost use Rattle.ix_files.specs.Slots.{Nothing};
 ghost use Rattle.ix_command.specs.IndexFiles.{IsOpened, RefusesIndex};
 ghost use Rattle.ix_command.specs.Refusals.{IsUnread};
 
@@ -44,6 +45,19 @@ pub fn open_ranges<'a, F: Files>(files: &F, path: &'a str) -> Result<Option<F::R
             Err(error) => Err(Refusal::unread(path, error)),
         },
         Ok(_) => Ok(None),
+        Err(error) => Err(Refusal::unread(path, error)),
+    }
+}
+
+/// Whether a path leads to a folder.
+pub fn is_folder<'a, F: Files>(files: &F, path: &'a str) -> Result<bool, Refusal<'a>>
+    ensures no_file { IfOk result (λ folder. folder ≡ true → (F.view files.now).honest
+        → ((F.view files.now).slots ((F.view files.now).place path.entry.now)).now ≡ Nothing) }
+    ensures refused { IfErr result (IsUnread path.entry.now) }
+{
+    match files.kind(path) {
+        Ok(Kind::Folder) => Ok(true),
+        Ok(_) => Ok(false),
         Err(error) => Err(Refusal::unread(path, error)),
     }
 }

@@ -1,5 +1,7 @@
 //! The one line by which the program says why it refused.
 
+use ix_archive::{ArchiveError, ReadError};
+use ix_archive_writer::ChangeError;
 use ix_ask::{AskError, EngineRefusal, TrustError};
 use ix_files::FileError;
 use ix_live::LiveError;
@@ -31,11 +33,14 @@ pub enum Refusal<'a> {
     Script(ScriptError),
     /// The live index refused what a script asks for.
     Live(LiveError),
+    /// A folder is no archive, or one that is not as it must be, or it was not changed.
+    Archive(ArchiveError),
 }
 
 impl<'a> Refusal<'a> {
     ghost use Rattle.ix_command.specs.Refusals.{IsUnread, IsUnsaved, TellsLive, TellsStep, TellsTrusting};
     ghost use Rattle.ix_command.specs.Refusals.{TellsUnread, TellsUnsaved};
+    ghost use Rattle.ix_command.specs.StoredArchives.{TellsChange, TellsRead};
 
     /// The error of a file that was not written: `Memory`, or `Write` of its path.
     pub fn unsaved(path: &'a str, error: FileError) -> Refusal<'a>
@@ -66,6 +71,31 @@ impl<'a> Refusal<'a> {
         match error {
             TrustError::Read => Refusal::Read(path),
             TrustError::Ask(error) => Refusal::from(error),
+        }
+    }
+
+    /// The error of a call that reads the archive of this path.
+    pub fn of_reading(path: &'a str, error: ReadError) -> Refusal<'a>
+        ensures { TellsRead path.entry.now error result }
+    {
+        match error {
+            ReadError::Memory => Refusal::Engine(EngineRefusal::Memory),
+            ReadError::Read => Refusal::Read(path),
+            ReadError::Archive(error) => Refusal::Archive(error),
+            ReadError::Query(error) => Refusal::Engine(EngineRefusal::Query(error)),
+        }
+    }
+
+    /// The error of a call that changes the archive of this path.
+    pub fn of_change(path: &'a str, error: ChangeError) -> Refusal<'a>
+        ensures { TellsChange path.entry.now error result }
+    {
+        match error {
+            ChangeError::Memory => Refusal::Engine(EngineRefusal::Memory),
+            ChangeError::Read => Refusal::Read(path),
+            ChangeError::Write => Refusal::Write(path),
+            ChangeError::Build(error) => Refusal::Engine(EngineRefusal::Build(error)),
+            ChangeError::Archive(error) => Refusal::Archive(error),
         }
     }
 
@@ -114,6 +144,7 @@ impl fmt::Display for Refusal<'_> {
             Refusal::Locked(path) => write!(f, "file 5: Locked({path})"),
             Refusal::Script(error) => write!(f, "script {}: {error}", error.number()),
             Refusal::Live(error) => write!(f, "live {}: {error}", error.number()),
+            Refusal::Archive(error) => write!(f, "archive {}: {error}", error.number()),
         }
     }
 }

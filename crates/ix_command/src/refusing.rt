@@ -45,6 +45,7 @@ fn tell<E: Write>(alloc: Global, err: &mut E, refusal: &Refusal<'_>) -> Result<(
         Refusal::Engine(_) => tell_made(alloc, err, refusal),
         Refusal::Script(_) => tell_made(alloc, err, refusal),
         Refusal::Live(_) => tell_made(alloc, err, refusal),
+        Refusal::Archive(_) => tell_made(alloc, err, refusal),
     }
 }
 

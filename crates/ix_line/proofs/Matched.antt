@@ -12,7 +12,7 @@ use Rattle.ix_line.specs.Entered.{Entered}
 use Rattle.ix_line.specs.LineErrors.{SortsError}
 use Rattle.ix_line.specs.Lines.{IsMatched, Names, Refuses, RefusesRows}
 use Rattle.ix_line.specs.declared.error.LineError.{LineError}
-use Rattle.ix_line.specs.declared.error.LineError.TheVariants.{Both, Clap, Memory}
+use Rattle.ix_line.specs.declared.error.LineError.TheVariants.{Both, Clap, Memory, NamesOrList}
 use Rattle.ix_line.proofs.EachLemmas.{both}
 use Rattle.ix_line.proofs.NoFault.{entered_unless_fault, is_usual_app}
 
@@ -49,15 +49,16 @@ pub named : (words : List Text) (m : ArgMatches) → IsMatched words m → IsSom
 named words m is = subst (λ o. IsSomeAnd o (λ q. Entered ix_built q.0 q.1)) (sym is.1) (entered_unless_fault ix_app words ix_usual is.0)
 
 -- why a command's rows are no line is why the words are none
-pub refuses_named : (words : List Text) (name : Text) (rows : List Row) (e : LineError) → Names words name rows → RefusesRows rows e → Refuses words e
+pub refuses_named : (words : List Text) (name : Text) (rows : List Row) (e : LineError) → Names words name rows → RefusesRows name rows e → Refuses words e
 refuses_named words name rows (Clap error) names refuses = absurd refuses
 refuses_named words name rows Memory names refuses = tt
 refuses_named words name rows Both names refuses = (name, rows, names, refuses)
+refuses_named words name rows NamesOrList names refuses = (name, rows, names, refuses)
 
-pub rows_refused_up : {T : Type 0} (result : Result T LineError) (words : List Text) (name : Text) (rows : List Row) (e : LineError) → Names words name rows → RefusesRows rows e
+pub rows_refused_up : {T : Type 0} (result : Result T LineError) (words : List Text) (name : Text) (rows : List Row) (e : LineError) → Names words name rows → RefusesRows name rows e
     → IsErrAnd result (λ r. r ≡ e) → IfErr result (Refuses words)
 rows_refused_up (Ok x) words name rows e names refuses is = tt
-rows_refused_up (Err r) words name rows e names refuses is = refuses_named words name rows r names (subst (RefusesRows rows) (sym is) refuses)
+rows_refused_up (Err r) words name rows e names refuses is = refuses_named words name rows r names (subst (RefusesRows name rows) (sym is) refuses)
 
 pub is_there : {X : Type 0} (P : X → Type 0) (o : Option X) → IsSomeAnd o P → IsSome o
 is_there P None h = absurd h

@@ -22,11 +22,15 @@ flag_rule name = record (new_rule name) { long = Some name; action = Some SetTru
 abbrev pub operand_rule : Text → Rule
 operand_rule name = record (new_rule name) { required = true }
 
--- the words up to the end, of which one may not be left out
-abbrev pub operands_rule : Text → Rule
-operands_rule name = record (operand_rule name) {
+-- the words up to the end, which may all be left out
+abbrev pub words_rule : Text → Rule
+words_rule name = record (new_rule name) {
   range = Some (record { start_inclusive = 1; end_inclusive = usize_max });
 }
+
+-- the words up to the end, of which one may not be left out
+abbrev pub operands_rule : Text → Rule
+operands_rule name = record (words_rule name) { required = true }
 
 -- these rules behind those of a stop file and of a plan: `[--stop FILE] [--block N] [--bytes N] [--workers W]`
 abbrev pub with_plan_rules : List Rule → List Rule
@@ -54,6 +58,24 @@ build_shape = record (new_shape (codes "build")) {
       ∷ operand_rule (codes "COLLECTION")
       ∷ operand_rule (codes "INDEX")
       ∷ []);
+}
+
+-- `add [--stop FILE] [--block N] [--bytes N] [--workers W] ARCHIVE COLLECTION`
+abbrev pub add_shape : Shape
+add_shape = record (new_shape (codes "add")) {
+  rules = with_plan_rules (
+      operand_rule (codes "ARCHIVE")
+      ∷ operand_rule (codes "COLLECTION")
+      ∷ []);
+}
+
+-- `remove [--names FILE] ARCHIVE [NAME...]`
+abbrev pub remove_shape : Shape
+remove_shape = record (new_shape (codes "remove")) {
+  rules = option_rule (codes "names")
+      ∷ operand_rule (codes "ARCHIVE")
+      ∷ words_rule (codes "NAME")
+      ∷ [];
 }
 
 -- `live [--stop FILE] [--block N] [--bytes N] [--workers W] [--searchers S] SCRIPT`
@@ -139,6 +161,8 @@ ix_shapes =
     ∷ merge_shape
     ∷ upgrade_shape
     ∷ build_shape
+    ∷ add_shape
+    ∷ remove_shape
     ∷ live_shape
     ∷ []
 

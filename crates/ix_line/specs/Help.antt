@@ -6,7 +6,7 @@ use Rattle.clap.specs.Faults.{fault_of}
 use Rattle.clap.specs.Words.{IsAmong}
 use Rattle.clap.specs.declared.error.kind.ErrorKind.TheVariants.{DisplayHelp}
 use Rattle.ix_line.specs.Commands.{ix_app}
-use Rattle.ix_line.specs.declared.help.TheConstants.{HELP, HELP_ON_ASK, HELP_ON_BUILD, HELP_ON_CHECK, HELP_ON_LIVE, HELP_ON_MERGE, HELP_ON_RUN, HELP_ON_SEARCH, HELP_ON_TERMS, HELP_ON_UPGRADE}
+use Rattle.ix_line.specs.declared.help.TheConstants.{HELP, HELP_ON_ADD, HELP_ON_ASK, HELP_ON_BUILD, HELP_ON_CHECK, HELP_ON_LIVE, HELP_ON_MERGE, HELP_ON_REMOVE, HELP_ON_RUN, HELP_ON_SEARCH, HELP_ON_TERMS, HELP_ON_UPGRADE}
 
 -- `help X` is `X --help`
 abbrev pub as_flag : List Text → List Text
@@ -28,6 +28,8 @@ help_on_command name =
     if bytes_eq name (codes "merge") then HELP_ON_MERGE.now else
     if bytes_eq name (codes "upgrade") then HELP_ON_UPGRADE.now else
     if bytes_eq name (codes "build") then HELP_ON_BUILD.now else
+    if bytes_eq name (codes "add") then HELP_ON_ADD.now else
+    if bytes_eq name (codes "remove") then HELP_ON_REMOVE.now else
     if bytes_eq name (codes "live") then HELP_ON_LIVE.now else HELP.now
 
 -- the help that the first word asks for

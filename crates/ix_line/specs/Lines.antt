@@ -1,5 +1,5 @@
 -- Which line the words are, by the matches that `clap` defines for them.
-use Rattle.std.specs.Prelude.{◌≡◌, ◌↔◌, ◌^◌, ◌<◌, ◌≤◌, ℕ, Bool, List, [], IsSome, IsTrue, Option, None, Some, codes, find, map, option_and_then, option_map, pos}
+use Rattle.std.specs.Prelude.{◌≡◌, ◌↔◌, ◌⊎◌, ◌^◌, ◌<◌, ◌≤◌, ℕ, Bool, List, [], IsSome, IsTrue, Option, None, Some, codes, find, map, option_and_then, option_map, pos}
 use Rattle.std.specs.Option.{option_map_or}
 use Rattle.std.specs.Str.{bytes_eq}
 use Rattle.std.specs.Str.Parse.{digits_value, without_leading_plus}
@@ -19,9 +19,11 @@ use Rattle.ix_build.specs.declared.plan.Cut.{Cut}
 use Rattle.ix_build.specs.declared.plan.Cut.TheVariants.{Bytes, Docs}
 use Rattle.ix_line.specs.Commands.{ix_app}
 use Rattle.ix_line.specs.declared.line.Line.{Line}
-use Rattle.ix_line.specs.declared.line.Line.TheVariants.{Ask, Build, Check, Live, Merge, Run, Search, Terms, Upgrade}
+use Rattle.ix_line.specs.declared.line.Line.TheVariants.{Add, Ask, Build, Check, Live, Merge, Remove, Run, Search, Terms, Upgrade}
+use Rattle.ix_line.specs.declared.removed.Removed.{Removed}
+use Rattle.ix_line.specs.declared.removed.Removed.TheVariants as removed
 use Rattle.ix_line.specs.declared.error.LineError.{LineError}
-use Rattle.ix_line.specs.declared.error.LineError.TheVariants.{Both, Clap, Memory}
+use Rattle.ix_line.specs.declared.error.LineError.TheVariants.{Both, Clap, Memory, NamesOrList}
 
 -- the words behind references
 abbrev pub texts_of : List (Bor Text) → List Text
@@ -48,6 +50,11 @@ source_of id rows = option_and_then (λ r. r.source) (find (λ r. bytes_eq r.id 
 -- whether the words give a flag
 abbrev pub HasFlag : Text → List Row → Bool → Type 0
 HasFlag id rows field = IsTrue field ↔ (source_of id rows ≡ Some CommandLine)
+
+-- the words give names, or the option `--names` with a file of them, and not both
+abbrev pub HasRemoved : List Row → Removed → Type 0
+HasRemoved rows (removed.Names names) = HasOperands (codes "NAME") rows names.items × (first_of (codes "names") rows ≡ None)
+HasRemoved rows (removed.List path) = HasOperand (codes "names") rows path × (all_of (codes "NAME") rows ≡ None)
 
 -- the number that a text is written as
 abbrev pub number_of : Text → ℕ
@@ -91,9 +98,23 @@ pub record HasPlan (rows : List Row) (folder : Option Text) (plan : PlanValue) :
   pub workers : HasNumberOr (codes "workers") 4 rows plan.workers
   pub folder_is : plan.folder ≡ folder
 
--- `--block` stands beside `--bytes`
+-- ---- options and operands that exclude each other
+
+-- the words give `--block` and `--bytes`
 abbrev pub HasBoth : List Row → Type 0
 HasBoth rows = IsSome (one_of (codes "block") rows) × IsSome (one_of (codes "bytes") rows)
+
+-- the words give a name and `--names`, or neither
+abbrev pub HasNamesTwiceOrNever : List Row → Type 0
+HasNamesTwiceOrNever rows = (IsSome (all_of (codes "NAME") rows) × IsSome (first_of (codes "names") rows))
+    ⊎ ((all_of (codes "NAME") rows ≡ None) × (first_of (codes "names") rows ≡ None))
+
+-- the error is a conflict in what the words give to the command of this name
+abbrev pub IsConflict : Text → List Row → LineError → Type 0
+IsConflict name rows (Clap e) = ⊥
+IsConflict name rows Memory = ⊥
+IsConflict name rows Both = HasBoth rows
+IsConflict name rows NamesOrList = (name ≡ codes "remove") × HasNamesTwiceOrNever rows
 
 -- ---- a line
 
@@ -109,6 +130,14 @@ Holds name rows (Build stop plan collection index) = (name ≡ codes "build")
     × HasPlan rows (first_of (codes "runs") rows) plan
     × HasOperand (codes "COLLECTION") rows collection
     × HasOperand (codes "INDEX") rows index
+Holds name rows (Add stop plan archive collection) = (name ≡ codes "add")
+    × HasText (codes "stop") rows stop
+    × HasPlan rows None plan
+    × HasOperand (codes "ARCHIVE") rows archive
+    × HasOperand (codes "COLLECTION") rows collection
+Holds name rows (Remove archive names) = (name ≡ codes "remove")
+    × HasOperand (codes "ARCHIVE") rows archive
+    × HasRemoved rows names
 Holds name rows (Live stop plan searchers script) = (name ≡ codes "live")
     × HasText (codes "stop") rows stop
     × HasPlan rows None plan
@@ -142,26 +171,25 @@ abbrev pub Names : List Text → Text → List Row → Type 0
 Names words name rows =
     (fault_of ix_app words ≡ []) × (subcommand_of ix_app words ≡ Some (name, rows))
 
--- the words name a command, and `--block` stands beside `--bytes`
-abbrev pub CutsTwice : List Text → Type 0
-CutsTwice words = (name : Text) × (rows : List Row) × Names words name rows × HasBoth rows
+-- the words name a command, and the error is a conflict in what they give to it
+abbrev pub Conflicts : List Text → LineError → Type 0
+Conflicts words e = (name : Text) × (rows : List Row) × Names words name rows × IsConflict name rows e
 
--- the error tells why a command's rows are no line
-abbrev pub RefusesRows : List Row → LineError → Type 0
-RefusesRows rows (Clap e) = ⊥
-RefusesRows rows Memory = Unit {0}
-RefusesRows rows Both = HasBoth rows
+-- the error is why a command's rows are no line: memory ran out, or they have a conflict
+abbrev pub RefusesRows : Text → List Row → LineError → Type 0
+RefusesRows name rows Memory = Unit {0}
+RefusesRows name rows e = IsConflict name rows e
 
 -- the words are the line
 abbrev pub Reads : List Text → Line → Type 0
 Reads words line =
     (name : Text) × (rows : List Row) × Names words name rows × Holds name rows line
 
--- the error has one of the kinds of `clap`'s faults of the words, or says that `--block` stands beside `--bytes`
+-- the error has one of the kinds of `clap`'s faults of the words, memory ran out, or what they give to a command has a conflict
 abbrev pub Refuses : List Text → LineError → Type 0
 Refuses words (Clap e) = IsAmong (kind_of e) (fault_of ix_app words)
 Refuses words Memory = Unit {0}
-Refuses words Both = CutsTwice words
+Refuses words e = Conflicts words e
 
 -- the matches of words with no fault
 abbrev pub IsMatched : List Text → ArgMatches → Type 0

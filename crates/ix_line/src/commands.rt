@@ -3,7 +3,7 @@ ghost use Rattle.std.specs.Prelude.{◌≡◌, IfOk, map};
 ghost use Rattle.clap.specs.Words.{app_of};
 ghost use Rattle.ix_line.specs.Building.{IsArgument, IsCommand};
 ghost use Rattle.ix_line.specs.Commands.{flag_rule, ix_app, ix_shapes, leaf, number_rule, operand_rule};
-ghost use Rattle.ix_line.specs.Commands.{operands_rule, option_rule, program};
+ghost use Rattle.ix_line.specs.Commands.{option_rule, program, words_rule};
 ghost use Rattle.ix_line.specs.Forms.{rule_of_argument, shape_of_form};
 
 use clap::builder::ValueParser;
@@ -36,6 +36,8 @@ pub(crate) enum Argument {
     Operand(&'static str),
     /// The words up to the end, of which one has to be there.
     Operands(&'static str),
+    /// The same, but there may be none.
+    Words(&'static str),
 }
 
 /// A command: its name and its arguments.
@@ -44,12 +46,118 @@ pub(crate) struct Form {
     pub(crate) arguments: &'static [Argument],
 }
 
+const ASK: Form = Form {
+    name: "ask",
+    arguments: &[
+        Argument::Text("stop"),
+        Argument::Number("block", 1, MOST_DOCUMENTS),
+        Argument::Number("bytes", 1, MOST_BYTES),
+        Argument::Number("workers", 1, MAX_WORKERS),
+        Argument::Operand("COLLECTION"),
+        Argument::Operand("QUERY"),
+    ],
+};
+
+const SEARCH: Form = Form {
+    name: "search",
+    arguments: &[
+        Argument::Flag("trust"),
+        Argument::Operand("INDEX"),
+        Argument::Operand("QUERY"),
+    ],
+};
+
+const TERMS: Form = Form {
+    name: "terms",
+    arguments: &[
+        Argument::Flag("trust"),
+        Argument::Operand("INDEX"),
+        Argument::Operand("PATTERN"),
+    ],
+};
+
+const CHECK: Form = Form {
+    name: "check",
+    arguments: &[Argument::Operands("INDEX")],
+};
+
+const RUN: Form = Form {
+    name: "run",
+    arguments: &[
+        Argument::Text("stop"),
+        Argument::Number("first", 0, MOST_DOCUMENTS),
+        Argument::Operand("COLLECTION"),
+        Argument::Operand("RUN"),
+    ],
+};
+
+const MERGE: Form = Form {
+    name: "merge",
+    arguments: &[Argument::Operand("INDEX"), Argument::Operands("INPUT")],
+};
+
+const UPGRADE: Form = Form {
+    name: "upgrade",
+    arguments: &[Argument::Operand("OLD"), Argument::Operand("NEW")],
+};
+
+const BUILD: Form = Form {
+    name: "build",
+    arguments: &[
+        Argument::Text("stop"),
+        Argument::Number("block", 1, MOST_DOCUMENTS),
+        Argument::Number("bytes", 1, MOST_BYTES),
+        Argument::Number("workers", 1, MAX_WORKERS),
+        Argument::Text("runs"),
+        Argument::Operand("COLLECTION"),
+        Argument::Operand("INDEX"),
+    ],
+};
+
+const ADD: Form = Form {
+    name: "add",
+    arguments: &[
+        Argument::Text("stop"),
+        Argument::Number("block", 1, MOST_DOCUMENTS),
+        Argument::Number("bytes", 1, MOST_BYTES),
+        Argument::Number("workers", 1, MAX_WORKERS),
+        Argument::Operand("ARCHIVE"),
+        Argument::Operand("COLLECTION"),
+    ],
+};
+
+const REMOVE: Form = Form {
+    name: "remove",
+    arguments: &[
+        Argument::Text("names"),
+        Argument::Operand("ARCHIVE"),
+        Argument::Words("NAME"),
+    ],
+};
+
+const LIVE: Form = Form {
+    name: "live",
+    arguments: &[
+        Argument::Text("stop"),
+        Argument::Number("block", 1, MOST_DOCUMENTS),
+        Argument::Number("bytes", 1, MOST_BYTES),
+        Argument::Number("workers", 1, MAX_WORKERS),
+        Argument::Number("searchers", 1, MAX_SEARCHERS),
+        Argument::Operand("SCRIPT"),
+    ],
+};
+
+/// The commands.
+const FORMS: [Form; 11] = [
+    ASK, SEARCH, TERMS, CHECK, RUN, MERGE, UPGRADE, BUILD, ADD, REMOVE, LIVE,
+];
+
 /// The program.
 pub fn ix<'a>(alloc: Global) -> Result<Command<'a>, AllocError>
     ensures { IfOk result (λ r. app_of r ≡ ix_app) }
 {
-    let forms = forms();
     let mut commands = Vec::new(alloc);
+    let forms = forms();
     for form in forms {
         commands.push(command(alloc, form)?)?;
     }
@@ -57,83 +165,11 @@ pub fn ix<'a>(alloc: Global) -> Result<Command<'a>, AllocError>
     Ok(made)
 }
 
-// The commands, in the order of the program's help.
+// The commands, in the order of the table.
 fn forms() -> &'static [Form]
     ensures { map shape_of_form result.now ≡ ix_shapes }
 {
-    &[
-        Form {
-            name: "ask",
-            arguments: &[
-                Argument::Text("stop"),
-                Argument::Number("block", 1, MOST_DOCUMENTS),
-                Argument::Number("bytes", 1, MOST_BYTES),
-                Argument::Number("workers", 1, MAX_WORKERS),
-                Argument::Operand("COLLECTION"),
-                Argument::Operand("QUERY"),
-            ],
-        },
-        Form {
-            name: "search",
-            arguments: &[
-                Argument::Flag("trust"),
-                Argument::Operand("INDEX"),
-                Argument::Operand("QUERY"),
-            ],
-        },
-        Form {
-            name: "terms",
-            arguments: &[
-                Argument::Flag("trust"),
-                Argument::Operand("INDEX"),
-                Argument::Operand("PATTERN"),
-            ],
-        },
-        Form {
-            name: "check",
-            arguments: &[Argument::Operands("INDEX")],
-        },
-        Form {
-            name: "run",
-            arguments: &[
-                Argument::Text("stop"),
-                Argument::Number("first", 0, MOST_DOCUMENTS),
-                Argument::Operand("COLLECTION"),
-                Argument::Operand("RUN"),
-            ],
-        },
-        Form {
-            name: "merge",
-            arguments: &[Argument::Operand("INDEX"), Argument::Operands("INPUT")],
-        },
-        Form {
-            name: "upgrade",
-            arguments: &[Argument::Operand("OLD"), Argument::Operand("NEW")],
-        },
-        Form {
-            name: "build",
-            arguments: &[
-                Argument::Text("stop"),
-                Argument::Number("block", 1, MOST_DOCUMENTS),
-                Argument::Number("bytes", 1, MOST_BYTES),
-                Argument::Number("workers", 1, MAX_WORKERS),
-                Argument::Text("runs"),
-                Argument::Operand("COLLECTION"),
-                Argument::Operand("INDEX"),
-            ],
-        },
-        Form {
-            name: "live",
-            arguments: &[
-                Argument::Text("stop"),
-                Argument::Number("block", 1, MOST_DOCUMENTS),
-                Argument::Number("bytes", 1, MOST_BYTES),
-                Argument::Number("workers", 1, MAX_WORKERS),
-                Argument::Number("searchers", 1, MAX_SEARCHERS),
-                Argument::Operand("SCRIPT"),
-            ],
-        },
-    ]
+    &FORMS
 }
 
 // The program without a command.
@@ -167,7 +203,8 @@ fn arg<'a>(alloc: Global, argument: &Argument) -> Arg<'a>
         Argument::Number(name, low, high) => number_option(alloc, name, *low, *high),
         Argument::Flag(name) => flag(alloc, name),
         Argument::Operand(name) => operand(alloc, name),
-        Argument::Operands(name) => operands(alloc, name),
+        Argument::Operands(name) => words(alloc, name).required(true),
+        Argument::Words(name) => words(alloc, name),
     }
 }
 
@@ -199,8 +236,8 @@ fn operand<'a>(alloc: Global, name: &'a str) -> Arg<'a>
     Arg::new(alloc, name).required(true)
 }
 
-fn operands<'a>(alloc: Global, name: &'a str) -> Arg<'a>
-    ensures { IsArgument (operands_rule name.entry.now) result }
+fn words<'a>(alloc: Global, name: &'a str) -> Arg<'a>
+    ensures { IsArgument (words_rule name.entry.now) result }
 {
-    Arg::new(alloc, name).num_args(1..).required(true)
+    Arg::new(alloc, name).num_args(1..)
 }

@@ -16,9 +16,12 @@ pub enum LineError {
     /// Memory ran out.
     #[error("Memory")]
     Memory,
-    /// `--block` stands beside `--bytes`.
+    /// `--block` is given together with `--bytes`.
     #[error("Both")]
     Both,
+    /// A name to be removed is given together with `--names`, or neither is given.
+    #[error("NamesOrList")]
+    NamesOrList,
 }
 
 impl LineError {
@@ -30,6 +33,7 @@ impl LineError {
             LineError::Clap(_) => 1,
             LineError::Memory => 2,
             LineError::Both => 3,
+            LineError::NamesOrList => 4,
         }
     }
 

@@ -1,8 +1,8 @@
 //! One field of a line, read from the matches of its command.
-ghost use Rattle.std.specs.Prelude.{◌≡◌, ◌↔◌, IfOk, IfSome, IsSome, IsTrue};
+ghost use Rattle.std.specs.Prelude.{◌≡◌, ◌↔◌, IfOk, IfSome, IsSome, IsTrue, option_map};
 ghost use Rattle.clap.specs.Words.{all_of, first_of, found_of, one_of, rows_of};
 ghost use Rattle.ix_line.specs.Lines.{HasFlag, HasNumberOr, HasOperand, HasOperands, HasText};
-ghost use Rattle.ix_line.specs.Lines.{IsNumberText, given_number};
+ghost use Rattle.ix_line.specs.Lines.{IsNumberText, given_number, texts_of};
 
 use clap::ArgMatches;
 use clap::parser::ValueSource;
@@ -51,6 +51,13 @@ pub fn operand<'a>(matches: &ArgMatches<'a>, id: &str) -> &'a str
     matches.get_str(id).unwrap()
 }
 
+/// The words that an operand takes up to the end, or none if there are no such words.
+pub fn several<'m, 'a>(matches: &'m ArgMatches<'a>, id: &str) -> Option<&'m [&'a str]>
+    ensures { option_map (λ list. texts_of list.now) result ≡ all_of id.now (rows_of (found_of matches.now)) }
+{
+    matches.get_strs(id)
+}
+
 /// The operands that the words give up to their end.
 pub fn operands<'a>(
     alloc: Global,
@@ -61,5 +68,5 @@ pub fn operands<'a>(
     ensures { IfOk result (λ list.
         HasOperands id.now (rows_of (found_of matches.now)) list.items) }
 {
-    Vec::from_slice(alloc, matches.get_strs(id).unwrap())
+    Vec::from_slice(alloc, several(matches, id).unwrap())
 }

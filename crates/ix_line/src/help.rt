@@ -17,10 +17,14 @@ Commands, in the order in which they are met:
             ix ask examples/mail.txt 'contract AND NOT hotel'
   build     builds an index of a collection, to be searched as often as one likes
             ix build examples/mail.txt mail.ix
-  search    prints the names of the documents of an index that answer a query
+  search    prints the names of the documents of an index or an archive that answer a query
             ix search mail.ix 'contract AND NOT hotel'
   terms     prints the terms of an index that match a pattern
             ix terms mail.ix 'contr*'
+  add       adds the documents of a collection to an archive, a folder that grows
+            ix add mail.archive examples/mail.txt
+  remove    removes documents from an archive, by their names
+            ix remove mail.archive 2026-03-06/anna-3
   check     looks for damage in index files, and prints what it finds
             ix check mail.ix
   run       inverts a part of a collection into a run file, to be merged elsewhere
@@ -127,6 +131,76 @@ Examples:
   mkdir runs; ix build --runs runs examples/mail.txt mail.ix
 ";
 
+/// What `ix add --help` prints.
+pub const HELP_ON_ADD: &str = "\
+Adds the documents of a collection to an archive: a folder that grows, and that is searched
+as an index is.
+
+Usage: ix add [--stop FILE] [--block N] [--bytes N] [--workers W] ARCHIVE COLLECTION
+
+  ARCHIVE        the folder of the archive; a path that does not exist, or an empty
+                 folder, becomes an archive
+  COLLECTION     the file of documents; `-` is the standard input
+  --stop FILE    a file of words to leave out, one a line: those of an archive are the
+                 ones of its first call; without it they are used again
+  --block N      at most how many documents are inverted at a time,
+                 from 1 to 268435456; without it 1024
+  --bytes N      in place of --block: documents are inverted at a time until their
+                 texts have this many bytes, from 1 to 268435456
+  --workers W    how many threads invert them, from 1 to 64; without it 4
+
+The documents come behind those of the archive. All documents of a call are added, or none:
+so it is after an error, and if the program is killed or the machine loses power at any
+moment. After status 0 they are in the archive, whatever happens then.
+
+Documents of one name may be added again and again, and all of them are there. To replace
+documents, remove their names first.
+
+A collection is a text in which each line is a document:
+its name, a TAB, and its text.
+
+Nothing is printed.
+
+Exit status: 0 the documents were added, or help was asked for; 2 refused, and one line
+on the error output says why.
+
+Examples:
+  ix add mail.archive examples/mail.txt
+  ix search mail.archive 'contract AND NOT hotel'
+  ix add --stop examples/stop.txt letters.archive examples/mail.txt
+";
+
+/// What `ix remove --help` prints.
+pub const HELP_ON_REMOVE: &str = "\
+Removes documents from an archive: all documents of these names that are in it now.
+
+Usage: ix remove ARCHIVE NAME...
+       ix remove --names FILE ARCHIVE
+
+  ARCHIVE         the folder of the archive
+  NAME...         the names of the documents, one or more
+  --names FILE    in place of NAME...: a file of names, one a line; `-` is the standard
+                  input
+
+A document that is added later under one of these names is there. A name of which there is
+no document is passed over, and so is an empty line of FILE.
+
+All of these documents are removed, or none: so it is after an error, and if the program is
+killed or the machine loses power at any moment. After status 0 they are removed, whatever
+happens then.
+
+Nothing is printed.
+
+Exit status: 0 documents were removed, or help was asked for; 1 there is no document of
+these names, and the archive is as it was; 2 refused, and one line on the error output
+says why.
+
+Examples:
+  ix remove mail.archive 2026-03-06/anna-3
+  ix remove mail.archive -- -draft
+  cut -f 1 new.txt | ix remove --names - mail.archive; ix add mail.archive new.txt
+";
+
 /// What `ix live --help` prints.
 pub const HELP_ON_LIVE: &str = "\
 Carries out a script on a live index, which is searched while it grows.
@@ -172,21 +246,26 @@ Example, of a script of five lines in the file mail.live:
 
 /// What `ix search --help` prints.
 pub const HELP_ON_SEARCH: &str = "\
-Prints the names of the documents of an index that answer a query, one a line.
+Prints the names of the documents of an index or an archive that answer a query, one a
+line.
 
 Usage: ix search [--trust] INDEX QUERY
 
-  INDEX          the file of the index; `-` is the standard input
+  INDEX          the file of the index, or the folder of an archive; `-` is the standard
+                 input
   QUERY          the query, as one argument
   --trust        read only the parts of INDEX that the query needs, and trust the rest
 
 The words that were left out of the index are no words of a query either.
 
-Without --trust every byte of the index is checked, and an index that is damaged anywhere
+Without --trust every byte of an index file is checked, and a file that is damaged anywhere
 is an error. With --trust only what the query needs is read, so that a search of a large
 index takes milliseconds; damage in a part that is not read is not noticed. Use it for
 files that ix wrote and that are kept well: `ix check` looks at a whole file.
 `-`, a pipe and a device are always read whole, with or without --trust.
+
+Of an archive only what the query needs is read, with or without --trust, since its files
+stay as ix wrote them.
 
 What can be asked:
   fox               documents that hold the word, in any case
@@ -205,6 +284,7 @@ Examples:
   ix search mail.ix 'contract AND NOT hotel'
   ix search mail.ix '\"flights to london\" OR umbrella NEAR/3 station'
   ix search --trust mail.ix contract
+  ix search mail.archive contract
 ";
 
 /// What `ix terms --help` prints.
@@ -367,6 +447,8 @@ fn help_on_command(name: &str) -> &'static str
         "merge" => HELP_ON_MERGE,
         "upgrade" => HELP_ON_UPGRADE,
         "build" => HELP_ON_BUILD,
+        "add" => HELP_ON_ADD,
+        "remove" => HELP_ON_REMOVE,
         "live" => HELP_ON_LIVE,
         _ => HELP,
     }

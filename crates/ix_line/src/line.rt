@@ -9,6 +9,7 @@ use crate::commands;
 use crate::error::LineError;
 use crate::fields::{flag, number_or, operand, operands, option};
 use crate::plan::{read_plan, runs_in};
+use crate::removed::{Removed, read_removed};
 use crate::searchers::{Searchers, read_searchers};
 use clap::ArgMatches;
 use ix_build::{Plan, Runs};
@@ -41,6 +42,25 @@ pub enum Line<'a> {
         /// The index file to be written.
         index: &'a str,
     },
+    /// `ix add [--stop FILE] [--block N] [--bytes N] [--workers W] ARCHIVE COLLECTION`.
+    Add {
+        /// The file of stop words, if one is named.
+        stop: Option<&'a str>,
+        /// How the collection is cut into blocks, and by how many workers these are made; runs are
+        /// kept in memory.
+        plan: Plan,
+        /// The folder of the archive.
+        archive: &'a str,
+        /// The file of documents.
+        collection: &'a str,
+    },
+    /// `ix remove ARCHIVE NAME...` or `ix remove --names FILE ARCHIVE`.
+    Remove {
+        /// The folder of the archive.
+        archive: &'a str,
+        /// The names whose documents are removed.
+        names: Removed<'a>,
+    },
     /// `ix live [--stop FILE] [--block N] [--bytes N] [--workers W] [--searchers S] SCRIPT`.
     Live {
         /// The file of stop words, where one is named.
@@ -54,11 +74,12 @@ pub enum Line<'a> {
     },
     /// `ix search [--trust] INDEX QUERY`.
     Search {
-        /// The file of the index.
+        /// The file of the index, or the folder of an archive.
         index: &'a str,
         /// The text of the query.
         query: &'a str,
-        /// Whether only what the query needs is read of the index.
+        /// Whether only what the query needs is read of an index file. Of an archive no more is
+        /// read in any case.
         trust: bool,
     },
     /// `ix terms [--trust] INDEX PATTERN`.
@@ -104,8 +125,10 @@ pub enum Line<'a> {
 
 /// Reads the words after the program's name.
 ///
-/// Fails with `Clap` where `clap` refuses the words or they ask for help, with `Both` where
-/// `--block` stands beside `--bytes`, and with `Memory` where memory runs out.
+/// # Errors
+/// `Clap` if `clap` rejects the words or they ask for help, `Both` if `--block` is given together
+/// with `--bytes`, `NamesOrList` if a name to be removed is given together with `--names` or neither
+/// is given, and `Memory` if memory ran out.
 pub fn read_line<'a>(alloc: Global, words: &'a [&'a str]) -> Result<Line<'a>, LineError>
     ensures ok { IfOk result (Reads (texts_of words.entry.now)) }
     ensures err { IfErr result (Refuses (texts_of words.entry.now)) }
@@ -138,12 +161,14 @@ fn entered<'m, 'a>(matches: &'m ArgMatches<'a>) -> (&'a str, &'m ArgMatches<'a>)
 fn line_of<'a>(alloc: Global, name: &str, matches: &ArgMatches<'a>) -> Result<Line<'a>, LineError>
     requires { Entered ix_built name.now (rows_of (found_of matches.now)) }
     ensures line { IfOk result (Holds name.now (rows_of (found_of matches.now))) }
-    ensures refused { IfErr result (RefusesRows (rows_of (found_of matches.now))) }
+    ensures refused { IfErr result (RefusesRows name.now (rows_of (found_of matches.now))) }
 {
     match name {
         "ask" => ask_line(matches),
         "build" => build_line(alloc, matches),
         "live" => live_line(matches),
+        "add" => add_line(matches),
+        "remove" => remove_line(alloc, matches),
         "search" => Ok(search_line(matches)),
         "terms" => Ok(terms_line(matches)),
         "check" => check_line(alloc, matches),
@@ -157,7 +182,7 @@ fn line_of<'a>(alloc: Global, name: &str, matches: &ArgMatches<'a>) -> Result<Li
 fn ask_line<'a>(matches: &ArgMatches<'a>) -> Result<Line<'a>, LineError>
     requires { Entered ix_built (codes "ask") (rows_of (found_of matches.now)) }
     ensures line { IfOk result (Holds (codes "ask") (rows_of (found_of matches.now))) }
-    ensures refused { IfErr result (RefusesRows (rows_of (found_of matches.now))) }
+    ensures refused { IfErr result (RefusesRows (codes "ask") (rows_of (found_of matches.now))) }
 {
     let Some(plan) = read_plan(matches, Runs::Memory) else {
         return Err(LineError::Both);
@@ -173,7 +198,7 @@ fn ask_line<'a>(matches: &ArgMatches<'a>) -> Result<Line<'a>, LineError>
 fn build_line<'a>(alloc: Global, matches: &ArgMatches<'a>) -> Result<Line<'a>, LineError>
     requires { Entered ix_built (codes "build") (rows_of (found_of matches.now)) }
     ensures line { IfOk result (Holds (codes "build") (rows_of (found_of matches.now))) }
-    ensures refused { IfErr result (RefusesRows (rows_of (found_of matches.now))) }
+    ensures refused { IfErr result (RefusesRows (codes "build") (rows_of (found_of matches.now))) }
 {
     let runs = runs_in(alloc, option(matches, "runs"))?;
     let Some(plan) = read_plan(matches, runs) else {
@@ -190,10 +215,39 @@ fn build_line<'a>(alloc: Global, matches: &ArgMatches<'a>) -> Result<Line<'a>, L
     })
 }
 
+fn add_line<'a>(matches: &ArgMatches<'a>) -> Result<Line<'a>, LineError>
+    requires { Entered ix_built (codes "add") (rows_of (found_of matches.now)) }
+    ensures line { IfOk result (Holds (codes "add") (rows_of (found_of matches.now))) }
+    ensures refused { IfErr result (RefusesRows (codes "add") (rows_of (found_of matches.now))) }
+{
+    let Some(plan) = read_plan(matches, Runs::Memory) else {
+        return Err(LineError::Both);
+    };
+    let stop = option(matches, "stop");
+    let archive = operand(matches, "ARCHIVE");
+    let collection = operand(matches, "COLLECTION");
+    Ok(Line::Add {
+        stop,
+        plan,
+        archive,
+        collection,
+    })
+}
+
+fn remove_line<'a>(alloc: Global, matches: &ArgMatches<'a>) -> Result<Line<'a>, LineError>
+    requires { Entered ix_built (codes "remove") (rows_of (found_of matches.now)) }
+    ensures line { IfOk result (Holds (codes "remove") (rows_of (found_of matches.now))) }
+    ensures refused { IfErr result (RefusesRows (codes "remove") (rows_of (found_of matches.now))) }
+{
+    let names = read_removed(alloc, matches)?;
+    let archive = operand(matches, "ARCHIVE");
+    Ok(Line::Remove { archive, names })
+}
+
 fn live_line<'a>(matches: &ArgMatches<'a>) -> Result<Line<'a>, LineError>
     requires { Entered ix_built (codes "live") (rows_of (found_of matches.now)) }
     ensures line { IfOk result (Holds (codes "live") (rows_of (found_of matches.now))) }
-    ensures refused { IfErr result (RefusesRows (rows_of (found_of matches.now))) }
+    ensures refused { IfErr result (RefusesRows (codes "live") (rows_of (found_of matches.now))) }
 {
     let Some(plan) = read_plan(matches, Runs::Memory) else {
         return Err(LineError::Both);
@@ -231,7 +285,7 @@ fn terms_line<'a>(matches: &ArgMatches<'a>) -> Line<'a>
 fn check_line<'a>(alloc: Global, matches: &ArgMatches<'a>) -> Result<Line<'a>, LineError>
     requires { Entered ix_built (codes "check") (rows_of (found_of matches.now)) }
     ensures line { IfOk result (Holds (codes "check") (rows_of (found_of matches.now))) }
-    ensures refused { IfErr result (RefusesRows (rows_of (found_of matches.now))) }
+    ensures refused { IfErr result (RefusesRows (codes "check") (rows_of (found_of matches.now))) }
 {
     let paths = operands(alloc, matches, "INDEX")?;
     Ok(Line::Check { paths })
@@ -256,7 +310,7 @@ fn run_line<'a>(matches: &ArgMatches<'a>) -> Line<'a>
 fn merge_line<'a>(alloc: Global, matches: &ArgMatches<'a>) -> Result<Line<'a>, LineError>
     requires { Entered ix_built (codes "merge") (rows_of (found_of matches.now)) }
     ensures line { IfOk result (Holds (codes "merge") (rows_of (found_of matches.now))) }
-    ensures refused { IfErr result (RefusesRows (rows_of (found_of matches.now))) }
+    ensures refused { IfErr result (RefusesRows (codes "merge") (rows_of (found_of matches.now))) }
 {
     let index = operand(matches, "INDEX");
     let inputs = operands(alloc, matches, "INPUT")?;

@@ -1,5 +1,6 @@
 //! Files in memory, and what a session says of them.
 
+use super::session::tell_bytes;
 use ix_files::MemoryFiles;
 use std::alloc::Global;
 use std::io;
@@ -21,9 +22,10 @@ impl Disk {
         Ok(Disk { alloc, files })
     }
 
-    /// Does what a command says of a path, or of a number, and what stands behind it: `put` gives the file spelled bytes, `cmp`
-    /// tells whether it differs from another one, and `size` how many bytes it has; `fail` lets the call of files of this
-    /// number, from 1 and from now on, fail, for want of memory if `Memory` stands behind it, and `room` lets a writer take so many bytes.
+    /// Does what a command says of a path, of a folder, or of a number, and what stands behind it: `put` gives the file spelled
+    /// bytes, `cmp` tells whether it differs from another one, and `size` how many bytes it has; `add-file` puts an empty file
+    /// of this name into the folder, and `show` tells what is in one; `fail` lets the call of files of this number, from 1 and
+    /// from now on, fail, for want of memory if `Memory` stands behind it, and `room` lets a writer take so many bytes.
     pub(super) fn tell(
         &mut self,
         command: &str,
@@ -33,6 +35,8 @@ impl Disk {
         let (first, more) = rest.split_once(' ').unwrap_or((rest, ""));
         match command {
             "put" => Ok(self.files.put(first, &bytes_of(self.alloc, more)?)?),
+            "add-file" => Ok(self.files.put_at(first, more, b"")?),
+            "show" => self.show(first, more, told),
             "fail" => {
                 self.files.fail_at(first.parse()?, more == "Memory");
                 Ok(())
@@ -43,6 +47,15 @@ impl Disk {
             }
             _ => self.tell_file(command, first, more, told),
         }
+    }
+
+    /// Tells the text of a file in a folder.
+    fn show(&self, folder: &str, name: &str, told: &mut String) -> Result<(), Fail> {
+        let bytes = self
+            .files
+            .bytes_at(folder, name)
+            .unwrap_or(b"no such file\n");
+        tell_bytes(bytes, told)
     }
 
     /// Tells how many bytes a file has, or whether it differs from another one.

@@ -3,8 +3,9 @@
 use super::disk::Disk;
 use super::session::{tell, words_of};
 use ix_line::{
-    HELP, HELP_ON_ASK, HELP_ON_BUILD, HELP_ON_CHECK, HELP_ON_LIVE, HELP_ON_MERGE, HELP_ON_RUN,
-    HELP_ON_SEARCH, HELP_ON_TERMS, HELP_ON_UPGRADE, Line, LineError, read_line,
+    HELP, HELP_ON_ADD, HELP_ON_ASK, HELP_ON_BUILD, HELP_ON_CHECK, HELP_ON_LIVE, HELP_ON_MERGE,
+    HELP_ON_REMOVE, HELP_ON_RUN, HELP_ON_SEARCH, HELP_ON_TERMS, HELP_ON_UPGRADE, Line, LineError,
+    read_line,
 };
 use std::alloc::Global;
 use std::test::Fail;
@@ -26,7 +27,7 @@ fn shown(alloc: Global, text: &str) -> Result<String, Fail> {
     }
 }
 
-const LINES: [(&str, &str); 18] = [
+const LINES: [(&str, &str); 26] = [
     (
         "ask --stop=s.txt c.txt red",
         r#"Ask { stop: Some("s.txt"), plan: Plan { cut: Docs(1024), workers: 4, runs: Memory }, collection: "c.txt", query: "red" }"#,
@@ -38,6 +39,22 @@ const LINES: [(&str, &str); 18] = [
     (
         "build c.txt c.ix --block 7",
         r#"Build { stop: None, plan: Plan { cut: Docs(7), workers: 4, runs: Memory }, collection: "c.txt", index: "c.ix" }"#,
+    ),
+    (
+        "add a c.txt --bytes 7",
+        r#"Add { stop: None, plan: Plan { cut: Bytes(7), workers: 4, runs: Memory }, archive: "a", collection: "c.txt" }"#,
+    ),
+    (
+        "add --stop s.txt a -",
+        r#"Add { stop: Some("s.txt"), plan: Plan { cut: Docs(1024), workers: 4, runs: Memory }, archive: "a", collection: "-" }"#,
+    ),
+    (
+        "remove a n -- -m",
+        r#"Remove { archive: "a", names: Names(["n", "-m"]) }"#,
+    ),
+    (
+        "remove a --names -",
+        r#"Remove { archive: "a", names: List("-") }"#,
     ),
     (
         "search c.ix red",
@@ -71,7 +88,11 @@ const LINES: [(&str, &str); 18] = [
     ("find c.txt red", "1 Clap(InvalidSubcommand)"),
     ("ask c.txt red --stop", "1 Clap(InvalidValue)"),
     ("run --first=-1 c.txt c.run", "1 Clap(ValueValidation)"),
+    ("remove --names=f", "1 Clap(MissingRequiredArgument)"),
     ("ask --block 7 --bytes 7 c.txt red", "3 Both"),
+    ("add --runs r a c.txt", "1 Clap(UnknownArgument)"),
+    ("remove --names=f a n", "4 NamesOrList"),
+    ("remove a", "4 NamesOrList"),
 ];
 
 #[test]
@@ -83,7 +104,7 @@ fn lines_that_are_read_and_refused(rt: HostRuntime) -> Result<(), Fail> {
 }
 
 /// Words that ask for help, the help that is printed, and what stands in it.
-const HELPS: [(&str, &str, &str); 12] = [
+const HELPS: [(&str, &str, &str); 14] = [
     ("--help", HELP, "\n  a NEAR/3 b "),
     ("-h", HELP, "\nExit status: 0 "),
     ("help", HELP, "\nA collection is a text"),
@@ -92,6 +113,12 @@ const HELPS: [(&str, &str, &str); 12] = [
     ("terms -h", HELP_ON_TERMS, "Usage: ix terms "),
     ("check -h", HELP_ON_CHECK, "Usage: ix check INDEX...\n"),
     ("build --help", HELP_ON_BUILD, "Usage: ix build "),
+    ("add --help", HELP_ON_ADD, "Usage: ix add "),
+    (
+        "help remove",
+        HELP_ON_REMOVE,
+        "Usage: ix remove ARCHIVE NAME...\n",
+    ),
     ("live --help", HELP_ON_LIVE, "Usage: ix live "),
     ("run --help", HELP_ON_RUN, "Usage: ix run "),
     (

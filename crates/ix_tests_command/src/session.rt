@@ -3,8 +3,9 @@
 //! Behind `$ ix` stand the words of a command line, between spaces or in apostrophes; behind `? ` the last word alone,
 //! whatever is in it, if the others are those of the session. Then comes the standard output as it is, the error output
 //! behind `! `, which is one line, and the status in brackets, unless it is 0, or 2 behind an error line. `$ put A BYTES`
-//! makes a file of spelled bytes, `$ cmp A B` says whether two files differ, `$ size A` how many bytes a file has. `$ fail N`
-//! lets the call of files of number N fail, `$ fail N Memory` for want of memory, and `$ room N` lets a writer take N bytes.
+//! makes a file of spelled bytes, `$ cmp A B` says whether two files differ, `$ size A` how many bytes a file has. `$ add-file A
+//! B` puts an empty file B into the folder A, and `$ show A B` prints what is in it. `$ fail N` lets the call of files of number N
+//! fail, `$ fail N Memory` for want of memory, and `$ room N` lets a writer take N bytes.
 
 use super::building::BUILDING;
 use super::checking::{CHECKING, TRUSTING};
@@ -53,7 +54,7 @@ pub(super) fn tell<R: AllocGlobal + Threads + Wait + Sync>(
 }
 
 /// Tells a text, with `\t` for a tab.
-fn tell_bytes(bytes: &[u8], told: &mut String) -> Result<(), Fail> {
+pub(super) fn tell_bytes(bytes: &[u8], told: &mut String) -> Result<(), Fail> {
     let Ok(text) = str::from_utf8(bytes) else {
         return Err("no text")?;
     };

@@ -98,3 +98,19 @@ pub fn read_file<'a, F: Files>(
         Err(error) => Err(Refusal::unread(path, error)),
     }
 }
+
+/// The bytes of a file of at most 2^28 bytes.
+pub fn read_text<'a, F: Files>(
+    alloc: Global,
+    files: &F,
+    path: &'a str,
+) -> Result<Vec<u8>, Refusal<'a>>
+    ensures held { IfOk result (λ bytes. held_in (F.view files.now) path.entry.now bytes.items) }
+    ensures refused { IfErr result (IsUnread path.entry.now) }
+{
+    let bytes = read_file(alloc, files, path)?;
+    if bytes.len() == ROOM {
+        return Err(Refusal::Read(path));
+    }
+    Ok(bytes)
+}

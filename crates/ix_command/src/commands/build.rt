@@ -80,7 +80,7 @@ pub fn run<'a, R: Threads + Wait + Sync, F: Files, V: Watch>(
 }
 
 /// The documents of a collection text.
-fn documents_of<'t, 'a>(alloc: Global, text: &'t [u8]) -> Result<Collection<'t>, Refusal<'a>>
+pub fn documents_of<'t, 'a>(alloc: Global, text: &'t [u8]) -> Result<Collection<'t>, Refusal<'a>>
     ensures read { IfOk result (IsCollectionText text.now) }
     ensures refused { IfErr result (RefusesDocuments text.now) }
 {

@@ -5,9 +5,8 @@ ghost use Rattle.ix_files.specs.Reading.{held_in};
 ghost use Rattle.ix_script.specs.Steps.{IsScript, step_of};
 ghost use Rattle.ix_command.specs.LiveScripts.{IsCarriedOutTold, IsLiveRefused, IsLived, IsNoScript};
 ghost use Rattle.ix_command.specs.LiveScripts.{IsStoppedTold};
-ghost use Rattle.ix_command.specs.Refusals.{IsUnread};
 
-use crate::commands::ask::{ROOM, read_file, read_stop_list};
+use crate::commands::ask::{read_stop_list, read_text};
 use crate::refusal::Refusal;
 use ix_ask::EngineRefusal;
 use ix_build::Plan;
@@ -50,25 +49,9 @@ pub fn run<'a, R: Threads + Wait + Sync, F: Files, W: Write>(
         script.entry.now (W.contents out.old) (W.contents out.new)) }
 {
     let stop = read_stop_list(alloc, files, stop)?;
-    let text = read_script_file(alloc, files, script)?;
+    let text = read_text(alloc, files, script)?;
     let steps = steps_of(alloc, script, &text, &stop)?;
     carry_out(rt, alloc, files, plan, searchers, stop, &steps, out)
-}
-
-/// The bytes of a script file.
-fn read_script_file<'a, F: Files>(
-    alloc: Global,
-    files: &F,
-    path: &'a str,
-) -> Result<Vec<u8>, Refusal<'a>>
-    ensures held { IfOk result (λ bytes. held_in (F.view files.now) path.entry.now bytes.items) }
-    ensures refused { IfErr result (IsUnread path.entry.now) }
-{
-    let bytes = read_file(alloc, files, path)?;
-    if bytes.len() == ROOM {
-        return Err(Refusal::Read(path));
-    }
-    Ok(bytes)
 }
 
 /// The steps of what a script file holds.

@@ -1,11 +1,13 @@
-//! `ix search`: asks an index file.
+//! `ix search`: asks an index file or an archive.
 
-ghost use Rattle.std.specs.Prelude.{IfOk, IfErr};
+ghost use Rattle.std.specs.Prelude.{◌⊎◌, IfOk, IfErr};
 ghost use Rattle.ix_files.specs.Reading.{held_in};
 ghost use Rattle.ix_command.specs.IndexFiles.{IsSearchRefused, IsSearchedFromFile};
+ghost use Rattle.ix_command.specs.StoredArchives.{IsArchiveSearched, IsArchiveUnsearched, storing_of};
 ghost use Rattle.ix_command.specs.TrustedFiles.{IsSearchDone, IsSearchUndone};
 
-use crate::index_file::{open_index, open_ranges};
+use crate::commands::search_archive::search_archive;
+use crate::index_file::{is_folder, open_index, open_ranges};
 use crate::refusal::Refusal;
 use ix_ask::{search, search_trusting};
 use ix_files::Files;
@@ -13,11 +15,37 @@ use std::alloc::Global;
 use std::io::Write;
 use std::thread::Threads;
 
-/// Writes the names of the documents of the index file that answer the query, and answers how many
-/// there are. The query is read under the stop list of the index.
+/// Writes the names of the documents of an index file or an archive that satisfy the query, and
+/// returns how many there are. A folder is an archive.
+pub fn run<'a, R: Threads + Sync, F: Files, W: Write>(
+    rt: &R,
+    alloc: Global,
+    files: &F,
+    index: &'a str,
+    query: &str,
+    trust: bool,
+    out: &mut W,
+) -> Result<usize, Refusal<'a>>
+    ensures answered { IfOk result (λ count. IsSearchDone trust (held_in (F.view files.now))
+        index.entry.now query.now (W.contents out.old) (W.contents out.new) count
+        ⊎ IsArchiveSearched (storing_of (F.view files.now) (F.view files.now))
+        index.entry.now query.now (W.contents out.old) (W.contents out.new) count) }
+    ensures refused { IfErr result (λ told. IsSearchUndone trust (held_in (F.view files.now))
+        index.entry.now query.now (W.contents out.old) (W.contents out.new) told
+        ⊎ IsArchiveUnsearched (storing_of (F.view files.now) (F.view files.now))
+        index.entry.now query.now (W.contents out.old) (W.contents out.new) told) }
+{
+    let is_archive = is_folder(files, index)?;
+    if is_archive {
+        return search_archive(rt, alloc, files, index, query, out);
+    }
+    search_file(rt, alloc, files, index, query, trust, out)
+}
+
+/// The same of an index file. The query is read under the stop list of the index.
 ///
 /// With `trust` only what the query needs is read of a regular file, and a fault elsewhere in it is not noticed.
-pub fn run<'a, R: Threads + Sync, F: Files, W: Write>(
+fn search_file<'a, R: Threads + Sync, F: Files, W: Write>(
     rt: &R,
     alloc: Global,
     files: &F,

@@ -23,6 +23,11 @@ pub fn reads_input_twice(line: &Line<'_>) -> bool
             collection,
             ..
         } => are_both_input(*stop, collection),
+        Line::Add {
+            stop,
+            collection,
+            ..
+        } => are_both_input(*stop, collection),
         Line::Live { stop, script, .. } => are_both_input(*stop, script),
         Line::Run {
             stop,
@@ -32,6 +37,7 @@ pub fn reads_input_twice(line: &Line<'_>) -> bool
         Line::Merge { inputs, .. } => are_some_input(inputs),
         Line::Check { paths } => are_some_input(paths),
         Line::Search { .. } | Line::Terms { .. } | Line::Upgrade { .. } => false,
+        Line::Remove { .. } => false,
     }
 }
 

@@ -1,7 +1,7 @@
 -- A line that was refused was read.
-use Rattle.std.proofs.Common.{◌∙◌, inr, refl, sym, true≢false}
+use Rattle.std.proofs.Common.{◌∙◌, inl, inr, refl, sym, true≢false}
 use Rattle.ix_command.specs.Statuses.{twice, undone}
-use Rattle.ix_command.proofs.Doing.{keeps_itself}
+use Rattle.ix_command.proofs.Doing.{keeps_itself, nothing_yet}
 use Rattle.ix_command.proofs.FileLemmas.{handed_up}
 use Rattle.ix_command.proofs.StatusLemmas.{status_found}
 use Rattle.ix_command.proofs.commands.run.Goals as goal
@@ -16,5 +16,14 @@ returns-in_err-count-in-Ok-clause-refused g c =
 
 pub returns-in_ok-count-in-Ok-clause-found : goal.returns-in_ok-count-in-Ok-clause-found
 returns-in_ok-count-in-Ok-clause-found g c = λ none.
-    inr (status_found _ _ _ _ _ _ c.in-Ok.line c.in-Ok.ensures.ok (λ reads. true≢false (sym (c.reads_input_twice.ensures.1 reads) ∙ c.if-reads_input_twice.false))
+    inr (status_found _ _ _ _ _ _ _ c.in-Ok.line c.in-Ok.ensures.ok (λ reads. true≢false (sym (c.reads_input_twice.ensures.1 reads) ∙ c.if-reads_input_twice.false))
     c.is_check-checks.result c.in_ok-count-in-Ok.count c.is_check-checks.ensures c.in_ok-count-in-Ok.ensures.done (sym c.status_of.ensures ∙ none))
+
+pub returns-then-reads_input_twice-clause-kept : goal.returns-then-reads_input_twice-clause-kept
+returns-then-reads_input_twice-clause-kept g c = λ _. inl (nothing_yet _ (g.met.F.Files.only_now c.args.files.now))
+
+pub returns-in_err-answer_without_line-in-Err-clause-kept : goal.returns-in_err-answer_without_line-in-Err-clause-kept
+returns-in_err-answer_without_line-in-Err-clause-kept g c = λ _. inl (nothing_yet _ (g.met.F.Files.only_now c.args.files.now))
+
+pub returns-in_ok-answer_without_line-in-Err-clause-kept : goal.returns-in_ok-answer_without_line-in-Err-clause-kept
+returns-in_ok-answer_without_line-in-Err-clause-kept g c = λ _. inl (nothing_yet _ (g.met.F.Files.only_now c.args.files.now))

@@ -21,6 +21,15 @@ returns _ = record {
     between = (refl, refl);
     last = (refl, refl);
   };
+  names = record {
+    one = (refl, refl);
+    two = (refl, refl);
+    hyphen = (refl, refl);
+    listed = (refl, refl);
+    last = (refl, refl);
+    both = (refl, refl);
+    neither = (refl, refl);
+  };
   faults = record {
     no_words = refl;
     no_operands = refl;
@@ -31,6 +40,7 @@ returns _ = record {
     no_value = refl;
     flag_twice = refl;
     flag_value = refl;
+    no_archive = refl;
     help = refl;
     help_of_ask = refl;
   };

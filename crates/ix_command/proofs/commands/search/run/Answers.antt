@@ -1,38 +1,24 @@
--- With trust a regular file is read by ranges; what is so of a file that was read as a whole is so of one that is trusted.
-use Rattle.ix_files.specs.Reading.{AreKnownOf, held_in}
-use Rattle.ix_command.proofs.Doing.{keeps_itself}
+-- What is so of a file or of an archive is so of what the line names.
+use Rattle.std.proofs.Common.{inl}
+use Rattle.ix_files.specs.Reading.{held_in}
+use Rattle.ix_command.proofs.Doing.{err_first, err_second, keeps_itself, ok_first, ok_second}
 use Rattle.ix_command.proofs.FileLemmas.{handed_up}
-use Rattle.ix_command.proofs.TrustedLemmas.{err_at, err_not, from_some, ok_at, ok_not, search_done, search_ranged, search_undone, search_unranged, search_unread}
+use Rattle.ix_command.proofs.TrustedLemmas.{unread_at_all}
 use Rattle.ix_command.proofs.commands.search.run.Goals as goal
-use Rattle.ix_command.proofs.commands.search.run.Goals.{in-Ok, in-Err}
 
-pub returns-in_err-ranges-clause-refused : goal.returns-in_err-ranges-clause-refused
-returns-in_err-ranges-clause-refused g c =
-    handed_up _ c.from_residual.result c.in_err-ranges.field-0.0 c.from_residual.ensures.1
-    (search_unread c.args.trust (held_in (g.F.Files.view c.args.files.now)) c.args.index.now c.args.query.now _ _ c.in_err-ranges.field-0.0 c.if-trust.true c.in_err-ranges.ensures.refused (keeps_itself _))
+pub returns-in_err-is_archive-clause-refused : goal.returns-in_err-is_archive-clause-refused
+returns-in_err-is_archive-clause-refused g c =
+    handed_up _ c.from_residual.result c.in_err-is_archive.field-0.0 c.from_residual.ensures.1
+    (inl (unread_at_all c.args.trust (held_in (g.F.Files.view c.args.files.now)) c.args.index.now c.args.query.now _ _ c.in_err-is_archive.field-0.0 c.in_err-is_archive.ensures.refused (keeps_itself _)))
 
-pub returns-in-Some-clause-answered : goal.returns-in-Some-clause-answered
-returns-in-Some-clause-answered g c =
-    let holds = held_in (g.F.Files.view c.args.files.now) in
-    let known = from_some (λ ranges. AreKnownOf (holds c.args.index.now) (g.F.Ranges.ReadAt.contents ranges)) _ c.in-Some.ranges c.in-Some.is c.in_ok-ranges.ensures.opened in
-    elim c.match-search_trusting.branch [
-      | in-Ok w ↦ ok_at _ c.match-search_trusting.result w.in-Ok.count w.result-is
-          (search_ranged c.args.trust holds c.args.index.now c.args.query.now _ _ w.in-Ok.count _ c.if-trust.true known w.in-Ok.ensures.answered w.in-Ok.ensures.lawful)
-      | in-Err w ↦ ok_not _ c.match-search_trusting.result _ w.result-is
-    ]
+pub returns-then-is_archive-clause-answered : goal.returns-then-is_archive-clause-answered
+returns-then-is_archive-clause-answered g c = ok_second _ _ c.search_archive.result c.search_archive.ensures.answered
 
-pub returns-in-Some-clause-refused : goal.returns-in-Some-clause-refused
-returns-in-Some-clause-refused g c =
-    let holds = held_in (g.F.Files.view c.args.files.now) in
-    let known = from_some (λ ranges. AreKnownOf (holds c.args.index.now) (g.F.Ranges.ReadAt.contents ranges)) _ c.in-Some.ranges c.in-Some.is c.in_ok-ranges.ensures.opened in
-    elim c.match-search_trusting.branch [
-      | in-Ok w ↦ err_not _ c.match-search_trusting.result w.in-Ok.count w.result-is
-      | in-Err w ↦ err_at _ c.match-search_trusting.result w.of_trusting.result w.result-is
-          (search_unranged c.args.trust holds c.args.index.now c.args.query.now _ _ _ w.in-Err.error w.of_trusting.result c.if-trust.true known w.of_trusting.ensures w.in-Err.ensures.refused w.in-Err.ensures.kept)
-    ]
+pub returns-then-is_archive-clause-refused : goal.returns-then-is_archive-clause-refused
+returns-then-is_archive-clause-refused g c = err_second _ _ c.search_archive.result c.search_archive.ensures.refused
 
 pub returns-clause-answered : goal.returns-clause-answered
-returns-clause-answered g c = search_done c.args.trust _ _ _ _ _ c.search_whole.result c.search_whole.ensures.answered
+returns-clause-answered g c = ok_first _ _ c.search_file.result c.search_file.ensures.answered
 
 pub returns-clause-refused : goal.returns-clause-refused
-returns-clause-refused g c = search_undone c.args.trust _ _ _ _ _ c.search_whole.result c.search_whole.ensures.refused
+returns-clause-refused g c = err_first _ _ c.search_file.result c.search_file.ensures.refused

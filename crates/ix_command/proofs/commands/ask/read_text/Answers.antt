@@ -2,7 +2,7 @@
 use Rattle.std.proofs.Common.{subst, sym, arith}
 use Rattle.ix_command.proofs.FileLemmas.{read_all}
 use Rattle.ix_files.specs.Reading.{held_in}
-use Rattle.ix_command.proofs.commands.live.read_script_file.Goals as goal
+use Rattle.ix_command.proofs.commands.ask.read_text.Goals as goal
 
 pub returns-clause-held : goal.returns-clause-held
 returns-clause-held g c =

@@ -1,0 +1,8 @@
+-- What `get_strs` reads are the values of the row.
+use Rattle.std.proofs.Common.{◌∙◌}
+use Rattle.clap.specs.Words.{found_of}
+use Rattle.clap.proofs.WalkLemmas.{raw_values-rows}
+use Rattle.ix_line.proofs.fields.several.Goals as goal
+
+pub returns : goal.returns
+returns c = c.get_strs.ensures ∙ raw_values-rows (found_of c.args.matches.now) c.args.id.now
