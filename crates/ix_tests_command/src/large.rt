@@ -19,7 +19,7 @@ fn numbered(alloc: Global) -> Result<String, Fail> {
 /// An index of more than two MiB, and the merge of it alone.
 const LARGE: &str = r"$ ix build large large.ix
 $ size large.ix
-3720166
+3720165
 $ ix ask large w100099
 n100099
 $ ix search large.ix w100099
