@@ -56,7 +56,10 @@ pub fn held(alloc: Global, files: &MemoryFiles) -> Result<Option<String>, Fail> 
             if !removals.is_removed(name, number) {
                 write!(names, "{name} ")?;
             }
-            number += 1;
+            let Some(next) = number.checked_add(1) else {
+                return Err(Fail::from("too many documents"));
+            };
+            number = next;
         }
     }
     Ok(Some(names))

@@ -59,7 +59,7 @@ fn put_removals(
     file: u64,
     below: u64,
 ) -> Result<RemovalsLine, Fail> {
-    let removals = Removals::new(alloc).with(alloc, &["1"], below)?;
+    let removals = Removals::new(alloc).with(alloc, &["1"], below.max(1))?;
     let text = removals.text(alloc)?;
     let name = format!(in alloc; "removals-{file}")?;
     files.put(name.as_str(), text.as_bytes())?;
