@@ -102,7 +102,7 @@ fn a_call_that_fails_leaves_the_archive_from_before_or_after(rt: HostRuntime) ->
             };
             assert!(rt; is_after || is_before && !done);
             if !done {
-                failures += 1;
+                failures = failures.saturating_add(1);
             }
             // The next program that writes goes on from there.
             if is_before {
