@@ -86,7 +86,7 @@ fn documents_come_and_go(rt: HostRuntime) -> Result<(), Fail> {
 #[test]
 fn a_call_that_fails_leaves_the_archive_from_before_or_after(rt: HostRuntime) -> Result<(), Fail> {
     for step in 0..4 {
-        let mut failures = 0;
+        let mut failures = 0u32;
         for number in 1..CALLS {
             let mut files = files_before(&rt, step)?;
             files.fail_at(number, false);
