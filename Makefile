@@ -5,6 +5,7 @@
 # make clean  takes away what was built, and the proofs that were kept
 # make check-program   runs build/ix whole, as a process, on worked examples, pipes, full devices and refused files
 # make check-faults    refuses each request for memory, each read and each write of build/ix in turn, and forges its files (docs/proofs/faults.md)
+# make check-archive   kills `ix add` and `ix remove` at each system call and by a rule, fills the disk, reads beside a writer
 # make lib    proves crates/ix_c and builds the library for C, Python and Rust: build/libix.a, build/libix.so, header, ix.pc
 # make check-lib  checks that library from C, Python and Rust, and against an oracle
 # make check-docs  runs the sessions of README and guide and the cookbook's recipes, and looks at links, names and lines
@@ -20,7 +21,7 @@ DATA = $(DESTDIR)$(PREFIX)/share
 LANES = $(shell awk '/MemAvailable/ { lanes = int($$2 / 5000000) } \
     END { "nproc" | getline most; print lanes < 1 ? 1 : lanes < most ? lanes : most }' /proc/meminfo)
 
-.PHONY: all test check-docs check-program check-faults check-people check-examples lib check-lib install uninstall clean toolchain
+.PHONY: all test check-docs check-program check-faults check-archive check-people check-examples lib check-lib install uninstall clean toolchain
 
 all: toolchain
 	@mkdir -p build
@@ -47,6 +48,9 @@ check-program: all
 check-faults: all
 	@tests/check_faults.py build/ix
 	@tests/check_outputs.py build/ix --only beside --seconds 60
+
+check-archive: all
+	@tests/check_archive.py build/ix
 
 check-people:
 	@if command -v mypy > /dev/null; then mypy --strict --cache-dir=/dev/null collect/ix_collect; \

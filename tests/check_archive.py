@@ -92,11 +92,11 @@ class Archive:
         self.program, self.name = program, name
         self.path = program.folder / name
 
-    def answers(self, *options):
+    def answers(self):
         """What the searches print; none if there is no archive."""
         found = []
         for query in QUERIES:
-            got = self.program.run("search", *options, self.name, query)
+            got = self.program.run("search", self.name, query)
             if got.status == 2:
                 return got
             found.append(got.printed.decode().split())
@@ -113,8 +113,10 @@ class Archive:
         shutil.rmtree(self.path, ignore_errors=True)
 
     def is_sound(self):
-        got = self.program.run("check", self.name)
-        return got.status == 0 and got.printed.startswith(self.name.encode() + b"\t") and not got.errors
+        """Whether each segment that the manifest names is an index text."""
+        lines = (self.path / "manifest").read_text().splitlines()
+        segments = [f"{self.name}/segment-{line.split()[1]}" for line in lines if line.startswith("segment ")]
+        return self.program.run("check", *segments).told() == (0, b"", b"")
 
 
 def after(model, step):
@@ -157,14 +159,16 @@ def kill_and_go_on(archive, model, step, name, **refusals):
     if left is None:
         return True
     if left.documents:
-        check(f"{name}: sound", archive.is_sound(), archive.program.run("check", archive.name))
+        check(f"{name}: sound", archive.is_sound())
     got = archive.apply(step)
     check(f"{name}: again", got.told() == (expected_status(left, step), b"", b""), got)
     check(f"{name}: again, all is there", holds(archive, after(left, step)), archive.answers())
     names = {path.name for path in archive.path.iterdir()}
     told = (archive.path / "manifest").read_text().split("\n")
-    kept = {f"{line.split()[0].replace('removals', 'removals')}-{line.split()[1]}" for line in told if line.startswith(("segment ", "removals "))}
-    check(f"{name}: nothing else is left", names == {"lock", "manifest"} | kept, names)
+    kept = {"-".join(line.split()[:2]) for line in told if line.startswith(("segment ", "removals "))}
+    # the removals before those of a manifest are there until the next writer comes
+    left_over = {it for it in names - kept if it.startswith("removals-")} if step[0] == "remove" else set()
+    check(f"{name}: nothing else is left", names - left_over == {"lock", "manifest"} | kept and len(left_over) < 2, names)
     return True
 
 
@@ -217,7 +221,6 @@ def ruled_kills(program):
                 check(f"kill {kills}: done", got.status == expected_status(model, step), got)
                 model = after(model, step)
         check(f"kill {kills}: whole", holds(archive, model) and archive.is_sound(), archive.answers())
-        check(f"kill {kills}: with --check", archive.answers("--check") == model.answers())
     print(f"ruled_kills: {kills} kills")
 
 
@@ -245,7 +248,7 @@ def full_disk(program):
 
     program.write("given", text_of([("9", ["red"] * 300)]))
     got = subprocess.run([IX, "add", archive.path, program.folder / "given"], capture_output=True, preexec_fn=few_bytes, timeout=60)
-    check("a full disk", got.returncode == 2 and got.stderr.startswith(b"ix: file 2: Write("), got)
+    check("a full disk", got.returncode == 2 and got.stderr == b"ix: build 3: Write\n", got)
     check("nothing changed", before == sorted((path.name, path.read_bytes()) for path in archive.path.iterdir()))
     check("as it was", holds(archive, model))
 
